@@ -1,5 +1,5 @@
 //! A flash is made to hold the empty map.
-ghost use Rattle.std.specs.Prelude.{◌≡◌, ◌<◌, ℕ, length, true, Some, OnOk, OnErr};
+ghost use Rattle.std.specs.Prelude.{◌≡◌, ◌<◌, ◌≤◌, ℕ, length, true, Some, OnOk, OnErr};
 ghost use Rattle.std.specs.FinMap.{empty};
 ghost use Rattle.pk_base.specs.Shape.{page_count};
 ghost use Rattle.pk_nand.specs.Calls.{IsReady, ProgramsFailed, after_programs};
@@ -24,6 +24,7 @@ fn limits_in_root<'a>(shape: &Shape, limits: &'a Limits) -> &'a [u32]
     requires { limits.now.shape ≡ shape.now }
     ensures value { result.now ≡ written_limits shape.now limits.now.each }
     ensures grammar { are_limits shape.now result.now ≡ true }
+    ensures some { 1 ≤ length limits.now.each }
 {
     let each = limits.each();
     if each.len() == 1 && each[0] == shape.limit() {

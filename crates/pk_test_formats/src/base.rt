@@ -1,6 +1,6 @@
 //! Shapes, the pages of values, and the bytes of entries.
 
-use pk_base::{BadEntry, Entry, Shape, ShapeError};
+use pk_base::{BadEntry, Entry, Key, Shape, ShapeError};
 use std::test::*;
 
 // The numbers of a shape of 64 blocks of 16 pages of 512 bytes.
@@ -129,17 +129,59 @@ fn are_found(shape: &Shape) -> bool {
     true
 }
 
-fn finds_fields() -> bool {
-    match Shape::new(512, 16, 64) {
-        Ok(shape) => are_found(&shape),
+// The entry in namespace 8 is read and written again.
+fn has_namespace(shape: &Shape) -> bool {
+    let mut bytes = ENTRY;
+    bytes[2] = 7;
+    match Entry::read(shape, &bytes) {
+        Ok(entry) => {
+            let mut into = [0xffu8; 32];
+            entry.write(&mut into);
+            let key = entry.key();
+            into == bytes && key.space() == 8 && key.bytes() == b"a".as_slice()
+        }
         Err(_) => false,
     }
 }
 
-// The numbers of two shapes, shapes that are refused, the pages of values, and wrong fields of entries.
+fn finds_fields() -> bool {
+    match Shape::new(512, 16, 64) {
+        Ok(shape) => are_found(&shape) && has_namespace(&shape),
+        Err(_) => false,
+    }
+}
+
+// The namespace of this key; 0 if it is no key.
+fn space_of(key: Option<Key>) -> u8 {
+    match key {
+        Some(key) => key.space(),
+        None => 0,
+    }
+}
+
+// Keys are in the order of their namespaces, and then of their bytes.
+fn is_ordered() -> bool {
+    match (Key::in_space(1, b"b"), Key::in_space(2, b"a")) {
+        (Some(first), Some(second)) => first < second,
+        _ => false,
+    }
+}
+
+// Keys of eight namespaces.
+fn has_spaces() -> bool {
+    is_ordered()
+        && (space_of(Key::new(b"a")), space_of(Key::in_space(8, b"a"))) == (1, 8)
+        && Key::in_space(0, b"a").is_none()
+        && Key::in_space(9, b"a").is_none()
+        && Key::in_space(2, b"").is_none()
+        && Key::in_space(2, b"abcdefghijklmnopq").is_none()
+}
+
+// The numbers of two shapes, shapes that are refused, the pages of values, wrong fields of entries, and namespaces.
 #[test]
 fn shapes_and_entries(rt: HostRuntime) {
     assert!(rt; has_small_numbers() && has_large_numbers() && refuses_shapes());
     assert!(rt; has_charges());
     assert!(rt; finds_fields());
+    assert!(rt; has_spaces());
 }

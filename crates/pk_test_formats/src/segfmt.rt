@@ -6,7 +6,18 @@ use std::test::*;
 
 // The page of this number of a value, if its shape has one.
 fn written(shape: &Shape, key: &[u8], value: &[u8], number: u32) -> Option<[u8; 512]> {
-    let key = Key::new(key)?;
+    written_in(shape, 1, key, value, number)
+}
+
+// The same of a key in this namespace.
+fn written_in(
+    shape: &Shape,
+    space: u8,
+    key: &[u8],
+    value: &[u8],
+    number: u32,
+) -> Option<[u8; 512]> {
+    let key = Key::in_space(space, key)?;
     if shape.page_bytes() != 512 || value.len() > shape.greatest() as usize {
         return None;
     }
@@ -99,6 +110,20 @@ fn is_head(shape: &Shape) -> bool {
     }
 }
 
+// The head in namespace 5 is written and read.
+fn has_namespace(shape: &Shape) -> bool {
+    let Some(page) = written_in(shape, 5, b"ab", b"hi", 0) else {
+        return false;
+    };
+    if shape.page_bytes() != 512 || page[..6] != [2, 0x44, 4, 0, 0x61, 0x62] {
+        return false;
+    }
+    match head(shape, &page) {
+        Ok(found) => found.key.space() == 5 && found.len == 2,
+        Err(_) => false,
+    }
+}
+
 // The place that a head is refused at which has another byte at this place.
 fn refused_at(shape: &Shape, place: usize, byte: u8) -> Option<u32> {
     let mut page = written_out();
@@ -147,6 +172,7 @@ fn are_values(shape: &Shape) -> bool {
         && has_both(shape)
         && fills_pairs(shape)
         && is_head(shape)
+        && has_namespace(shape)
         && are_refused(shape)
 }
 

@@ -76,6 +76,27 @@ fn no_pair(rt: HostRuntime) {
     assert!(rt; none.marks() == 0 && none.shape().is_none());
 }
 
+/// Drives whose limits of namespace 1 differ are no pair, and nothing is done to them; the limits of other namespaces may differ.
+#[test]
+fn limits_of_a_pair(rt: HostRuntime) {
+    let alloc = rt.alloc();
+    let mut first = made(&rt, alloc, "make 512 16 64 100 392");
+    let mut other = made(&rt, alloc, "make 512 16 64 200 100");
+    let mut whole = made(&rt, alloc, MAKE_WORKED);
+    let (first_marks, other_marks) = (first.marks(), other.marks());
+    let whole_marks = whole.marks();
+    let text = "put 61 616263";
+    assert!(rt; pair_status(&rt, alloc, &mut first, &mut other, text) == 8);
+    assert!(rt; pair_status(&rt, alloc, &mut other, &mut first, text) == 8);
+    assert!(rt; pair_status(&rt, alloc, &mut first, &mut whole, text) == 8);
+    assert!(rt; pair_status(&rt, alloc, &mut whole, &mut first, text) == 8);
+    assert!(rt; first.marks() == first_marks && other.marks() == other_marks);
+    assert!(rt; whole.marks() == whole_marks);
+    let mut second = made(&rt, alloc, "make 512 16 64 100 200");
+    assert!(rt; pair_status(&rt, alloc, &mut first, &mut second, text) == 0);
+    assert!(rt; first.posted() == b"ok\n".as_slice());
+}
+
 // A word of a pair, and the text that it is to post with status 0.
 #[derive(Clone, Copy)]
 struct Said {

@@ -1,8 +1,7 @@
 //! A session over two namespaces that is cut at every mark, and the session after it.
 
-use crate::cuts::retrieved;
-use crate::steps::{add, board, cut, ended, holds, made, records, serve, small};
-use crate::ways::Ways;
+use crate::cuts::{retrieved, some_ways};
+use crate::steps::{at_least, board, cut, holds, made, posted, records, serve, small};
 use pk_flash::{Flash, Left};
 use pk_nand::PageState;
 use pk_test_scripts::Place;
@@ -160,29 +159,27 @@ fn is_kept(rt: &impl Abort, alloc: Global, first: &Flash, k: usize, left: &Left)
     false
 }
 
-/// A session over two namespaces is cut at each mark, in all ways.
+// Interrupts this mark in some ways. How many there are.
+fn check_mark(rt: &impl Abort, alloc: Global, first: &Flash, k: usize) -> u32 {
+    let mut way = 0u32;
+    for left in &some_ways(rt, alloc, first, k) {
+        let is_so = is_kept(rt, alloc, first, k, left);
+        holds(rt, is_so, "what is there", Place::Way(k, way));
+        way = way.saturating_add(1);
+    }
+    way
+}
+
+/// A session over two namespaces is cut at each mark: a program in all ways, an erase in six.
 #[test]
 fn every_cut_of_two(rt: HostRuntime) {
     let alloc = rt.alloc();
     let first = ask_both(&rt, alloc, made(&rt, alloc, &MAKE), &FIRST);
-    ended(&rt, &first, DONE, Place::Named("the first session"));
-    let mut want = Vec::new(alloc);
-    add(&rt, &mut want, &records(&rt, alloc, &[Answer::Done; 12]));
-    holds(
-        &rt,
-        first.flash.posted() == want.as_slice(),
-        "the records",
-        Place::Named("the first session"),
-    );
+    let want = records(&rt, alloc, &[Answer::Done; 12]);
+    posted(&rt, &first, DONE, &want, Place::Named("the first session"));
     let mut cuts = 0u32;
     for k in 0..first.flash.marks().saturating_add(1) {
-        let ways = Ways::of(&rt, alloc, &first.flash, k);
-        for way in 0..ways.count {
-            let left = ways.left(&rt, alloc, way);
-            let is_so = is_kept(&rt, alloc, &first.flash, k, &left);
-            holds(&rt, is_so, "what is there", Place::Way(k, way));
-            cuts = cuts.saturating_add(1);
-        }
+        cuts = cuts.saturating_add(check_mark(&rt, alloc, &first.flash, k));
     }
-    holds(&rt, cuts >= 1000, "many cuts", Place::Named("cuts"));
+    at_least(&rt, cuts, 100, "cuts");
 }

@@ -15,6 +15,7 @@ use pk_test_scripts::Place;
 use pk_test_scripts::boards::Session;
 use pk_test_scripts::exits::DONE;
 use pk_test_scripts::overwritten::{all_with, record_at};
+use pk_test_scripts::pages::entries_of;
 use pk_test_scripts::runs::with_two_epochs;
 use pk_test_scripts::script::{Ask, Value};
 use std::alloc::Global;
@@ -227,12 +228,7 @@ fn roots_with(rt: &impl Abort, flash: &Flash, limits: &[u32]) -> u32 {
 
 // Whether each entry of a page of an epoch or a run, and the head of a value, is of namespace 1.
 fn is_of_first(page: &[u8]) -> bool {
-    let count = match page.get(..8) {
-        Some(b"PINKJRNL") => page.get(20).copied().unwrap_or(0),
-        Some(b"PINKMETA") => page.get(10).copied().unwrap_or(0),
-        _ => 0,
-    };
-    for i in 0..count {
+    for i in 0..entries_of(page) {
         if page.get(34 + 32 * usize::from(i)) != Some(&0) {
             return false;
         }

@@ -172,14 +172,21 @@ fn put_second(page: &mut [u8], at: usize, first: u8) {
     }
 }
 
+/// How many entries a page of an epoch or of a run has; none if it is neither.
+pub fn entries_of(page: &[u8]) -> u8 {
+    let at = if page.get(..8) == Some(b"PINKJRNL".as_slice()) {
+        20
+    } else if page.get(..8) == Some(b"PINKMETA".as_slice()) {
+        10
+    } else {
+        return 0;
+    };
+    page.get(at).copied().unwrap_or(0)
+}
+
 // The same with all entries of a page of an epoch or a run, or with the head in a value's first page; another page is unchanged.
 fn split_page(page: &mut [u8], first: u8) {
-    let count = match page.get(..8) {
-        Some(b"PINKJRNL") => page.get(20).copied().unwrap_or(0),
-        Some(b"PINKMETA") => page.get(10).copied().unwrap_or(0),
-        _ => 0,
-    };
-    for i in 0..count {
+    for i in 0..entries_of(page) {
         put_second(page, 32 + 32 * usize::from(i), first);
     }
     if page.get(24..32) == Some(b"PINKDATA".as_slice()) {

@@ -64,7 +64,7 @@ pub silent : (task : Task) (from to : Meter) (shape : Shape) (terms : Terms) (st
     → KeptTask task from to shape terms start flash []
 silent (answer q) from to shape terms start flash holds within = (kept-none shape terms start _ from.read_faults to.read_faults flash holds within, inl refl)
 silent (list key) from to shape terms start flash holds within =
-    let lines = key_lines (wanted_keys key (in_space 1 start)) in record { held = holds; text = lines; says = (refl, inl refl); unposted = lines; front = refl }
+    let lines = key_lines (wanted_keys key (in_space 1 start)) in record { held = holds; same_limits = within; text = lines; says = (refl, inl refl); unposted = lines; front = refl }
 silent (generate begin count) from to shape terms start flash holds within = (kept-none shape terms start _ from.read_faults to.read_faults flash holds within, inl refl)
 
 -- what a word keeps is a flash that holds a map
@@ -73,6 +73,13 @@ pub task_holds : (task : Task) (from to : Meter) (shape : Shape) (terms : Terms)
 task_holds (answer q) from to shape terms start flash posted kept = (kept.0.map_left, kept.0.held)
 task_holds (list key) from to shape terms start flash posted kept = (start, kept.held)
 task_holds (generate begin count) from to shape terms start flash posted kept = (kept.0.map_left, kept.0.held)
+
+-- and its limits are the same
+pub task_limits : (task : Task) (from to : Meter) (shape : Shape) (terms : Terms) (start : Map) (flash : Flash) (posted : List ℕ) → KeptTask task from to shape terms start flash posted
+    → limits_at shape flash ≡ terms.limits
+task_limits (answer q) from to shape terms start flash posted kept = kept.0.same_limits
+task_limits (list key) from to shape terms start flash posted kept = kept.same_limits
+task_limits (generate begin count) from to shape terms start flash posted kept = kept.0.same_limits
 
 -- reads do not touch the input
 pub input_still : (a b : BoardState) → OnlyReading a b → KeepsInput a b

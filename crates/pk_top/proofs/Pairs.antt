@@ -1,5 +1,5 @@
 -- A run of a word on a pair of images, from the loads on.
-use Rattle.std.proofs.Common.{◌≡◌, ◌⊎◌, inl, inr, ℕ, ◌+◌, ◌<◌, ◌≤◌, List, [], ◌∷◌, length, map, Bool, if◌then◌else◌, Option, Some, None, IsSome, option_and_then, Result, Ok, Err, refl, sym, ◌∙◌, ap}
+use Rattle.std.proofs.Common.{◌≡◌, ◌≢◌, ◌⊎◌, inl, inr, ℕ, ◌+◌, ◌<◌, ◌≤◌, List, [], ◌∷◌, length, map, Bool, ◌==◌, eqb-true, eq-eqb, if◌then◌else◌, Option, Some, None, IsSome, option_and_then, Result, Ok, Err, refl, sym, ◌∙◌, ap}
 use Rattle.std.proofs.Common.{subst, arith, true, false, nat_le}
 use Rattle.std.proofs.lemmas.Bool.Decides.{nat_tests}
 use Rattle.std.specs.FinMap.{len, entries, len-entries}
@@ -15,16 +15,17 @@ use Rattle.pk_nand.specs.Effects.{OnlyReading}
 use Rattle.pk_nand.specs.declared.types.LoadFault.{LoadFault}
 use Rattle.pk_nand.specs.declared.types.LoadFault.TheVariants.{Fault, BadImage, Memory}
 use Rattle.pk_nand.proofs.Reaching.{Reached-start, Went-reached}
-use Rattle.pk_model.specs.Spaces.{terms_at}
+use Rattle.pk_model.specs.Spaces.{terms_at, limits_at, in_space}
 use Rattle.pk_model.specs.Growth.{Goes}
 use Rattle.pk_model.specs.Laws.{MapHeld}
 use Rattle.pk_model.specs.Reading.{reading, Holds, Refuses}
-use Rattle.pk_call.specs.Sight.{Sight}
+use Rattle.pk_call.specs.Sight.{Sight, map_of}
 use Rattle.pk_model.specs.Wear.{root_number, roots, is_worn}
 use Rattle.pk_serve.specs.Complete.{NoneRose}
 use Rattle.pk_call.specs.Drive.{HoldsMap}
 use Rattle.pk_scan.specs.Opening.{NotOpened}
 use Rattle.pk_scan.proofs.ValuesHeld.{limit_few}
+use Rattle.pk_serve.proofs.Limiting.{limits_some, first_most}
 use Rattle.pk_mirrorwords.proofs.Paging.{keys_few}
 use Rattle.pk_scan.specs.declared.errors.OpenError.{OpenError}
 use Rattle.pk_scan.specs.declared.errors.OpenError.TheVariants.{NotFormatted, Damaged, Fault as ReadFault, Memory as NoMemory}
@@ -32,11 +33,11 @@ use Rattle.pk_wordrun.specs.declared.end.WordEnd.{WordEnd}
 use Rattle.pk_wordrun.specs.declared.end.WordEnd.TheVariants.{Done, Output, Flash as FlashFailed, Worn}
 use Rattle.pk_words.specs.Question.{put as put_one, get as get_one, delete as delete_one, has as has_one, stat as stat_one}
 use Rattle.pk_wordrun.specs.Tasks.{answer, list as list_keys, generate}
-use Rattle.pk_mirrorwords.specs.PairTasks.{PairTask, put, get, delete, list as list_all, resync, IsAllowed}
+use Rattle.pk_mirrorwords.specs.PairTasks.{PairTask, put, get, delete, list as list_all, resync, IsAllowed, map_left}
 use Rattle.pk_top.specs.Words.{Word, make, serve, ask, assemble, show, word_of}
 use Rattle.pk_top.specs.PairWords.{for_pair, is_resync, pair_task_of}
 use Rattle.pk_top.proofs.Within.{short_within}
-use Rattle.pk_mirrorrun.specs.PairTold.{EitherUnread, map_left_by, text_by, KeptFirst, KeptSecond, PairFinished, PairEnds, most_pair_roots, UsedRoots, PairTold}
+use Rattle.pk_mirrorrun.specs.PairTold.{EitherUnread, text_by, HoldsPart, first_limit, KeptFirst, KeptSecond, PairFinished, PairEnds, most_pair_roots, UsedRoots, PairTold}
 use Rattle.pk_top.specs.declared.asking.TheConstants.{WORD_FRAMES}
 use Rattle.pk_top.specs.Asks.{word_status}
 use Rattle.pk_top.specs.Ends.{open_status}
@@ -44,7 +45,7 @@ use Rattle.pk_top.specs.Loads.{load_status, HasReason}
 use Rattle.pk_top.specs.Serves.{NotServed, behind_opening}
 use Rattle.pk_top.specs.Statuses.{GivesNothing, Untouched, Tells}
 use Rattle.pk_top.proofs.Asked.{input_still}
-use Rattle.pk_top.specs.PairRuns.{NotFound, KeepsPair, AskedPair, AsksPair, PairRun, PairTells, LacksPair, PairRefused, PairWhole, no_speaker, first_unopened, second_unopened, pair_asked}
+use Rattle.pk_top.specs.PairRuns.{NotFound, KeepsPair, AskedPair, AsksPair, PairRun, PairTells, LacksPair, PairRefused, PairWhole, no_speaker, first_unopened, second_unopened, limits_differ, pair_asked}
 use Rattle.pk_top.specs.PairRuns.{no_pair_memory, first_missing, second_missing, shapes_differ, pair_found}
 use Rattle.pk_top.proofs.Telling.{tells_refused, tells_not, tells_no_drive, wants_untouched, wants_sound, untouched_same, load_untouched, refused_untouched}
 
@@ -52,25 +53,44 @@ names_len : (es : List (Key × List ℕ)) → length (map (λ e. e.0) es) ≡ le
 names_len [] = refl
 names_len (e ∷ es) = let h = names_len es in omega (arith, h)
 
--- a map that a flash holds has no more keys than the limit has pages
-few_keys : (shape : Shape) (b : BoardState) (m : Map) → IsShape shape → MapHeld → IsReady b shape → Holds shape b.pages m → len m ≤ 1048576
+-- the first namespace of a map that a flash holds has no more keys than the limit of the shape has pages
+few_keys : (shape : Shape) (b : BoardState) (m : Map) → IsShape shape → MapHeld → IsReady b shape → Holds shape b.pages m → len (in_space 1 m) ≤ 1048576
 few_keys shape b m is law ready held =
     let good = law shape b.pages [] m is ready.flash tt held in
     let most = limit_few shape is in
-    let pages = keys_few shape m is in
-    let few = good.few in
-    let size = len-entries m in
-    let names = names_len (entries m) in
-    omega (arith, most, pages, few, size, names)
+    let pages = keys_few shape (in_space 1 m) is in
+    let few = good.each_few 1 (omega arith) (limits_some shape b.pages [] m held) in
+    let first = first_most shape b.pages [] m held in
+    let size = len-entries (in_space 1 m) in
+    let names = names_len (entries (in_space 1 m)) in
+    omega (arith, most, pages, few, first, size, names)
+
+-- ---- the limits of two drives
+
+-- what a test of them says of their flashes
+pub limits_tested : (agrees agrees' : Option Shape → Flash → Type 0) (shape : Shape) (one two : BoardState) (frames : ℕ) (d e : Sight) (b : Bool)
+    → ((s : Shape) (f g : Flash) (m n : Map) → agrees (Some s) f → d.stopped ≡ false → map_of s f d ≡ Ok m → agrees' (Some s) g → e.stopped ≡ false → map_of s g e ≡ Ok n
+    → b ≡ (first_limit s f == first_limit s g))
+    → agrees one.shape one.pages → agrees' two.shape two.pages → d.stopped ≡ false → e.stopped ≡ false → ((m : Map) × HoldsMap shape (terms_at shape one.pages frames) one d m)
+    → ((m : Map) × HoldsMap shape (terms_at shape two.pages frames) two e m) → b ≡ (first_limit shape one.pages == first_limit shape two.pages)
+limits_tested agrees agrees' shape one two frames d e b tested agreed agreed' runs runs' stands stands' =
+    tested shape one.pages two.pages stands.0 stands'.0 (subst (λ (s : Option Shape). agrees s one.pages) stands.1.shape_is agreed) runs stands.1.map_is
+    (subst (λ (s : Option Shape). agrees' s two.pages) stands'.1.shape_is agreed') runs' stands'.1.map_is
+
+pub is_one : (x y : ℕ) (b : Bool) → b ≡ (x == y) → b ≡ true → x ≡ y
+is_one x y b test yes = eqb-true x y (sym test ∙ yes)
+
+pub is_other : (x y : ℕ) (b : Bool) → b ≡ (x == y) → b ≡ false → x ≢ y
+is_other x y b test no same = let clash : true ≡ false = sym (eq-eqb x y same) ∙ sym test ∙ no in cc
 
 -- ---- what was done on two images
 
 module _ (task : PairTask) (shape : Shape) (loaded new loaded' new' : BoardState) where
   abbrev FirstFrom : Flash → List ℕ → Type 0
-  FirstFrom flash posted = (m : Map) → Holds shape loaded.pages m → KeptFirst task (EitherUnread loaded new loaded' new') shape m flash posted
+  FirstFrom flash posted = (m : Map) → Holds shape loaded.pages m → KeptFirst task (EitherUnread loaded new loaded' new') shape (limits_at shape loaded.pages) m flash posted
 
   abbrev SecondFrom : Flash → List ℕ → Type 0
-  SecondFrom flash posted = (m : Map) → Holds shape loaded'.pages m → KeptSecond shape flash posted
+  SecondFrom flash posted = (m : Map) → Holds shape loaded'.pages m → KeptSecond shape (limits_at shape loaded'.pages) flash posted
 
   first-still : OnlyReading loaded new → Goes shape loaded new FirstFrom
   first-still only = (
@@ -78,7 +98,7 @@ module _ (task : PairTask) (shape : Shape) (loaded new loaded' new' : BoardState
     Went-reached [] loaded new FirstFrom
         (Reached-start loaded new FirstFrom (ap (λ (s : BoardState). s.shape) only)
         (ap (λ (s : BoardState). s.pages) only) (ap (λ (s : BoardState). s.trail) only) (ap (λ (s : BoardState). s.posted) only)
-        (λ m holds. record { held = inl holds; said = inl refl })),
+        (λ m holds. record { held = inl holds; same_limits = refl; said = inl refl })),
     tt,
   )
 
@@ -88,7 +108,7 @@ module _ (task : PairTask) (shape : Shape) (loaded new loaded' new' : BoardState
     Went-reached [] loaded' new' SecondFrom
         (Reached-start loaded' new' SecondFrom (ap (λ (s : BoardState). s.shape) only)
         (ap (λ (s : BoardState). s.pages) only) (ap (λ (s : BoardState). s.trail) only) (ap (λ (s : BoardState). s.posted) only)
-        (λ m holds. record { map = m; held = holds; silent = refl })),
+        (λ m holds. record { map = m; held = holds; same_limits = refl; silent = refl })),
     tt,
   )
 
@@ -134,16 +154,16 @@ module _ (task : PairTask) (shape : Shape) (loaded new loaded' new' : BoardState
     other-held : Holds shape loaded'.pages other
     other-held = let T : List Entry → Type 0 = λ p. reading shape loaded'.pages p ≡ Ok other in subst T none' stands'.map_is
 
-    first-from : (flash : Flash) (posted : List ℕ) → KeptFirst task (EitherUnread loaded new loaded' new') shape start flash posted → FirstFrom flash posted
+    first-from : (flash : Flash) (posted : List ℕ) → KeptFirst task (EitherUnread loaded new loaded' new') shape (limits_at shape loaded.pages) start flash posted → FirstFrom flash posted
     first-from flash posted kept m holds =
         let held : Holds shape loaded.pages start = start-held in
         let same : start ≡ m = cc in
-        subst (λ (s : Map). KeptFirst task (EitherUnread loaded new loaded' new') shape s flash posted) same kept
+        subst (λ (s : Map). KeptFirst task (EitherUnread loaded new loaded' new') shape (limits_at shape loaded.pages) s flash posted) same kept
 
     pub AsksPair-told : (status : ℕ) (end : WordEnd) → status ≡ word_status end
         → PairTold task shape start other (behind_opening shape WORD_FRAMES loaded) new (behind_opening shape WORD_FRAMES loaded') new' end
-        → most_pair_roots start other < 4611686018427387904 → AsksPair task shape loaded new loaded' new' status
-    AsksPair-told status end tells told few = record {
+        → most_pair_roots start other < 4611686018427387904 → first_limit shape loaded.pages ≡ first_limit shape loaded'.pages → AsksPair task shape loaded new loaded' new' status
+    AsksPair-told status end tells told few one_limit = record {
       kept = record {
         first = (
           told.first_kept.0,
@@ -176,6 +196,7 @@ module _ (task : PairTask) (shape : Shape) (loaded new loaded' new' : BoardState
             holds = start-held;
             other = other;
             holds_other = other-held;
+            one_limit = one_limit;
             ends = told.ends;
             first_used = told.first_used;
             second_used = told.second_used;
@@ -183,14 +204,46 @@ module _ (task : PairTask) (shape : Shape) (loaded new loaded' new' : BoardState
           });
     }
 
+    -- and their limits differ
+    pub AsksPair-differ : (status : ℕ) → status ≡ 8 → new ≡ behind_opening shape WORD_FRAMES loaded → new' ≡ behind_opening shape WORD_FRAMES loaded' → OnlyReading loaded new → OnlyReading loaded' new'
+        → first_limit shape loaded.pages ≢ first_limit shape loaded'.pages → AsksPair task shape loaded new loaded' new' status
+    AsksPair-differ status tells is is' only also differ = record {
+      kept = still only also;
+      first_input = input_still loaded new only;
+      second_input = input_still loaded' new' also;
+      outcome = limits_differ (
+          record {
+            tells = tells;
+            start = start;
+            holds = start-held;
+            other = other;
+            holds_other = other-held;
+            differ = differ;
+            first_opened = is;
+            second_opened = is';
+          });
+    }
+
 module _ (task : PairTask) (shape : Shape) (loaded new loaded' new' : BoardState) where
+  pub AsksPair-limits : (d e : Sight) (status : ℕ) → status ≡ 8 → new ≡ behind_opening shape WORD_FRAMES loaded → new' ≡ behind_opening shape WORD_FRAMES loaded'
+      → OnlyReading loaded new → OnlyReading loaded' new' → ((m : Map) × HoldsMap shape (terms_at shape new.pages WORD_FRAMES) new d m)
+      → ((m : Map) × HoldsMap shape (terms_at shape new'.pages WORD_FRAMES) new' e m) → d.pending ≡ [] → e.pending ≡ []
+      → first_limit shape new.pages ≢ first_limit shape new'.pages → AsksPair task shape loaded new loaded' new' status
+  AsksPair-limits d e status tells is is' only also stands stands' none none' differ =
+      let T : BoardState → Type 0 = λ b. (m : Map) × HoldsMap shape (terms_at shape b.pages WORD_FRAMES) b d m in
+      let U : BoardState → Type 0 = λ b. (m : Map) × HoldsMap shape (terms_at shape b.pages WORD_FRAMES) b e m in
+      let at : T (behind_opening shape WORD_FRAMES loaded) = subst T is stands in
+      let next : U (behind_opening shape WORD_FRAMES loaded') = subst U is' stands' in
+      AsksPair-differ task shape loaded new loaded' new' d at.0 at.1 none e next.0 next.1 none' status tells is is' only also
+      (λ same. differ (ap (first_limit shape) (ap (λ (s : BoardState). s.pages) only) ∙ same ∙ sym (ap (first_limit shape) (ap (λ (s : BoardState). s.pages) also))))
+
   pub AsksPair-opened : (one two : BoardState) (d e : Sight) (status : ℕ) (end : WordEnd) → one ≡ behind_opening shape WORD_FRAMES loaded → two ≡ behind_opening shape WORD_FRAMES loaded'
       → ((m : Map) × HoldsMap shape (terms_at shape one.pages WORD_FRAMES) one d m)
       → ((m : Map) × HoldsMap shape (terms_at shape two.pages WORD_FRAMES) two e m) → d.pending ≡ [] → e.pending ≡ [] → status ≡ word_status end
       → ((m other : Map) → Holds shape one.pages m → Holds shape two.pages other → PairTold task shape m other one new two new' end)
-      → IsShape shape → MapHeld → IsReady loaded shape → IsReady loaded' shape
+      → first_limit shape one.pages ≡ first_limit shape two.pages → IsShape shape → MapHeld → IsReady loaded shape → IsReady loaded' shape
       → AsksPair task shape loaded new loaded' new' status
-  AsksPair-opened one two d e status end is is' stands stands' none none' tells told is_shape law ready ready' =
+  AsksPair-opened one two d e status end is is' stands stands' none none' tells told one_limit is_shape law ready ready' =
       let T : BoardState → Type 0 = λ b. (m : Map) × HoldsMap shape (terms_at shape b.pages WORD_FRAMES) b d m in
       let U : BoardState → Type 0 = λ b. (m : Map) × HoldsMap shape (terms_at shape b.pages WORD_FRAMES) b e m in
       let at : T (behind_opening shape WORD_FRAMES loaded) = subst T is stands in
@@ -204,6 +257,7 @@ module _ (task : PairTask) (shape : Shape) (loaded new loaded' new' : BoardState
       (let one_few = few_keys shape loaded at.0 is_shape law ready (start-held task shape loaded new loaded' new' d at.0 at.1 none e also.0 also.1 none') in
       let two_few = few_keys shape loaded' also.0 is_shape law ready' (other-held task shape loaded new loaded' new' d at.0 at.1 none e also.0 also.1 none') in
       omega (arith, one_few, two_few))
+      (ap (first_limit shape) (sym (ap (λ (s : BoardState). s.pages) is)) ∙ one_limit ∙ ap (first_limit shape) (ap (λ (s : BoardState). s.pages) is'))
 
 -- ---- what the status says
 
@@ -356,6 +410,24 @@ module _ (task : PairTask) (shape : Shape) (old loaded new old' loaded' new' : B
     | second_unopened is n ↦
         by_second old new old' new' status (open_one status n.error n.tells) (tells_not shape old' loaded' new' found' status n.error n.tells n.reason n.only_reads)
         (λ e. wants_untouched shape old' loaded' new' found' n.error (sym n.tells ∙ e) n.reason) (opened_untouched shape old loaded new found is)
+    | limits_differ l ↦ record {
+      is_one = inr (inr (inr (inr (inl l.tells))));
+      output = λ e. absurd (let is = l.tells in omega (arith, e, is));
+      flash = λ e. absurd (let is = l.tells in omega (arith, e, is));
+      memory = λ e. absurd (let is = l.tells in omega (arith, e, is));
+      no_drive = λ e. (
+        inr (inr (inr (
+              shape,
+              ap (λ (s : BoardState). s.shape) l.first_opened ∙ found.shape_is,
+              ap (λ (s : BoardState). s.shape) l.second_opened ∙ found'.shape_is,
+              λ same. l.differ (ap (first_limit shape) (sym (ap (λ (s : BoardState). s.pages) l.first_opened)) ∙ same
+                ∙ ap (first_limit shape) (ap (λ (s : BoardState). s.pages) l.second_opened)),
+            ))),
+        opened_untouched shape old loaded new found l.first_opened,
+        opened_untouched shape old' loaded' new' found' l.second_opened,
+      );
+      worn = λ e. absurd (let is = l.tells in omega (arith, e, is));
+    }
     | pair_asked end is asked ↦ end_tells asked.start asked.other end status is asked.ends
   ]
 
@@ -378,7 +450,7 @@ pair_tells task old new old' new' status (shapes_differ o) = record {
   output = λ e. absurd (let is = o.tells in omega (arith, e, is));
   flash = λ e. absurd (let is = o.tells in omega (arith, e, is));
   memory = λ e. absurd (let is = o.tells in omega (arith, e, is));
-  no_drive = λ e. (inr (inr (o.shape, o.other, o.found.shape_is, o.found'.shape_is, o.differ)), load_untouched old new (Some o.shape) o.found, load_untouched old' new' (Some o.other) o.found');
+  no_drive = λ e. (inr (inr (inl (o.shape, o.other, o.found.shape_is, o.found'.shape_is, o.differ))), load_untouched old new (Some o.shape) o.found, load_untouched old' new' (Some o.other) o.found');
   worn = λ e. absurd (let is = o.tells in omega (arith, e, is));
 }
 pair_tells task old new old' new' status (pair_found f) = asks_tells task f.shape old f.loaded new old' f.loaded' new' f.found f.found' status f.asks
@@ -406,10 +478,12 @@ not_refused s shape one two m refusal same pages held refuses =
 
 -- two drives that were opened are a pair
 no_lack : (s shape other : Shape) (old old' loaded loaded' : BoardState) (m k : Map) → s ≡ shape → s ≡ other → loaded.pages ≡ old.pages → loaded'.pages ≡ old'.pages
-    → Holds s loaded.pages m → Holds s loaded'.pages k → LacksPair shape other old old' → ⊥
-no_lack s shape other old old' loaded loaded' m k one two pages pages' held held' (inl differ) = differ (sym one ∙ two)
-no_lack s shape other old old' loaded loaded' m k one two pages pages' held held' (inr (inl (refusal, refuses))) = not_refused s shape loaded.pages old.pages m refusal one pages held refuses
-no_lack s shape other old old' loaded loaded' m k one two pages pages' held held' (inr (inr (refusal, refuses))) = not_refused s other loaded'.pages old'.pages k refusal two pages' held' refuses
+    → Holds s loaded.pages m → Holds s loaded'.pages k → first_limit s loaded.pages ≡ first_limit s loaded'.pages → LacksPair shape other old old' → ⊥
+no_lack s shape other old old' loaded loaded' m k one two pages pages' held held' same (inl differ) = differ (sym one ∙ two)
+no_lack s shape other old old' loaded loaded' m k one two pages pages' held held' same (inr (inl (refusal, refuses))) = not_refused s shape loaded.pages old.pages m refusal one pages held refuses
+no_lack s shape other old old' loaded loaded' m k one two pages pages' held held' same (inr (inr (inl (refusal, refuses)))) = not_refused s other loaded'.pages old'.pages k refusal two pages' held' refuses
+no_lack s shape other old old' loaded loaded' m k one two pages pages' held held' same (inr (inr (inr differ))) =
+    differ (ap (λ (x : Shape). first_limit x old.pages) (sym one) ∙ ap (first_limit s) (sym pages) ∙ same ∙ ap (first_limit s) pages' ∙ ap (λ (x : Shape). first_limit x old'.pages) two)
 
 pub pair_refused : (task : PairTask) (old new old' new' : BoardState) (status : ℕ) → PairRun task old new old' new' status → PairRefused old old' status
 pair_refused task old new old' new' status (no_pair_memory is same same') shape other has has' lacks = inr (inl is)
@@ -420,10 +494,11 @@ pair_refused task old new old' new' status (pair_found f) shape other has has' l
   | no_speaker is same same' ↦ inr (inl is)
   | first_unopened n same' ↦ refused_one status (open_one status n.error n.tells)
   | second_unopened is n ↦ refused_one status (open_one status n.error n.tells)
+  | limits_differ l ↦ inl l.tells
   | pair_asked end is asked ↦ absurd (no_lack f.shape shape other old old' f.loaded f.loaded' asked.start asked.other
       (found_shape old f.loaded f.shape shape has f.found) (found_shape old' f.loaded' f.shape other has' f.found')
       (found_pages old f.loaded f.shape shape has f.found) (found_pages old' f.loaded' f.shape other has' f.found')
-      asked.holds asked.holds_other lacks)
+      asked.holds asked.holds_other asked.one_limit lacks)
 ]
 
 -- ---- where no call fails
@@ -433,10 +508,15 @@ worn_never before behind more worn used far few = grind (arith, nat_tests, worn,
 
 module _ (task : PairTask) (old new old' new' : BoardState) (status : ℕ) (shape : Shape) (m other : Map) (has : old.shape ≡ Some shape)
     (has' : old'.shape ≡ Some shape) (held : Holds shape old.pages m) (held' : Holds shape old'.pages other)
-    (far : roots old < 4611686018427387904) (far' : roots old' < 4611686018427387904) (none : NoneRose old new) (none' : NoneRose old' new')
+    (one_limit : first_limit shape old.pages ≡ first_limit shape old'.pages) (far : roots old < 4611686018427387904) (far' : roots old' < 4611686018427387904) (none : NoneRose old new) (none' : NoneRose old' new')
     (sound : Rose old.flash_faults new.flash_faults → ⊥) (sound' : Rose old'.flash_faults new'.flash_faults → ⊥) where
+  abbrev limits : List ℕ
+  limits = limits_at shape old.pages
+
   abbrev IsDone : Type 0
-  IsDone = (status ≡ 0) × (new.posted ≡ longer old.posted (text_by shape task m)) × Holds shape new.pages (map_left_by shape task m) × Holds shape new'.pages (map_left_by shape task m)
+  IsDone =
+      (status ≡ 0) × (new.posted ≡ longer old.posted (text_by shape limits task m)) × Holds shape new.pages (map_left shape limits task m)
+      × HoldsPart shape new'.pages (in_space 1 (map_left shape limits task m))
 
   there : IsSome old.shape
   there = subst IsSome (sym has) refl
@@ -463,6 +543,9 @@ module _ (task : PairTask) (old new old' new' : BoardState) (status : ℕ) (shap
 
     pages_same' : loaded'.pages ≡ old'.pages
     pages_same' = (found'.held there').0
+
+    limits_same : limits_at shape loaded.pages ≡ limits
+    limits_same = ap (limits_at shape) pages_same
 
     holds_loaded : Holds shape loaded.pages m
     holds_loaded = subst (λ (f : Flash). Holds shape f m) (sym pages_same) held
@@ -502,9 +585,11 @@ module _ (task : PairTask) (old new old' new' : BoardState) (status : ℕ) (shap
     done_by start same is f = elim f.says [
       | inl said ↦ (
         is,
-        f.posted ∙ ap (λ (o : Option (List ℕ)). longer o f.text) (ap (λ (s : BoardState). s.posted) found.rest) ∙ ap (longer old.posted) (said.text_is ∙ ap (text_by shape task) same),
-        subst (λ (x : Map). Holds shape new.pages (map_left_by shape task x)) same said.first_holds,
-        subst (λ (x : Map). Holds shape new'.pages (map_left_by shape task x)) same said.second_holds,
+        f.posted ∙ ap (λ (o : Option (List ℕ)). longer o f.text) (ap (λ (s : BoardState). s.posted) found.rest) ∙ ap (longer old.posted) (said.text_is ∙ ap (λ (l : List ℕ). text_by shape l task start) limits_same
+            ∙ ap (text_by shape limits task) same),
+        subst (λ (x : Map). Holds shape new.pages (map_left shape limits task x)) same (subst (λ (l : List ℕ). Holds shape new.pages (map_left shape l task start)) limits_same said.first_holds),
+        subst (λ (x : Map). HoldsPart shape new'.pages (in_space 1 (map_left shape limits task x))) same
+            (subst (λ (l : List ℕ). HoldsPart shape new'.pages (in_space 1 (map_left shape l task start))) limits_same said.second_holds),
       )
       | inr (unread, line) ↦ absurd (elim unread [
         | inl rose ↦ none.reads (subst (λ (n : ℕ). Rose n new.read_faults) (ap (λ (s : BoardState). s.read_faults) found.rest) rose)
@@ -524,6 +609,7 @@ module _ (task : PairTask) (old new old' new' : BoardState) (status : ℕ) (shap
         | inl e ↦ not_zero n.error n.tells e
         | inr rest ↦ elim rest [ inl e ↦ not_no_drive loaded' new' other holds_loaded' n e | inr e ↦ not_ten n.error n.tells e ]
       ])
+      | limits_differ l ↦ absurd (l.differ (ap (first_limit shape) pages_same ∙ one_limit ∙ sym (ap (first_limit shape) pages_same')))
       | pair_asked end is asked ↦ by end is asked one
     ]
       where
@@ -584,38 +670,44 @@ module _ (task : PairTask) (old new old' new' : BoardState) (status : ℕ) (shap
   ]
 
 pub pair_whole : (task : PairTask) (old new old' new' : BoardState) (status : ℕ) → PairRun task old new old' new' status → PairWhole task old new old' new' status
-pair_whole task old new old' new' status run shape m other has has' held held' far far' none none' sound sound' =
-    whole_by task old new old' new' status shape m other has has' held held' far far' none none' sound sound' run (pair_tells task old new old' new' status run)
+pair_whole task old new old' new' status run shape m other has has' held held' one_limit far far' none none' sound sound' =
+    whole_by task old new old' new' status shape m other has has' held held' one_limit far far' none none' sound sound' run (pair_tells task old new old' new' status run)
 
 -- ---- the words
 
--- a value that the words name is short
-short_by : (words : List (List ℕ)) (key value : List ℕ) (w : Word) → Some w ≡ word_of words → for_pair w ≡ Some (put key value) → length value < 4294967296
-short_by words key value (ask (answer (put_one k v))) is e =
-    let short = short_within words (ask (answer (put_one k v))) is (answer (put_one k v)) refl in
-    let same : v ≡ value = cc in
-    subst (λ (x : List ℕ). length x < 4294967296) same short
-short_by words key value (ask (answer (get_one k))) is e = absurd (cc)
-short_by words key value (ask (answer (delete_one k))) is e = absurd (cc)
-short_by words key value (ask (answer (has_one k))) is e = absurd (cc)
-short_by words key value (ask (answer stat_one)) is e = absurd (cc)
-short_by words key value (ask (list_keys None)) is e = absurd (cc)
-short_by words key value (ask (list_keys (Some k))) is e = absurd (cc)
-short_by words key value (ask (generate begin count)) is e = absurd (cc)
-short_by words key value (make shape limits) is e = absurd (cc)
-short_by words key value (serve frames) is e = absurd (cc)
-short_by words key value assemble is e = absurd (cc)
-short_by words key value show is e = absurd (cc)
+-- a key that the words name is of the first namespace, and a value is short
+short_by : (words : List (List ℕ)) (task : PairTask) (w : Word) → Some w ≡ word_of words → for_pair w ≡ Some task → IsAllowed task
+short_by words task (ask (answer (put_one k v))) is e =
+    let allowed = short_within words (ask (answer (put_one k v))) is (answer (put_one k v)) refl in
+    let same : put k v ≡ task = cc in
+    subst IsAllowed same allowed
+short_by words task (ask (answer (get_one k))) is e =
+    let allowed = short_within words (ask (answer (get_one k))) is (answer (get_one k)) refl in
+    let same : get k ≡ task = cc in
+    subst IsAllowed same allowed
+short_by words task (ask (answer (delete_one k))) is e =
+    let allowed = short_within words (ask (answer (delete_one k))) is (answer (delete_one k)) refl in
+    let same : delete k ≡ task = cc in
+    subst IsAllowed same allowed
+short_by words task (ask (answer (has_one k))) is e = absurd (cc)
+short_by words task (ask (answer stat_one)) is e = absurd (cc)
+short_by words task (ask (list_keys None)) is e =
+    let same : list_all ≡ task = cc in
+    subst IsAllowed same tt
+short_by words task (ask (list_keys (Some k))) is e = absurd (cc)
+short_by words task (ask (generate begin count)) is e = absurd (cc)
+short_by words task (make shape limits) is e = absurd (cc)
+short_by words task (serve frames) is e = absurd (cc)
+short_by words task assemble is e = absurd (cc)
+short_by words task show is e = absurd (cc)
 
-short_of : (words : List (List ℕ)) (key value : List ℕ) (o : Option Word) (b : Bool) → o ≡ word_of words
-    → (if b then Some resync else option_and_then for_pair o) ≡ Some (put key value) → length value < 4294967296
-short_of words key value o true is e = absurd (cc)
-short_of words key value None false is e = absurd (cc)
-short_of words key value (Some w) false is e = short_by words key value w is e
+short_of : (words : List (List ℕ)) (task : PairTask) (o : Option Word) (b : Bool) → o ≡ word_of words
+    → (if b then Some resync else option_and_then for_pair o) ≡ Some task → IsAllowed task
+short_of words task o true is e =
+    let same : resync ≡ task = cc in
+    subst IsAllowed same tt
+short_of words task None false is e = absurd (cc)
+short_of words task (Some w) false is e = short_by words task w is e
 
 pub short_pair : (words : List (List ℕ)) (task : PairTask) → Some task ≡ pair_task_of words → IsAllowed task
-short_pair words (put key value) e = short_of words key value (word_of words) (is_resync words) refl (sym e)
-short_pair words (get key) e = tt
-short_pair words (delete key) e = tt
-short_pair words list_all e = tt
-short_pair words resync e = tt
+short_pair words task e = short_of words task (word_of words) (is_resync words) refl (sym e)

@@ -1,10 +1,13 @@
 -- The frames that words may ask for.
-use Rattle.std.proofs.Common.{◌≡◌, ◌≤◌, ◌<◌, ◌^◌, ◌&&◌, ℕ, List, [], ◌∷◌, Option, None, Some, option_map, option_and_then, Bool, true, false, if◌then◌else◌, nat_le, nat_lt, length, bytes_eq, codes}
+use Rattle.std.proofs.Common.{IfSome, ◌≡◌, ◌≤◌, ◌<◌, ◌^◌, ◌&&◌, ℕ, List, [], ◌∷◌, Option, None, Some, option_map, option_and_then, Bool, true, false, if◌then◌else◌, nat_le, nat_lt, length, bytes_eq, codes}
 use Rattle.std.proofs.Common.{subst, sym, ap, ◌∙◌, refl, arith}
 use Rattle.std.proofs.lemmas.Bool.Decides.{nat_tests}
 use Rattle.pk_nvme.specs.Text.{number_of, is_number, bytes_of}
 use Rattle.std.specs.Str.Parse.{digits_value}
+use Rattle.pk_base.specs.Key.{Key}
+use Rattle.pk_nvme.specs.Text.{some_bytes_of}
 use Rattle.pk_asm.specs.Words.{key_of}
+use Rattle.pk_host.specs.Calls.{IsOwnKey}
 use Rattle.pk_words.specs.Question.{put, get, delete, has, stat}
 use Rattle.pk_wordrun.specs.Seen.{IsAllowedTask}
 use Rattle.pk_wordrun.specs.Tasks.{Task, list, generate}
@@ -27,13 +30,26 @@ within_if : (b : Bool) (x y : Option Word) → Within x → Within y → Within 
 within_if true x y hx hy = hx
 within_if false x y hx hy = hy
 
-within_map : {A : Type 0} (f : A → Word) (o : Option A) → ((a : A) → WordWithin (f a)) → Within (option_map f o)
-within_map f None all = tt
-within_map f (Some a) all = all a
-
 within_bind : {A : Type 0} (o : Option A) (f : A → Option Word) → ((a : A) → Within (f a)) → Within (option_and_then f o)
 within_bind None f all = tt
 within_bind (Some a) f all = all a
+
+-- a key that a word is, is of the first namespace
+key_own : (word : List ℕ) → IfSome (key_of word) IsOwnKey
+key_own word = by (nat_le (length word) 32) (some_bytes_of word)
+  where
+    by : (b : Bool) (o : Option (List ℕ)) → IfSome (if b then option_map (λ bytes. 1 ∷ bytes) o else None) IsOwnKey
+    by true (Some bytes) = refl
+    by true None = tt
+    by false o = tt
+
+within_key : (o : Option Key) (f : Key → Option Word) → IfSome o IsOwnKey → ((key : Key) → IsOwnKey key → Within (f key)) → Within (option_and_then f o)
+within_key None f own all = tt
+within_key (Some key) f own all = all key own
+
+within_own : (o : Option Key) (f : Key → Word) → IfSome o IsOwnKey → ((key : Key) → IsOwnKey key → WordWithin (f key)) → Within (option_map f o)
+within_own None f own all = tt
+within_own (Some key) f own all = all key own
 
 -- ---- the forms
 
@@ -58,23 +74,28 @@ serve-within [] = tt
 serve-within (n ∷ []) = within_bind (number_of n) serve_with (λ frames. serve_if-within frames (nat_le frames 16384) refl)
 serve-within (n ∷ x ∷ more) = tt
 
-put_with-within : (key bytes : List ℕ) → Within (put_with key bytes)
-put_with-within key bytes = by (nat_lt (length bytes) 4294967296) refl
+put_with-within : (key bytes : List ℕ) → IsOwnKey key → Within (put_with key bytes)
+put_with-within key bytes own = by (nat_lt (length bytes) 4294967296) refl
   where
     by : (b : Bool) → nat_lt (length bytes) 4294967296 ≡ b → Within (if b then Some (question (put key bytes)) else None)
-    by true few = grind (arith, nat_tests, few)
+    by true few = (own, grind (arith, nat_tests, few))
     by false few = tt
 
 put-within : (operands : List (List ℕ)) → Within (put_of operands)
 put-within [] = tt
 put-within (k ∷ []) = tt
-put-within (k ∷ b ∷ []) = within_bind (key_of k) _ (λ key. within_bind (bytes_of b) _ (λ bytes. put_with-within key bytes))
+put-within (k ∷ b ∷ []) = within_key (key_of k) _ (key_own k) (λ key own. within_bind (bytes_of b) _ (λ bytes. put_with-within key bytes own))
 put-within (k ∷ b ∷ x ∷ more) = tt
 
 list-within : (operands : List (List ℕ)) → Within (list_word operands)
 list-within [] = tt
-list-within (k ∷ []) = within_map (λ key. ask (list (Some key))) (key_of k) (λ key. tt)
+list-within (k ∷ []) = within_own (key_of k) (λ key. ask (list (Some key))) (key_own k) (λ key own. own)
 list-within (k ∷ x ∷ more) = tt
+
+key-within : (operands : List (List ℕ)) (f : Key → Word) → ((key : Key) → IsOwnKey key → WordWithin (f key)) → Within (option_map f (only_key operands))
+key-within [] f all = tt
+key-within (k ∷ []) f all = within_own (key_of k) f (key_own k) all
+key-within (k ∷ x ∷ more) f all = tt
 
 alone-within : (word : Word) (operands : List (List ℕ)) → WordWithin word → Within (alone word operands)
 alone-within word [] h = h
@@ -103,9 +124,9 @@ unfolding plain_of
 plain-within name operands =
     within_if (bytes_eq name (codes "make")) _ _ (make-within operands)
     (within_if (bytes_eq name (codes "serve")) _ _ (serve-within operands)
-    (within_if (bytes_eq name (codes "get")) _ _ (within_map (λ key. question (get key)) (only_key operands) (λ key. tt))
-    (within_if (bytes_eq name (codes "del")) _ _ (within_map (λ key. question (delete key)) (only_key operands) (λ key. tt))
-    (within_if (bytes_eq name (codes "has")) _ _ (within_map (λ key. question (has key)) (only_key operands) (λ key. tt))
+    (within_if (bytes_eq name (codes "get")) _ _ (key-within operands (λ key. question (get key)) (λ key own. own))
+    (within_if (bytes_eq name (codes "del")) _ _ (key-within operands (λ key. question (delete key)) (λ key own. own))
+    (within_if (bytes_eq name (codes "has")) _ _ (key-within operands (λ key. question (has key)) (λ key own. own))
     (within_if (bytes_eq name (codes "list")) _ _ (list-within operands)
     (within_if (bytes_eq name (codes "stat")) _ _ (alone-within (question stat) operands tt)
     (within_if (bytes_eq name (codes "asm")) _ _ (alone-within assemble operands tt)
@@ -123,7 +144,7 @@ frames_within words word is frames same =
     let e : word_of words ≡ Some (serve frames) = sym is ∙ ap (λ w. Some w) same in
     subst Within e (words-within words)
 
--- a value that words ask to store is not too long
+-- a key that words name is of the first namespace, and a value that they ask to store is not too long
 pub short_within : (words : List (List ℕ)) (word : Word) → Some word ≡ word_of words → (task : Task) → word ≡ ask task → IsAllowedTask task
 short_within words word is task same =
     let e : word_of words ≡ Some (ask task) = sym is ∙ ap (λ w. Some w) same in

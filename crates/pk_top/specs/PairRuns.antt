@@ -34,12 +34,13 @@ pub record KeepsPair (task : PairTask) (shape : Shape) (loaded new loaded' new' 
   pub first : Goes shape loaded new (λ flash posted. (m : Map) → Holds shape loaded.pages m → KeptFirst task (EitherUnread loaded new loaded' new') shape (limits_at shape loaded.pages) m flash posted)
   pub second : Goes shape loaded' new' (λ flash posted. (m : Map) → Holds shape loaded'.pages m → KeptSecond shape (limits_at shape loaded'.pages) flash posted)
 
--- Both drives were opened, and the word came to this end.
+-- Both drives were opened, their first namespaces have one limit, and the word came to this end.
 pub record AskedPair (task : PairTask) (shape : Shape) (loaded new loaded' new' : BoardState) (end : WordEnd) : Type 0 where
   pub start : Map
   pub holds : Holds shape loaded.pages start
   pub other : Map
   pub holds_other : Holds shape loaded'.pages other
+  pub one_limit : first_limit shape loaded.pages ≡ first_limit shape loaded'.pages
   pub ends : PairEnds task shape start (behind_opening shape WORD_FRAMES loaded) new (behind_opening shape WORD_FRAMES loaded') new' end
   pub first_used : UsedRoots start other loaded new
   pub second_used : UsedRoots start other loaded' new'

@@ -2,7 +2,7 @@ use Rattle.pk_core.proofs.Formatting.{Formed, programs_form, programs_of, progra
 use Rattle.pk_core.proofs.making.write_first_root.Given.{Over}
 use Rattle.pk_core.proofs.making.write_first_root.Goals as goal
 
-formed : (g : Over) (c : goal.After-write_pair-in-Ok g) → Formed c.args.shape (g.B.Nand.state c.write_pair.new.board).pages c.args.limits.now
+formed : (g : Over) (c : goal.In-Ok g) → Formed c.args.shape (g.B.Nand.state c.write_pair.new.board).pages c.args.limits.now
 formed g c = programs_form (g.B.Nand.state c.args.board.now) (g.B.Nand.state c.write_pair.new.board) c.args.shape c.args.limits.now c.first.new.into
     c.known.ensures c.requires.ready c.requires.erased c.first.ensures.bytes c.first.ensures.grammar c.in-Ok.ensures.ok
 
