@@ -4,12 +4,16 @@ many pages a Retrieve that found its key read, on average and at most, with 520 
 of the gate.
 
     bench/reads.py [START [COUNT]]     1 and 50,000 if no number is named
+    bench/reads.py held                the same after an opening and after a Tick to rest, with several numbers of frames and of keys,
+                                       on shape (4096, 64, 1024); and how many pages that Tick read, and how long it took
 """
+import math
 import os
 import struct
 import subprocess
 import sys
 import tempfile
+import time
 
 PROGRAM = os.path.join(os.path.dirname(os.path.abspath(__file__)), "..", "crates", "pink", "out", "pink")
 STORE, RETRIEVE, LIST, DELETE, EXIST, TICK = 0x01, 0x02, 0x06, 0x10, 0x14, 0xC0
@@ -84,5 +88,43 @@ def main(start=1, count=50000):
             print(f"{frames} frames: {len(found)} Retrieves read {sum(found) / len(found):.2f} pages on average, {max(found)} at most")
 
 
+def serve(image, frames, script):
+    run = subprocess.run([PROGRAM, image, "serve", str(frames)], input=script, stdout=subprocess.PIPE, check=True)
+    return list(records(run.stdout))
+
+
+def timed(image, frames, script):
+    begin = time.time()
+    told = serve(image, frames, script)
+    return told, time.time() - begin
+
+
+def of(reads):
+    return f"{sum(reads) / len(reads):.2f}, {max(reads)}"
+
+
+def held(shape=("4096", "64", "1024")):
+    """Each key is stored once, in an order that mixes them, and all merges end; then each is retrieved."""
+    rest = entry(TICK, 1, b"", 1000000)
+    print("keys | frames | after an opening, mean and greatest | after a Tick to rest | pages that it read | milliseconds")
+    for count in (1000, 5000, 20000):
+        step = next(n for n in range(count // 3, count) if math.gcd(n, count) == 1)
+        keys = [b"key:%012d" % (i * step % count) for i in range(count)]
+        ask = b"".join(entry(RETRIEVE, i, key, 4096) for i, key in enumerate(keys))
+        with tempfile.TemporaryDirectory() as folder:
+            image = os.path.join(folder, "it.img")
+            subprocess.run([PROGRAM, image, "make", *shape], check=True)
+            serve(image, 36, b"".join(entry(STORE, i, key, 100) + LETTERS[:100] for i, key in enumerate(keys)) + rest)
+            for frames in (0, 35, 36, 52, 148, 260, 520, 1040):
+                opened = [reads for _, reads in serve(image, frames, ask)]
+                told, seconds = timed(image, frames, rest)
+                _, without = timed(image, frames, b"")
+                rested = [reads for _, reads in serve(image, frames, rest + ask)[1:]]
+                print(f"{count} | {frames} | {of(opened)} | {of(rested)} | {told[0][1]} | {1000 * (seconds - without):.0f}")
+
+
 if __name__ == "__main__":
-    main(*map(int, sys.argv[1:]))
+    if sys.argv[1:] == ["held"]:
+        held()
+    else:
+        main(*map(int, sys.argv[1:]))

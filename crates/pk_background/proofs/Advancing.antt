@@ -23,6 +23,7 @@ use Rattle.pk_schedule.specs.Steps.{has_no_merge, is_between}
 use Rattle.pk_gc.specs.Stepping.{runs_in}
 use Rattle.pk_parts.specs.Parts.{Parts, index_of, sight_of, is_half, is_reclaim_due}
 use Rattle.pk_parts.specs.Agreeing.{DriveOnFlashWith, DriveOnFlash, IsWhole}
+use Rattle.pk_background.specs.Filling.{lacks_frames}
 use Rattle.pk_background.specs.Ticking.{MayTick, Advances, WantsReclaim, wants_reclaim}
 use Rattle.pk_parts.proofs.Halves.{whole_of}
 use Rattle.pk_parts.proofs.Unchanging.{own_whole}
@@ -108,8 +109,8 @@ module _ (d : Parts) (old new : BoardState) (m : MayTick d old) (none_half : is_
   }
 
   pub idle_advances : (d' : Parts) → ErasesNone d.pool old d'.pool new → d' ≡ record d { pool = d'.pool } → has_no_merge (index_of d) ≡ true
-      → (length (taken_by d.schedule.freeze) == 0) ≡ true → wants_reclaim d ≡ false → Advances d d' old new Idle
-  idle_advances d' none rest merged frozen reclaimed =
+      → (length (taken_by d.schedule.freeze) == 0) ≡ true → wants_reclaim d ≡ false → lacks_frames d ≡ false → Advances d d' old new Idle
+  idle_advances d' none rest merged frozen reclaimed filled =
       let same = kept_drive d d' old new none rest in
       record {
         ticks = ticks_nothing d old new d' Idle same none.same m.none refl idle_fine;
@@ -128,6 +129,7 @@ module _ (d : Parts) (old new : BoardState) (m : MayTick d old) (none_half : is_
             no_freeze = none_there (taken_by d.schedule.freeze) (eqb-true (length (taken_by d.schedule.freeze)) 0 frozen);
             no_reclaim = (neither (runs_in d.reclaim.phase) (is_reclaim_due d) reclaimed).0;
             none_due = (neither (runs_in d.reclaim.phase) (is_reclaim_due d) reclaimed).1;
+            all_filled = filled;
             none_free = none.none_free;
           },
           same,

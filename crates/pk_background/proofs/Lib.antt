@@ -8,6 +8,7 @@ pub mod Unread
 pub mod Stills
 pub mod Results
 pub mod Ticking
+pub mod Filling
 pub mod Steps
 pub mod Callings
 pub mod Indexing

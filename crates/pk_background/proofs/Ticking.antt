@@ -57,9 +57,12 @@ use Rattle.pk_call.specs.declared.types.Ticked.TheVariants.{Worked, Idle, Fault}
 use Rattle.pk_model.proofs.Growing.{weaken, weaken_went}
 use Rattle.pk_values.specs.Laws.{SameValues}
 use Rattle.pk_gc.specs.Stepping.{runs_in}
-use Rattle.pk_parts.specs.Parts.{Parts, sight_of, counts_of, index_of, block_if_open, outputs_of, backlog_of, is_reclaim_due, reclaim_left, has_moves, may_freeze, is_half, settled_parts}
+use Rattle.pk_parts.specs.Parts.{Parts, frames_of, sight_of, counts_of, index_of, block_if_open, outputs_of, backlog_of, is_reclaim_due, reclaim_left, has_moves, may_freeze, is_half, settled_parts}
 use Rattle.pk_parts.specs.Agreeing.{DriveOnFlashWith, DriveOnFlash, IsWhole}
+use Rattle.pk_level.specs.Arenas.{unfilled}
+use Rattle.pk_background.specs.Filling.{lacks_frames}
 use Rattle.pk_background.specs.Ticking.{Ticks, HasNoStep, WantsReclaim, WantsFreeze}
+use Rattle.pk_parts.proofs.Holding.{filled_if, held_if}
 use Rattle.pk_parts.proofs.Reclaiming.{reclaim_elsewhere, holds_none}
 use Rattle.pk_background.proofs.Unread.{KeepsOwners, SameRead, same_top, still_without, still_all, agrees_elsewhere}
 use Rattle.pk_background.proofs.Stills.{IsStill, SameStill, StillCut, read_still, still_end, went_end, still_erase, still_erase_failed}
@@ -375,7 +378,7 @@ room_is shape pool flash (Some o) is =
 
 -- ---- when nothing remains to be done
 
-between_merges : (p : Phase) → is_between p ≡ true → merging p ≡ 0
+pub between_merges : (p : Phase) → is_between p ≡ true → merging p ≡ 0
 between_merges NoMerge e = refl
 between_merges (Running level) e = absurd (yes_no (is_between (Running level)) refl e)
 between_merges (ReadyOutput level) e = absurd (yes_no (is_between (ReadyOutput level)) refl e)
@@ -391,6 +394,21 @@ pub no_merge_is : (x : Index) → has_no_merge x ≡ true → (is_between x.sche
 no_merge_is x e =
     let parts = both_true (is_between x.schedule.phase) (length x.log.frozen.entries == 0) e in
     (parts.0, eqb-true (length x.log.frozen.entries) 0 parts.1)
+
+-- whether a page lacks a frame
+none_lacks : (d : Parts) → lacks_frames d ≡ false → unfilled d.levels (frames_of d) ≡ 0
+none_lacks d e = eqb-true (unfilled d.levels (frames_of d)) 0 (not_not (unfilled d.levels (frames_of d) == 0) e)
+  where
+    not_not : (b : Bool) → not b ≡ false → b ≡ true
+    not_not true e = refl
+    not_not false e = absurd (yes_no true (sym e) refl)
+
+lacks_some : (d : Parts) → lacks_frames d ≡ true → unfilled d.levels (frames_of d) ≡ 0 → ⊥
+lacks_some d e none = yes_no (lacks_frames d) (ap not (eq-eqb (unfilled d.levels (frames_of d)) 0 none)) e
+
+-- it is not idle if one does
+pub busy_unfilled : (d : Parts) (old : BoardState) (a : DriveOnFlash d old.shape old.pages) → lacks_frames d ≡ true → IsIdle d.log.shape old.pages (sight_of d) → ⊥
+busy_unfilled d old a lacks idle = lacks_some d lacks (filled_if (settled_parts d) d.log.shape old.pages a.top a.found a.without a.all (own d old a) idle.all_held)
 
 module _ (d : Parts) (old : BoardState) (a : DriveOnFlash d old.shape old.pages) (shared : IsShared d.pool.shape d.pool.states) where
   -- as if the blocks that leave were free
@@ -455,6 +473,7 @@ module _ (d : Parts) (old : BoardState) (a : DriveOnFlash d old.shape old.pages)
         no_reclaim = no_step.no_reclaim;
         all_erased = all_unready no_step no_step.no_reclaim;
         has_room = due_is ∙ no_step.none_due;
+        all_held = held_if (settled_parts d) d.log.shape old.pages a.top a.found a.without a.all with (none_lacks d no_step.all_filled);
       }
 
   pub idle_rests : IsIdle d.log.shape old.pages (sight_of d) → is_reclaim_due d ≡ false

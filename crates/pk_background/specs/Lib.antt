@@ -1,4 +1,5 @@
 pub mod Emptying
+pub mod Filling
 pub mod Ticking
 pub mod Pairing
 pub mod Reclaiming

@@ -19,6 +19,7 @@ use Rattle.pk_gc.specs.Stepping.{runs_in}
 use Rattle.pk_parts.specs.Parts.{Parts, index_of, sight_of, is_half, is_reclaim_due, may_freeze}
 use Rattle.pk_parts.specs.Agreeing.{DriveOnFlash}
 use Rattle.pk_parts.specs.Staying.{StaysOrFrees}
+use Rattle.pk_background.specs.Filling.{lacks_frames}
 
 -- a step asks for a drive that runs and agrees with its board, with nothing pending, and whose next root has a number
 pub record MayTick (d : Parts) (board : BoardState) : Type 0 where
@@ -47,14 +48,15 @@ pub record Ticks (old new : BoardState) (before after : Sight) (answer : Ticked)
   pub no_stop : stopped_by answer ≡ false → new.stop_faults ≡ old.stop_faults
   pub installs : roots new ≤ roots old + 1
 
--- Nothing remains to be done: no pair is half made, no merge and no freeze runs, nothing is frozen, no reclaim runs or is due, and every
--- free block was erased in this session.
+-- Nothing remains to be done: no pair is half made, no merge and no freeze runs, nothing is frozen, no reclaim runs or is due, every page
+-- that may have a frame has one, and every free block was erased in this session.
 pub record HasNoStep (d : Parts) : Type 0 where
   pub whole : is_half d ≡ false
   pub no_merge : has_no_merge (index_of d) ≡ true
   pub no_freeze : taken_by d.schedule.freeze ≡ []
   pub no_reclaim : runs_in d.reclaim.phase ≡ false
   pub none_due : is_reclaim_due d ≡ false
+  pub all_filled : lacks_frames d ≡ false
   pub none_free : IsNowhere Free d.pool.states
 
 -- a reclaim runs, or one is due

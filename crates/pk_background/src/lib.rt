@@ -6,6 +6,7 @@
 #![tactic(auto)]
 
 mod emptying;
+mod fill;
 mod pair;
 mod reclaim;
 mod room;

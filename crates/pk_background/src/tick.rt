@@ -9,8 +9,10 @@ ghost use Rattle.pk_schedule.specs.Steps.{has_no_merge};
 ghost use Rattle.pk_parts.specs.Parts as spec;
 ghost use Rattle.pk_parts.specs.Parts.{index_of, is_half};
 ghost use Rattle.pk_background.specs.Ticking.{MayTick, Advances, WantsFreeze, WantsReclaim, wants_reclaim};
+ghost use Rattle.pk_background.specs.Filling.{lacks_frames};
 
 use crate::emptying::{freeze_once, merge_once};
+use crate::fill::{fill_once, lacks_frames};
 use crate::pair::{finish_half, is_half};
 use crate::reclaim::reclaim_once;
 use pk_call::Ticked;
@@ -126,6 +128,7 @@ fn erase_step<B: Nand, A: Region>(parts: &mut Parts<A>, board: &mut B) -> Ticked
     requires merged { has_no_merge (index_of parts.old) ≡ true }
     requires frozen { (length (taken_by parts.old.schedule.freeze) == 0) ≡ true }
     requires reclaimed { wants_reclaim parts.old ≡ false }
+    requires filled { lacks_frames parts.old ≡ false }
     ensures { Advances parts.old parts.new (B.state board.old) (B.state board.new) result }
 {
     match erase_spare(parts, board) {
@@ -133,6 +136,23 @@ fn erase_step<B: Nand, A: Region>(parts: &mut Parts<A>, board: &mut B) -> Ticked
         Ok(false) => Ticked::Idle,
         // only an erase can fail here
         Err(_) => stop(parts),
+    }
+}
+
+// A page that may have a frame and has none is read into one.
+fn fill_step<B: Nand, A: Region>(parts: &mut Parts<A>, board: &mut B) -> Ticked
+    requires may { MayTick parts.old (B.state board.old) }
+    requires whole { is_half parts.old ≡ false }
+    requires merged { has_no_merge (index_of parts.old) ≡ true }
+    requires unfilled { lacks_frames parts.old ≡ true }
+    ensures { Advances parts.old parts.new (B.state board.old) (B.state board.new) result }
+{
+    // no run has more pages than its level may have
+    parts.levels.known();
+    match fill_once(parts, board) {
+        Ok(()) => Ticked::Worked,
+        // only a read can fail here
+        Err(_) => Ticked::Fault { stopped: false },
     }
 }
 
@@ -153,8 +173,8 @@ fn wants_reclaim<A: Region>(parts: &Parts<A>) -> bool
     parts.reclaim.runs() || is_reclaim_due(parts)
 }
 
-/// The next background step: the second program of a pair that is half made, first of all; a merge's, a freeze's, a reclaim's, or the
-/// erase of a free block. Idle if there is none.
+/// The next background step: the second program of a pair that is half made, first of all; a merge's, a freeze's, a reclaim's, the
+/// read of a page into a spare frame, or the erase of a free block. Idle if there is none.
 pub fn advance<B: Nand, A: Region>(parts: &mut Parts<A>, board: &mut B) -> Ticked
     requires may { MayTick parts.old (B.state board.old) }
     ensures { Advances parts.old parts.new (B.state board.old) (B.state board.new) result }
@@ -167,6 +187,8 @@ pub fn advance<B: Nand, A: Region>(parts: &mut Parts<A>, board: &mut B) -> Ticke
         freeze_step(parts, board)
     } else if wants_reclaim(parts) {
         reclaim_step(parts, board)
+    } else if lacks_frames(parts) {
+        fill_step(parts, board)
     } else {
         erase_step(parts, board)
     }

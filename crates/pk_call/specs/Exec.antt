@@ -1,31 +1,45 @@
 -- What one command does, for every map that the drive may represent.
-use Rattle.std.specs.Prelude.{◌≡◌, ◌≢◌, ◌⊎◌, ℕ, ◌+◌, ◌*◌, ◌≤◌, ◌<◌, List, [], ◌∷◌, flat_map, Some, ◌==◌, if◌then◌else◌}
+use Rattle.std.specs.Prelude.{◌≡◌, ◌≢◌, ◌⊎◌, ℕ, ◌+◌, ◌-◌, ◌*◌, ◌≤◌, ◌<◌, min, length, List, [], ◌∷◌, flat_map, Option, Some, None, ◌==◌, if◌then◌else◌}
+use Rattle.std.specs.FinMap.{get}
 use Rattle.pk_nvme.specs.declared.opcode.TheConstants.{STORE, TICK}
-use Rattle.pk_base.specs.Shape.{Shape, greatest}
+use Rattle.pk_base.specs.Shape.{Shape, fetched, greatest}
 use Rattle.pk_base.specs.Map.{Map}
 use Rattle.pk_base.specs.Merge.{next_merge}
 use Rattle.pk_base.specs.Fields.{u32}
-use Rattle.pk_nvme.specs.Command.{Command}
+use Rattle.pk_nvme.specs.Command.{Command, key}
 use Rattle.pk_nvme.specs.Reply.{Reply}
 use Rattle.pk_nand.specs.BoardState.{BoardState}
 use Rattle.pk_nvme.specs.Opcode.{op_of}
 use Rattle.pk_nvme.specs.declared.opcode.Opcode.TheVariants.{Retrieve}
+use Rattle.pk_model.specs.Answer.{early}
 use Rattle.pk_model.specs.Spaces.{Terms}
 use Rattle.pk_model.specs.Run.{Step}
 use Rattle.pk_model.specs.Bounds.{most_reads}
-use Rattle.pk_call.specs.Sight.{InSpace, Sight, Counts, numbers}
+use Rattle.pk_call.specs.Sight.{InSpace, Sight, Counts, levels_held, numbers}
 use Rattle.pk_call.specs.Drive.{HoldsMap}
 
--- a command that did not stop the drive
-pub record Executed (shape : Shape) (terms : Terms) (new : BoardState) (drive : Sight) (m : Map) (c : Command) (reply : Reply) (reads : ℕ) : Type 0 where
+-- most pages that a Retrieve reads if this many levels have all their pages in frames, by its status if it is refused, and by the value of its key
+abbrev pub most_reads_beyond : Shape → ℕ → Command → Option ℕ → Option (List ℕ) → ℕ
+most_reads_beyond shape levels c (Some status) value = 0
+most_reads_beyond shape levels c None None = 4 - levels
+most_reads_beyond shape levels c None (Some value) = 4 - levels + fetched shape (min (length value) c.size)
+
+-- at most one page of each level that has pages without a frame, and the value's pages that are returned
+abbrev pub most_unheld_reads : Shape → Terms → Sight → Map → Command → ℕ
+most_unheld_reads shape terms drive m c = most_reads_beyond shape (levels_held drive) c (early (length terms.limits) shape c) (get m (key c))
+
+-- A command that did not stop the drive. What a Retrieve reads is bounded by the pinned levels, and by those that have all their pages in
+-- frames as it begins.
+pub record Executed (shape : Shape) (terms : Terms) (before : Sight) (new : BoardState) (after : Sight) (m : Map) (c : Command) (reply : Reply) (reads : ℕ) : Type 0 where
   pub left : Map
   pub stepped : Step shape terms m c reply left
-  pub stands : HoldsMap shape terms new drive left
+  pub stands : HoldsMap shape terms new after left
   pub bounded : op_of c.opcode ≡ Some Retrieve → reads ≤ most_reads shape terms m c
+  pub held_bounded : op_of c.opcode ≡ Some Retrieve → reads ≤ most_unheld_reads shape terms before m c
 
 abbrev pub ExecStands : BoardState → BoardState → Sight → Sight → Command → Reply → ℕ → Type 0
 ExecStands old new before after c reply reads =
-    (shape : Shape) (terms : Terms) (m : Map) → HoldsMap shape terms old before m → Executed shape terms new after m c reply reads
+    (shape : Shape) (terms : Terms) (m : Map) → HoldsMap shape terms old before m → Executed shape terms before new after m c reply reads
 
 -- most roots of a Store: a reclaim and its entry may each need room, which takes four merges and a freeze, and each of these a root
 abbrev pub most_store_roots : ℕ

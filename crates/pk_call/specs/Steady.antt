@@ -14,7 +14,7 @@ use Rattle.pk_model.specs.Found.{Found, entries_in_order}
 use Rattle.pk_model.specs.Values.{placed, blocks_with, all_pages}
 use Rattle.pk_model.specs.Laws.{AnyByRecursion}
 use Rattle.pk_model.specs.Tree.{Tree, IsTree}
-use Rattle.pk_call.specs.Sight.{Sight, Counts, most_work}
+use Rattle.pk_call.specs.Sight.{Sight, Counts, entries_of_runs, most_work, pages_of_each}
 use Rattle.pk_call.specs.Drive.{HoldsMap}
 use Rattle.pk_call.specs.Exec.{IsNextMerge}
 
@@ -36,14 +36,6 @@ pub record HasReady (shape : Shape) (flash : Flash) (root : Root) (taking : Opti
 -- how many blocks have a page of a value that is there
 abbrev pub live_blocks : Shape → Found → List Entry → ℕ
 live_blocks shape found pending = length (blocks_with shape (all_pages shape (placed (firsts (entries_in_order found pending)))))
-
--- the entries of the four runs
-abbrev pub entries_of_runs : Counts → List ℕ
-entries_of_runs c = c.run1 ∷ c.run2 ∷ c.run3 ∷ c.run4 ∷ []
-
--- the pages of each run
-abbrev pub pages_of_each : Shape → Counts → List ℕ
-pages_of_each shape c = map (run_pages shape) (entries_of_runs c)
 
 -- the pages of the runs of the first levels, by the entries of each
 abbrev pub pages_of_runs : Shape → ℕ → List ℕ → ℕ

@@ -10,7 +10,7 @@ use Rattle.pk_model.specs.Wear.{roots}
 use Rattle.pk_call.specs.Calling.{FewCalls, most_calls_of}
 use Rattle.pk_nand.specs.BoardState.{shape_or_none}
 use Rattle.pk_background.specs.Costs.{Spends}
-use Rattle.pk_parts.specs.Parts.{Parts}
+use Rattle.pk_parts.specs.Parts.{Parts, most_looks}
 use Rattle.pk_parts.specs.Agreeing.{DriveOnFlash}
 use Rattle.pk_parts.specs.Quiet.{ReadsOnly, ReadsFailing}
 use Rattle.pk_parts.proofs.Unchanging.{counted_by-min}
@@ -43,8 +43,8 @@ few_breaks old new most n less made = record {
   erases = ap (λ (b : BoardState). b.erases) made.board;
 }
 
-pub four_less : (n : ℕ) → 4 - n ≤ 68
-four_less n = omega arith
+pub looks_less : (d : Parts) → most_looks d ≤ 68
+looks_less d = omega arith
 
 -- a lookup and the pages of a value are few
 looks_few : (shape : Shape) → IsShape shape → 68 ≤ most_calls shape

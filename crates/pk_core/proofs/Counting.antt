@@ -15,7 +15,6 @@ use Rattle.pk_nvme.specs.Opcode.{op_of}
 use Rattle.pk_nvme.specs.declared.opcode.Opcode.{Opcode}
 use Rattle.pk_nvme.specs.declared.opcode.Opcode.TheVariants.{Flush, Retrieve, Report}
 use Rattle.pk_model.specs.Answer.{early, success}
-use Rattle.pk_model.specs.Bounds.{most_reads}
 use Rattle.pk_model.specs.Found.{Found}
 use Rattle.pk_model.specs.Reading.{reading}
 use Rattle.pk_model.specs.Run.{Step}
@@ -33,7 +32,7 @@ use Rattle.pk_parts.specs.Parts.{Parts, sight_of, counts_of, spaces_of, frames_o
 use Rattle.pk_parts.specs.Agreeing.{DriveOnFlashWith, DriveOnFlash}
 use Rattle.pk_core.specs.Done.{Does}
 use Rattle.pk_core.specs.Quiet.{DoneWithout}
-use Rattle.pk_core.proofs.Unchanging.{same_early, does_reads, flush_step, report_step, ok_sound, AnswersAll}
+use Rattle.pk_core.proofs.Unchanging.{same_early, does_reads, flush_step, report_step, ok_sound, other_within, AnswersAll, ReadsWithin}
 use Rattle.pk_parts.proofs.Using.{use_of_part}
 use Rattle.pk_parts.proofs.Unchanging.{own, for_its_map, reads_none, same_ok, whole_all, limits_are}
 use Rattle.pk_base.proofs.Logic.{some_same}
@@ -134,8 +133,10 @@ flush_done d o into told board r v a few op passed =
     let c = command_of r v in
     let passes : early 1 d.log.shape c ≡ None = same_early d.log.shape r v ∙ passed in
     let all : AnswersAll board (sight_of d) c (success 0 []) 0 =
-    for_its_map d board a (λ s f m. Step s f m c (success 0 []) m × (op_of r.opcode ≡ Some Retrieve → 0 ≤ most_reads s f m c))
-    (flush_step d.log.shape (frames_of d) a.all c passes (whole_all d board a) op, λ e. absurd (other_than Flush r.opcode (ap op_of op) flush_other e)) in
+    for_its_map d board a (λ s f m. Step s f m c (success 0 []) m × ReadsWithin s f (sight_of d) m c 0) (
+      flush_step d.log.shape (frames_of d) a.all c passes (whole_all d board a) op,
+      other_within d.log.shape (terms_of d) (sight_of d) a.all c 0 (other_than Flush r.opcode (ap op_of op) flush_other),
+    ) in
     subst (λ (x : Outcome). Does board board (sight_of d) (sight_of d) c (reply_of x into) x.reads x.stopped) (sym told)
     (does_reads board board (sight_of d) c (success 0 []) 0 0 few few (reads_none board few) (omega arith) ok_sound all)
 
@@ -146,9 +147,9 @@ report_done d o into told bytes board r v a few op passed =
     let passes : early 1 d.log.shape c ≡ None = same_early d.log.shape r v ∙ passed in
     let counted = counts_own d board a in
     let all : AnswersAll board (sight_of d) c (success 0 (take 64 into)) 0 =
-    for_its_map d board a (λ s f m. Step s f m c (success 0 (take 64 into)) m × (op_of r.opcode ≡ Some Retrieve → 0 ≤ most_reads s f m c)) (
+    for_its_map d board a (λ s f m. Step s f m c (success 0 (take 64 into)) m × ReadsWithin s f (sight_of d) m c 0) (
       report_step d.log.shape (frames_of d) a.all c passes (whole_all d board a) (first_of d) (counts_of d) (take 64 into) op counted bytes,
-      λ e. absurd (other_than Report r.opcode (ap op_of op) report_other e),
+      other_within d.log.shape (terms_of d) (sight_of d) a.all c 0 (other_than Report r.opcode (ap op_of op) report_other),
     ) in
     subst (λ (x : Outcome). Does board board (sight_of d) (sight_of d) c (reply_of x into) x.reads x.stopped) (sym told)
     (does_reads board board (sight_of d) c (success 0 (take 64 into)) 0 0 few few (reads_none board few) (omega arith) ok_sound all)

@@ -127,6 +127,7 @@ module _ (d : Parts) (old new : BoardState) (r : Request) (o : Outcome) (into : 
           map_is = ap (λ (f : Flash). reading shape f d.log.pending) same_pages ∙ st.map_is;
         };
         bounded = λ other. absurd (not_retrieve (op_of c.opcode) is_list other);
+        held_bounded = λ other. absurd (not_retrieve (op_of c.opcode) is_list other);
       }
 
   reaches : (shape : Shape) (m : Map) → Reaches shape old new (CrashFinds shape (command_on old c) old.pages m)

@@ -28,7 +28,7 @@ module _ (d : Parts) (board : BoardState) (c : Command) (status : ℕ) (agrees :
       let here = (stands_for d board shape terms m agrees stands).with.shape_is in
       let one : terms.limits ≡ limit shape ∷ [] = sym stands.limits_is ∙ limits_are shape board.pages in
       let s = refuses_early shape terms m eleven c status ((λ i. early (length (one i)) (sym here i) c) ∙ refused) in
-      (inl (record { own = eleven; eleven = refl; replied = sym s.replied; leaves = sym s.leaves }), λ is. omega arith)
+      (inl (record { own = eleven; eleven = refl; replied = sym s.replied; leaves = sym s.leaves }), (λ is. omega arith, λ is. omega arith))
 
   -- it does nothing
   pub refused_done : (o : Outcome) (into : List ℕ) → board.reads ≤ last_count → o ≡ record { status = status; result = 0; data_len = 0; reads = 0; stopped = false }

@@ -11,7 +11,7 @@ use Rattle.pk_pin.specs.Frames.{Frames, leased_frames}
 use Rattle.pk_pin.proofs.Leases.{leases_counted}
 use Rattle.pk_run.specs.Kept.{Kept}
 use Rattle.pk_level.specs.Levels.{IsLevels, AreOfLevels, RunsOnFlash}
-use Rattle.pk_level.specs.Arenas.{AreBareAbove, last_level, leases_of, page_counts}
+use Rattle.pk_level.specs.Arenas.{AreBareAbove, last_level, leases_of}
 use Rattle.pk_model.specs.Found.{Found}
 use Rattle.pk_law_steps.specs.Under.{IsUnder}
 use Rattle.pk_scan.specs.Opened.{HaveBlocks}
@@ -19,22 +19,9 @@ use Rattle.pk_schedule.specs.Index.{merging, output}
 use Rattle.pk_schedule.proofs.OutputFrames.{most_output, output_most}
 use Rattle.pk_parts.specs.Parts.{Parts, frames_of, index_of}
 use Rattle.pk_parts.specs.Agreeing.{DriveOnFlashWith}
-
--- how many entries each run has
-abbrev pub entries_of : List Kept → List ℕ
-entries_of rs = map (λ (r : Kept). r.count) rs
+use Rattle.pk_parts.proofs.Holding.{entries_of, pages_are}
 
 module _ (shape : Shape) (flash : Flash) (arena : Frames) where
-  -- a run has the pages of its entries
-  pages_are : (rs : List Kept) (bss : List (List ℕ)) (ess : List (List Entry)) → HaveBlocks shape rs bss → RunsOnFlash flash arena rs ess → page_counts rs ≡ map (run_pages shape) (entries_of rs)
-  pages_are [] bss ess have stand = refl
-  pages_are (r ∷ rs) [] ess have stand = absurd have
-  pages_are (r ∷ rs) (bs ∷ bss) [] have stand = absurd stand
-  pages_are (r ∷ rs) (bs ∷ bss) (es ∷ ess) have stand =
-      let one : length r.firsts ≡ run_pages shape r.count = stand.0.pages ∙ ap (λ (s : Shape). run_pages s r.count) have.0 in
-      let rest = pages_are rs bss ess have.2 stand.1 in
-      λ i. one i ∷ rest i
-
   -- this many levels are pinned after this one, itself included
   least : (pins level left : ℕ) (rs : List Kept) (bss : List (List ℕ)) (ess : List (List Entry)) (of_shape : Shape) → left ≡ suc pins - level → AreOfLevels of_shape pins level rs
       → HaveBlocks shape rs bss → RunsOnFlash flash arena rs ess → sum (map (run_pages shape) (take left (entries_of rs))) ≤ length (leases_of rs)

@@ -13,7 +13,7 @@ use Rattle.pk_nand.specs.declared.types.Fault.{Fault}
 use Rattle.pk_nand.specs.BoardState.{BoardState}
 use Rattle.pk_nand.specs.Calls.{last_count}
 use Rattle.pk_call.specs.declared.types.Outcome.{Outcome}
-use Rattle.pk_parts.specs.Parts.{Parts, is_half}
+use Rattle.pk_parts.specs.Parts.{Parts, is_half, most_looks}
 use Rattle.pk_background.specs.Emptying.{OnRunning}
 use Rattle.pk_core.specs.Done.{Executes}
 use Rattle.pk_parts.specs.Quiet.{ReadsOnly, ReadsFailing, Looks}
@@ -30,7 +30,7 @@ use Rattle.pk_core.proofs.Unchanging.{unread_look}
 
 -- the lookup did not change the drive
 pub looked_up : (d e : Parts) (old mid : BoardState) (r : Request) (k : Key) (p : Option Place) (before : ℕ) → IsServable d old r → k ≡ key (command_of r []) → before ≡ old.reads
-    → e ≡ d → Looks d old.pages k p → ReadsOnly old mid (4 - d.levels.pinned) → IsLookedUp e mid r k p before
+    → e ≡ d → Looks d old.pages k p → ReadsOnly old mid (most_looks d) → IsLookedUp e mid r k p before
 looked_up d e old mid r k p before s named is same looks made =
     let n : ℕ = mid.reads in
     let here : IsServable d (record old { reads = n }) r = record { agrees = s.agrees; runs = s.runs; unworn = s.unworn; passed = s.passed; few = s.few; counted = made.few } in
@@ -115,8 +115,8 @@ executes_behind d e f old mid new most c into o same made other count told did =
 
 -- a read of the lookup failed
 pub executes_unread : (d e : Parts) (old new : BoardState) (r : Request) (v into : List ℕ) (o : Outcome) (reads : ℕ)
-    → IsServable d old r → e ≡ d → o ≡ record { status = 0x88; result = 0; data_len = 0; reads = reads; stopped = false }
-    → old.read_faults ≤ last_count → ReadsFailing old new (4 - d.levels.pinned) → reads ≡ new.reads - old.reads → Executes d e old new (command_of r v) o into o.reads
-executes_unread d e old new r v into o reads s same told faults made is =
+    → IsServable d old r → e ≡ d → most_looks d + d.levels.pinned ≤ 4 → o ≡ record { status = 0x88; result = 0; data_len = 0; reads = reads; stopped = false }
+    → old.read_faults ≤ last_count → ReadsFailing old new (most_looks d) → reads ≡ new.reads - old.reads → Executes d e old new (command_of r v) o into o.reads
+executes_unread d e old new r v into o reads s same unheld told faults made is =
     executes_quiet d e old new r (command_of r v) o into o.reads s same (ap (λ (b : BoardState). b.pages) made.board) (ap (λ (x : Outcome). x.stopped) told)
-    (unread_look d e old new r v into s.agrees same s.passed s.counted made.few o reads told faults made is)
+    (unread_look d e old new r v into s.agrees same s.passed unheld s.counted made.few o reads told faults made is)

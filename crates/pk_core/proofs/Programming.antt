@@ -24,7 +24,7 @@ use Rattle.pk_log.specs.State.{needs_freeze}
 use Rattle.pk_model.specs.Found.{Found, found_under}
 use Rattle.pk_values.specs.State.{fits_open}
 use Rattle.pk_call.specs.Moving.{IsQuiet, commits_for}
-use Rattle.pk_parts.specs.Parts.{Parts, sight_of, is_half, settled_parts}
+use Rattle.pk_parts.specs.Parts.{Parts, sight_of, is_half, settled_parts, most_looks}
 use Rattle.pk_parts.specs.Agreeing.{DriveOnFlashWith}
 use Rattle.pk_changes.specs.Programming.{Programs}
 use Rattle.pk_parts.specs.Quiet.{ReadsOnly}
@@ -155,7 +155,7 @@ behind_reads old mid new most n made p = record {
   erases = p.erases ∙ ap (λ (b : BoardState). b.erases) made.board;
 }
 
-pub quiet_store_behind : (d e : Parts) (old mid new : BoardState) (size : ℕ) (k k' : Key) (reads : ℕ) → e ≡ d → ReadsOnly old mid (4 - d.levels.pinned) → k ≡ k'
+pub quiet_store_behind : (d e : Parts) (old mid new : BoardState) (size : ℕ) (k k' : Key) (reads : ℕ) → e ≡ d → ReadsOnly old mid (most_looks d) → k ≡ k'
     → (is_half e ≡ false → needs_freeze e.log k ≡ false → fits_open e.log.shape e.values (charge e.log.shape size) ≡ true
     → Programs (charge e.log.shape size + commits_for e.log.shape (sight_of e)) mid new) → reads ≤ 4 - d.levels.pinned
     → is_half d ≡ false → needs_freeze d.log k' ≡ false → fits_open d.log.shape d.values (charge d.log.shape size) ≡ true
@@ -163,14 +163,14 @@ pub quiet_store_behind : (d e : Parts) (old mid new : BoardState) (size : ℕ) (
 quiet_store_behind d e old mid new size k k' reads same made named programs few whole none room =
     let T : Parts → Type 0 = λ x. is_half x ≡ false → needs_freeze x.log k ≡ false → fits_open x.log.shape x.values (charge x.log.shape size) ≡ true
     → Programs (charge x.log.shape size + commits_for x.log.shape (sight_of x)) mid new in (
-      behind_reads old mid new (4 - d.levels.pinned) (charge d.log.shape size + commits_for d.log.shape (sight_of d)) made
+      behind_reads old mid new (most_looks d) (charge d.log.shape size + commits_for d.log.shape (sight_of d)) made
           (subst T same programs whole (ap (needs_freeze d.log) named ∙ none) room),
       few,
     )
 
-pub quiet_delete_behind : (d e : Parts) (old mid new : BoardState) (k k' : Key) (reads : ℕ) → e ≡ d → ReadsOnly old mid (4 - d.levels.pinned) → k ≡ k'
+pub quiet_delete_behind : (d e : Parts) (old mid new : BoardState) (k k' : Key) (reads : ℕ) → e ≡ d → ReadsOnly old mid (most_looks d) → k ≡ k'
     → (is_half e ≡ false → needs_freeze e.log k ≡ false → Programs (commits_for e.log.shape (sight_of e)) mid new) → reads ≤ 4 - d.levels.pinned
     → is_half d ≡ false → needs_freeze d.log k' ≡ false → Programs (commits_for d.log.shape (sight_of d)) old new × (reads ≤ 4 - d.levels.pinned)
 quiet_delete_behind d e old mid new k k' reads same made named programs few whole none =
     let T : Parts → Type 0 = λ x. is_half x ≡ false → needs_freeze x.log k ≡ false → Programs (commits_for x.log.shape (sight_of x)) mid new in
-    (behind_reads old mid new (4 - d.levels.pinned) (commits_for d.log.shape (sight_of d)) made (subst T same programs whole (ap (needs_freeze d.log) named ∙ none)), few)
+    (behind_reads old mid new (most_looks d) (commits_for d.log.shape (sight_of d)) made (subst T same programs whole (ap (needs_freeze d.log) named ∙ none)), few)

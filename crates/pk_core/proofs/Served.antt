@@ -23,7 +23,6 @@ use Rattle.pk_nvme.specs.Opcode.{op_of}
 use Rattle.pk_nvme.specs.declared.opcode.Opcode.{Opcode}
 use Rattle.pk_nvme.specs.declared.opcode.Opcode.TheVariants.{Store, Retrieve, Delete}
 use Rattle.pk_model.specs.Answer.{early, check, late_of, success, map_after}
-use Rattle.pk_model.specs.Bounds.{most_reads}
 use Rattle.pk_model.specs.Run.{Step}
 use Rattle.pk_call.specs.Sight.{Sight}
 use Rattle.pk_model.proofs.Answering.{serves, refuses_late, store_sized, serves_alone, ServesAlone}
@@ -58,7 +57,7 @@ use Rattle.pk_core.proofs.Standing.{stands_so}
 use Rattle.pk_parts.proofs.Standing.{agrees_so}
 use Rattle.pk_core.proofs.Counting.{counts_own}
 use Rattle.pk_core.proofs.Early.{told_shape}
-use Rattle.pk_core.proofs.Unchanging.{unread_step, refused_step, alone, value_of, same_early, does_reads, AnswersAll}
+use Rattle.pk_core.proofs.Unchanging.{unread_step, refused_step, alone, value_of, same_early, does_reads, other_within, AnswersAll, ReadsWithin}
 use Rattle.pk_parts.proofs.Unchanging.{own, looked, for_its_map, reads_none, agrees_ready, whole_all, limits_are}
 use Rattle.pk_model.specs.Spaces.{Terms, one_space, limit_of, limits_at, in_space}
 
@@ -120,12 +119,13 @@ module _ (d : Parts) (old new : BoardState) (a : DriveOnFlash d old.shape old.pa
       → NoFault old new → reply.status ≢ 0x88 → Step d.log.shape (terms_of d) a.all c reply after
       → Does old new (sight_of d) (sight_of e) c reply (new.reads - old.reads) false
   does_change e reply changed same_frames none sound step = record {
-    stands = λ _. for_its_map d old a (λ s f m. Executed s f new (sight_of e) m c reply made) (record {
+    stands = λ _. for_its_map d old a (λ s f m. Executed s f (sight_of d) new (sight_of e) m c reply made) (record {
       left = after;
       stepped = step;
       stands = subst (λ (f : ℕ). HoldsMap d.log.shape (one_space f (limit d.log.shape)) new (sight_of e) after) same_frames
           (stands_so e new d.log.shape after (same_shape ∙ told) (between e d.log.shape new.pages after changed.stands));
       bounded = λ is. absurd (other is);
+      held_bounded = λ is. absurd (other is);
     });
     found = record {
       cuts = λ _. for_its_map d old a (λ s f m. Reaches s old new (CrashFinds s (command_on old c) old.pages m)) (
@@ -152,12 +152,13 @@ module _ (d : Parts) (old new : BoardState) (a : DriveOnFlash d old.shape old.pa
   pub does_keep : (e : Parts) → SameMap e d.log.shape a.all old new → frames_of e ≡ frames_of d → Unread old new
       → early 1 d.log.shape c ≡ None → Does old new (sight_of d) (sight_of e) c (refusal 0x88) (new.reads - old.reads) false
   does_keep e kept same_frames unread passes = record {
-    stands = λ _. for_its_map d old a (λ s f m. Executed s f new (sight_of e) m c (refusal 0x88) made) (record {
+    stands = λ _. for_its_map d old a (λ s f m. Executed s f (sight_of d) new (sight_of e) m c (refusal 0x88) made) (record {
       left = a.all;
       stepped = unread_step d.log.shape (frames_of d) a.all c passes;
       stands = subst (λ (f : ℕ). HoldsMap d.log.shape (one_space f (limit d.log.shape)) new (sight_of e) a.all) same_frames
           (stands_so e new d.log.shape a.all (same_shape ∙ told) (between e d.log.shape new.pages a.all kept.stands));
       bounded = λ is. absurd (other is);
+      held_bounded = λ is. absurd (other is);
     });
     found = record {
       cuts = λ _. for_its_map d old a (λ s f m. Reaches s old new (CrashFinds s (command_on old c) old.pages m))
@@ -328,7 +329,8 @@ module _ (d : Parts) (old : BoardState) (r : Request) (value : List ℕ) (k : Ke
   store_refused status e into outcome reads failed same told_is =
       let step = refused_step d.log.shape (frames_of d) all c passes (whole_all d old s.agrees) Store status (ap op_of op) (sym late_is ∙ failed) in
       let answers : AnswersAll old (sight_of d) c (refusal status) 0 =
-      for_its_map d old s.agrees (λ x f m. Step x f m c (refusal status) m × (op_of r.opcode ≡ Some Retrieve → 0 ≤ most_reads x f m c)) (step, λ is. absurd (store_other r.opcode op is)) in
+      for_its_map d old s.agrees (λ x f m. Step x f m c (refusal status) m × ReadsWithin x f (sight_of d) m c 0)
+      (step, other_within d.log.shape (terms_of d) (sight_of d) all c 0 (store_other r.opcode op)) in
       let done = does_reads old old (sight_of d) c (refusal status) 0 0 s.counted s.counted (reads_none old s.counted)
       (omega arith) (not_unread r.options after_pages most_pages_here status (is_some o) failed) answers in
       subst (λ (x : Outcome). Does old old (sight_of d) (sight_of e) c (shown x into) 0 x.stopped) (sym told_is)
@@ -427,7 +429,8 @@ module _ (d : Parts) (old : BoardState) (r : Request) (v : List ℕ) (k : Key) (
       let missing : get its_map (key dc) ≡ None = subst (λ q. get its_map q ≡ None) named (looked d old s.agrees k None looks).there in
       let step = refused_step d.log.shape (frames_of d) its_map dc delete_passed (whole_all d old s.agrees) Delete 0x87 (ap op_of op) (delete_fails its_map (key dc) missing) in
       let answers : AnswersAll old (sight_of d) dc (refusal 0x87) 0 =
-      for_its_map d old s.agrees (λ x f m. Step x f m dc (refusal 0x87) m × (op_of r.opcode ≡ Some Retrieve → 0 ≤ most_reads x f m dc)) (step, λ is. absurd (delete_other r.opcode op is)) in
+      for_its_map d old s.agrees (λ x f m. Step x f m dc (refusal 0x87) m × ReadsWithin x f (sight_of d) m dc 0)
+      (step, other_within d.log.shape (terms_of d) (sight_of d) its_map dc 0 (delete_other r.opcode op)) in
       let done = does_reads old old (sight_of d) dc (refusal 0x87) 0 0 s.counted s.counted (reads_none old s.counted) (omega arith) missing_sound answers in
       subst (λ (x : Outcome). Does old old (sight_of d) (sight_of e) dc (shown x into) 0 x.stopped) (sym told_is)
       (subst (λ (x : Parts). Does old old (sight_of d) (sight_of x) dc (refusal 0x87) 0 false) (sym same) done)
@@ -502,7 +505,7 @@ does_behind d e f old mid new most c into o same made other count told_is does =
     record {
       stands = λ run shape frames m st.
           let y = x.stands run shape frames m (record { shape_is = st.shape_is; frames_is = st.frames_is; limits_is = st.limits_is; map_is = st.map_is }) in
-          record { left = y.left; stepped = y.stepped; stands = y.stands; bounded = λ k. absurd (other k) };
+          record { left = y.left; stepped = y.stepped; stands = y.stands; bounded = λ k. absurd (other k); held_bounded = λ k. absurd (other k) };
       found = record {
         cuts = λ run shape frames m st.
             let y = x.found.cuts run shape frames m (record { shape_is = st.shape_is; frames_is = st.frames_is; limits_is = st.limits_is; map_is = st.map_is }) in

@@ -28,7 +28,7 @@ use Rattle.pk_run.specs.Kept.{Kept, empty}
 use Rattle.pk_jrn.proofs.Puts.{firsts-reverse}
 use Rattle.pk_model.specs.Found.{Found}
 use Rattle.pk_model.specs.Values.{all_pages}
-use Rattle.pk_call.specs.Sight.{Sight, most_work}
+use Rattle.pk_call.specs.Sight.{Sight, entries_of_runs, most_work, pages_of_each}
 use Rattle.pk_law_steps.specs.Under.{IsValuePage, places}
 use Rattle.pk_law_steps.proofs.Places.{In, in_append, few_blocks, in_value}
 use Rattle.pk_live.proofs.Ranges.{has}
@@ -41,7 +41,7 @@ use Rattle.pk_parts.proofs.Reclaiming.{reclaim_within}
 use Rattle.pk_values.specs.State.{OpenBlock}
 use Rattle.pk_nand.specs.BoardState.{BoardState}
 use Rattle.pk_nand.specs.Effects.{OnlyFlash}
-use Rattle.pk_call.specs.Steady.{Steadies, IsSteady, IsReadyBlock, HasReady, entries_of_runs, live_blocks, output_frames, pages_of_each, pages_of_runs}
+use Rattle.pk_call.specs.Steady.{Steadies, IsSteady, IsReadyBlock, HasReady, live_blocks, output_frames, pages_of_runs}
 use Rattle.pk_law_work.specs.Backlog.{IsBacklog, due_level}
 use Rattle.pk_law_work.specs.Work.{work}
 use Rattle.pk_law_work.proofs.Within.{work_most}
@@ -53,6 +53,7 @@ use Rattle.pk_call.specs.Exec.{IsNextMerge}
 use Rattle.pk_parts.specs.Parts.{Parts, IsParts, sight_of, counts_of, block_if_open, frames_of, index_of, outputs_of, backlog_of, is_reclaim_due, reclaim_left, settled_parts}
 use Rattle.pk_core.specs.Agreeing.{DriveOnFlashBetween}
 use Rattle.pk_parts.specs.Agreeing.{DriveOnFlashWith, DriveOnFlash}
+use Rattle.pk_parts.proofs.Holding.{counts_of_four}
 use Rattle.pk_core.proofs.Leased.{leased_least, leased_most}
 use Rattle.pk_core.proofs.Seen.{seen_same}
 use Rattle.pk_core.proofs.Places.{blocks_from, many_blocks, has_state, blocks_differ, block_in, all_in}
@@ -96,18 +97,6 @@ for_values_told (Some s) e = (s, refl, e)
 due_of : (shape : Shape) (d : Parts) → due_level shape (backlog_of d) ≡ due_level shape (backlog_of_index (index_of d))
 unfolding due_level
 due_of shape d = refl
-
--- ---- four runs
-
-counts_of_four : (rs : List Kept) (shape : Shape) → length rs ≡ 4
-    → (slice_index_or rs 0 (empty shape 1)).count ∷ (slice_index_or rs 1 (empty shape 2)).count ∷
-    (slice_index_or rs 2 (empty shape 3)).count ∷ (slice_index_or rs 3 (empty shape 4)).count ∷ [] ≡ map (λ (r : Kept). r.count) rs
-counts_of_four [] shape e = absurd (omega (arith, e))
-counts_of_four (a ∷ []) shape e = absurd (omega (arith, e))
-counts_of_four (a ∷ b ∷ []) shape e = absurd (omega (arith, e))
-counts_of_four (a ∷ b ∷ c ∷ []) shape e = absurd (omega (arith, e))
-counts_of_four (a ∷ b ∷ c ∷ d ∷ []) shape e = refl
-counts_of_four (a ∷ b ∷ c ∷ d ∷ x ∷ rs) shape e = absurd (omega (arith, e))
 
 -- ---- the merge
 

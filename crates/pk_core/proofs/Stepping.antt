@@ -202,6 +202,7 @@ module _ (old new : BoardState) (d d' : Parts) (r : Request) (v : List ℕ) (a :
           stepped = for_its_map d old a (λ s f x. Step s f x (command_of r v) reply x) step shape frames m st;
           stands = w.stands runs shape frames m st;
           bounded = λ e. absurd (other_kind r.opcode op e);
+          held_bounded = λ e. absurd (other_kind r.opcode op e);
         };
         found = record {
           cuts = λ runs shape frames m st.

@@ -23,7 +23,7 @@ use Rattle.pk_law_work.specs.Calls.{room_calls, space_calls}
 use Rattle.pk_law_steps.specs.Under.{places}
 use Rattle.pk_log.specs.State.{needs_freeze}
 use Rattle.pk_values.specs.State.{fits_open}
-use Rattle.pk_parts.specs.Parts.{Parts, counts_of}
+use Rattle.pk_parts.specs.Parts.{Parts, counts_of, most_looks}
 use Rattle.pk_parts.specs.Agreeing.{DriveOnFlash}
 use Rattle.pk_parts.specs.Moves.{StandsFor, KeepsAll, BreaksAll}
 use Rattle.pk_background.specs.Emptying.{StepOrRead, OnRunning}
@@ -109,7 +109,7 @@ module _ (d c : Parts) (s0 s2 : BoardState) (n : ℕ) (key : Key) (value : List 
       d.log.shape 4 k (4 + k) s0 mid s2 (omega arith) looked_passes (λ x puts. stores_looked puts) keeps_looked fails_looked second
 
 pub found_stores : (r : Result Unit Fault) (d e c : Parts) (s0 s1 s2 : BoardState) (key : Key) (value : List ℕ) (p : Option Place)
-    → e ≡ d → Looks d s0.pages key p → ReadsOnly s0 s1 (4 - d.levels.pinned)
+    → e ≡ d → Looks d s0.pages key p → ReadsOnly s0 s1 (most_looks d)
     → PutsOrReads e c (room_calls e.log.shape) s1 s2 key value p r → StoresOrReads d c (4 + room_calls d.log.shape) s0 s2 key value r
 found_stores r d e c s0 s1 s2 key value p same looks made second =
     let within = made.within in
@@ -120,7 +120,7 @@ found_stores r d e c s0 s1 s2 key value p same looks made second =
 pub found_room : (d e : Parts) (size : ℕ) → e ≡ d → needs (charge d.log.shape size) d ≡ false → needs (charge e.log.shape size) e ≡ false
 found_room d e size same room = subst (λ (x : Parts). needs (charge x.log.shape size) x ≡ false) (sym same) room
 
-pub found_numbers : (d e : Parts) (s0 s1 : BoardState) → e ≡ d → ReadsOnly s0 s1 (4 - d.levels.pinned)
+pub found_numbers : (d e : Parts) (s0 s1 : BoardState) → e ≡ d → ReadsOnly s0 s1 (most_looks d)
     → roots s0 + room_calls d.log.shape < 18446744073709551615 → roots s1 + room_calls e.log.shape < 18446744073709551615
 found_numbers d e s0 s1 same made few =
     let roots_same : roots s1 ≡ roots s0 = ap (λ (s : BoardState). roots s) made.board in
@@ -133,7 +133,7 @@ unread_parts d e s0 s1 most same made =
     let T : Parts → Type 0 = λ x. CannotRead d x s0 s1 in
     subst T (sym same) (record { rest = refl; stands = λ shape m stands. stands; only = made.board; read = made.rose; flash = made.flash })
 
-pub found_unread : (d e : Parts) (s0 s1 : BoardState) (k : ℕ) (key : Key) (value : List ℕ) → e ≡ d → s0.read_faults ≤ last_count → ReadsFailing s0 s1 (4 - d.levels.pinned) → IsReady s1 d.log.shape
+pub found_unread : (d e : Parts) (s0 s1 : BoardState) (k : ℕ) (key : Key) (value : List ℕ) → e ≡ d → s0.read_faults ≤ last_count → ReadsFailing s0 s1 (most_looks d) → IsReady s1 d.log.shape
     → StoresOrReads d e (4 + k) s0 s1 key value (Err Reading)
 found_unread d e s0 s1 k key value same few made ready =
     let up = made.up in
@@ -143,7 +143,7 @@ found_unread d e s0 s1 k key value same few made ready =
     let roots_same : roots s1 ≡ roots s0 = ap (λ (s : BoardState). roots s) made.board in
     record {
       came = (
-        same_unread d e s0 s1 (unread_parts d e s0 s1 (4 - d.levels.pinned) same made),
+        same_unread d e s0 s1 (unread_parts d e s0 s1 (most_looks d) same made),
         record { read = rose; up = omega (arith, rose, few); flash = made.flash; no_stop = ap (λ (s : BoardState). s.stop_faults) made.board },
       );
       rest = subst T (sym made.board) refl;

@@ -34,16 +34,16 @@ use Rattle.pk_model.specs.Answer.{early, fault_of, late_of, success, reply_of, c
 use Rattle.pk_model.specs.Bounds.{most_reads, most_reads_of}
 use Rattle.pk_model.specs.Found.{Found}
 use Rattle.pk_model.specs.Run.{Step}
-use Rattle.pk_call.specs.Sight.{Sight, Counts, InSpace}
+use Rattle.pk_call.specs.Sight.{Sight, Counts, InSpace, levels_held}
 use Rattle.pk_model.proofs.Answering.{refuses_late, serves, IsAlone, serves_alone, refuses_alone}
 use Rattle.pk_law_steps.specs.Under.{places}
 use Rattle.pk_call.specs.Call.{command_on}
 use Rattle.pk_call.specs.Drive.{HoldsMap, CountsMap}
 use Rattle.pk_call.specs.Seen.{reply_of as shown}
 use Rattle.pk_call.specs.declared.types.Outcome.{Outcome}
-use Rattle.pk_call.specs.Exec.{report_of}
+use Rattle.pk_call.specs.Exec.{most_reads_beyond, most_unheld_reads, report_of}
 use Rattle.pk_model.specs.Crashes.{CrashFinds}
-use Rattle.pk_parts.specs.Parts.{Parts, sight_of, frames_of, settled_parts, terms_of}
+use Rattle.pk_parts.specs.Parts.{Parts, sight_of, frames_of, most_looks, settled_parts, terms_of}
 use Rattle.pk_parts.specs.Agreeing.{DriveOnFlashWith, DriveOnFlash}
 use Rattle.pk_parts.specs.Finding.{IsPlaceIn}
 use Rattle.pk_core.specs.Done.{Does}
@@ -57,10 +57,32 @@ use Rattle.pk_model.specs.Spaces.{Terms, one_space, in_space}
 yes_no : false ≡ true → ⊥
 yes_no e = cc
 
+-- a Retrieve reads no more than it may, by the pinned levels and by those that have all their pages in frames
+abbrev pub ReadsWithin : Shape → Terms → Sight → Map → Command → ℕ → Type 0
+ReadsWithin shape terms s m c reads =
+    (op_of c.opcode ≡ Some Retrieve → reads ≤ most_reads shape terms m c) × (op_of c.opcode ≡ Some Retrieve → reads ≤ most_unheld_reads shape terms s m c)
+
+-- no other command has these bounds
+pub other_within : (shape : Shape) (terms : Terms) (s : Sight) (m : Map) (c : Command) (reads : ℕ) → (op_of c.opcode ≡ Some Retrieve → ⊥) → ReadsWithin shape terms s m c reads
+other_within shape terms s m c reads other = (λ is. absurd (other is), λ is. absurd (other is))
+
+beyond_less : (shape : Shape) (frames levels : ℕ) (c : Command) (refused : Option ℕ) (value : Option (List ℕ)) → pinned shape frames ≤ levels
+    → most_reads_beyond shape levels c refused value ≤ most_reads_of shape frames c refused value
+beyond_less shape frames levels c (Some status) value held = omega arith
+beyond_less shape frames levels c None None held = omega (arith, held)
+beyond_less shape frames levels c None (Some v) held = omega (arith, held)
+
+-- the second bound is at most the first one
+within_both : (shape : Shape) (terms : Terms) (s : Sight) (m : Map) (c : Command) (reads : ℕ) → pinned shape terms.frames ≤ levels_held s
+    → (op_of c.opcode ≡ Some Retrieve → reads ≤ most_unheld_reads shape terms s m c) → ReadsWithin shape terms s m c reads
+within_both shape terms s m c reads held within =
+    let less = beyond_less shape terms.frames (levels_held s) c (early (length terms.limits) shape c) (get m (key c)) held in
+    (λ is. (let few = within is in omega (arith, few, less)), within)
+
 -- it may answer this on every map that the drive represents, and reads no more than it may
 abbrev pub AnswersAll : BoardState → Sight → Command → Reply → ℕ → Type 0
 AnswersAll old s c reply reads =
-    (shape : Shape) (terms : Terms) (m : Map) → HoldsMap shape terms old s m → Step shape terms m c reply m × (op_of c.opcode ≡ Some Retrieve → reads ≤ most_reads shape terms m c)
+    (shape : Shape) (terms : Terms) (m : Map) → HoldsMap shape terms old s m → Step shape terms m c reply m × ReadsWithin shape terms s m c reads
 
 pub does_reads : (old new : BoardState) (s : Sight) (c : Command) (reply : Reply) (most reads : ℕ) → old.reads ≤ last_count → new.reads ≤ last_count
     → ReadsOnly old new most → reads ≡ new.reads - old.reads → reply.status ≢ 0x88 → AnswersAll old s c reply reads → Does old new s s c reply reads false
@@ -73,7 +95,8 @@ does_reads old new s c reply most reads few few' made is sound answers =
         left = m;
         stepped = a.0;
         stands = record { shape_is = st.shape_is; frames_is = st.frames_is; limits_is = st.limits_is; map_is = st.map_is };
-        bounded = a.1;
+        bounded = a.1.0;
+        held_bounded = a.1.1;
       };
       found = record {
         cuts = λ _ shape frames m st. ([], Reached-start old (record old { reads = n }) (CrashFinds shape (command_on old c) old.pages m) refl refl refl refl (refl, inl refl), tt);
@@ -107,7 +130,8 @@ does_unread old new s c most reads few few' faults made is answers =
         left = m;
         stepped = a.0;
         stands = record { shape_is = st.shape_is; frames_is = st.frames_is; limits_is = st.limits_is; map_is = st.map_is };
-        bounded = a.1;
+        bounded = a.1.0;
+        held_bounded = a.1.1;
       };
       found = record {
         cuts = λ _ shape frames m st. (
@@ -173,16 +197,13 @@ module _ (shape : Shape) (frames : ℕ) (m : Map) (c : Command) (passed : early 
   unread_step = inr (record { not_early = passed; replied = refl; leaves = refl })
 
   -- how many pages it may read
-  pub most_missing : get m (key c) ≡ None → most_reads shape terms m c ≡ 4 - pinned shape frames
-  most_missing missing = λ i. most_reads_of shape frames c (passed i) (missing i)
+  pub most_there : (s : Sight) (v : List ℕ) → get m (key c) ≡ Some v → most_unheld_reads shape terms s m c ≡ 4 - levels_held s + fetched shape (min (length v) c.size)
+  most_there s v there = λ i. most_reads_beyond shape (levels_held s) c (passed i) (there i)
 
-  pub most_there : (v : List ℕ) → get m (key c) ≡ Some v → most_reads shape terms m c ≡ 4 - pinned shape frames + fetched shape (min (length v) c.size)
-  most_there v there = λ i. most_reads_of shape frames c (passed i) (there i)
-
-  pub most_least : 4 - pinned shape frames ≤ most_reads shape terms m c
-  most_least = subst (λ e. 4 - pinned shape frames ≤ most_reads_of shape frames c e (get m (key c))) (sym passed) (by_value (get m (key c)))
+  pub most_least : (s : Sight) → 4 - levels_held s ≤ most_unheld_reads shape terms s m c
+  most_least s = subst (λ e. 4 - levels_held s ≤ most_reads_beyond shape (levels_held s) c e (get m (key c))) (sym passed) (by_value (get m (key c)))
     where
-      by_value : (o : Option (List ℕ)) → 4 - pinned shape frames ≤ most_reads_of shape frames c None o
+      by_value : (o : Option (List ℕ)) → 4 - levels_held s ≤ most_reads_beyond shape (levels_held s) c None o
       by_value None = omega arith
       by_value (Some v) = omega arith
 
@@ -268,27 +289,27 @@ room_of d old a k p n size room is_key looks is all = (let short = (value_of d o
 
 -- ---- the reads of a value after those of a lookup
 
-pub value_reads : (d d' : Parts) (old mid new : BoardState) (n : ℕ) → d' ≡ d → ReadsOnly old mid (4 - d.levels.pinned)
-    → new ≡ after_reads (fetched d'.log.shape n) mid → ReadsOnly old new (4 - d.levels.pinned + fetched d.log.shape n)
+pub value_reads : (d d' : Parts) (old mid new : BoardState) (n : ℕ) → d' ≡ d → ReadsOnly old mid (most_looks d)
+    → new ≡ after_reads (fetched d'.log.shape n) mid → ReadsOnly old new (most_looks d + fetched d.log.shape n)
 value_reads d d' old mid new n same before made =
-    reads_more old mid new (4 - d.levels.pinned) (fetched d.log.shape n) before (subst (λ x. new ≡ after_reads (fetched x.log.shape n) mid) same made)
+    reads_more old mid new (most_looks d) (fetched d.log.shape n) before (subst (λ x. new ≡ after_reads (fetched x.log.shape n) mid) same made)
 
-pub value_breaks : (d d' : Parts) (old mid new : BoardState) (page n : ℕ) → d' ≡ d → ReadsOnly old mid (4 - d.levels.pinned)
-    → ReadsFailed mid new page (fetched d'.log.shape n) → ReadsFailing old new (4 - d.levels.pinned + fetched d.log.shape n)
+pub value_breaks : (d d' : Parts) (old mid new : BoardState) (page n : ℕ) → d' ≡ d → ReadsOnly old mid (most_looks d)
+    → ReadsFailed mid new page (fetched d'.log.shape n) → ReadsFailing old new (most_looks d + fetched d.log.shape n)
 value_breaks d d' old mid new page n same before broken =
     let f = subst (λ x. ReadsFailed mid new page (fetched x.log.shape n)) same broken in
-    reads_break old mid new (4 - d.levels.pinned) f.made (fetched d.log.shape n) (page + f.made) before f.within f.failed
+    reads_break old mid new (most_looks d) f.made (fetched d.log.shape n) (page + f.made) before f.within f.failed
 
 -- which are few
 pub few_of : (d : Parts) (old : BoardState) (a : DriveOnFlash d old.shape old.pages) (k : Key) (p : Place) (n size : ℕ)
-    → IsKey k → Looks d old.pages k (Some p) → n ≡ min p.len size → 4 - d.levels.pinned + fetched d.log.shape n ≤ 68
+    → IsKey k → Looks d old.pages k (Some p) → n ≡ min p.len size → most_looks d + fetched d.log.shape n ≤ 68
 few_of d old a k p n size is_key looks is =
     let short = (value_of d old a k p is_key looks).short in
     let most = few_fetched d.log.shape n (own d old a).index.logs.is_shape (omega (arith, is, short)) in
     omega (arith, most)
 
 module _ (d d' : Parts) (old new : BoardState) (r : Request) (v into : List ℕ) (a : DriveOnFlash d old.shape old.pages) (same : d' ≡ d) (passed : early 1 d.log.shape (command_of r []) ≡ None)
-    (few : old.reads ≤ last_count) (few' : new.reads ≤ last_count) where
+    (unheld : most_looks d + d.levels.pinned ≤ 4) (few : old.reads ≤ last_count) (few' : new.reads ≤ last_count) where
   shape : Shape
   shape = d.log.shape
 
@@ -305,22 +326,26 @@ module _ (d d' : Parts) (old new : BoardState) (r : Request) (v into : List ℕ)
   same_sight : (reply : Reply) (reads : ℕ) → Does old new (sight_of d) (sight_of d) (command_of r v) reply reads false → Does old new (sight_of d) (sight_of d') (command_of r v) reply reads false
   same_sight reply reads is = subst (λ x. Does old new (sight_of d) (sight_of x) (command_of r v) reply reads false) (sym same) is
 
-  pinned_is : d.levels.pinned ≡ pinned d.log.shape (frames_of d)
-  pinned_is = (own d old a).index.levels_pinned
+  -- the pinned levels are held
+  held_least : pinned d.log.shape (frames_of d) ≤ levels_held (sight_of d)
+  held_least = let same = (own d old a).index.levels_pinned in omega (arith, unheld, same)
 
   -- the step and the bound on the map of the drive
   abbrev Allowed : Reply → ℕ → Type 0
-  Allowed reply reads = Step d.log.shape (terms_of d) a.all (command_of r v) reply a.all × (op_of r.opcode ≡ Some Retrieve → reads ≤ most_reads d.log.shape (terms_of d) a.all (command_of r v))
+  Allowed reply reads =
+      Step d.log.shape (terms_of d) a.all (command_of r v) reply a.all × (op_of r.opcode ≡ Some Retrieve → reads ≤ most_unheld_reads d.log.shape (terms_of d) (sight_of d) a.all (command_of r v))
 
   on_all : (reply : Reply) (reads : ℕ) → Allowed reply reads → AnswersAll old (sight_of d) (command_of r v) reply reads
-  on_all reply reads here = for_its_map d old a (λ s f m. Step s f m (command_of r v) reply m × (op_of r.opcode ≡ Some Retrieve → reads ≤ most_reads s f m (command_of r v))) here
+  on_all reply reads here =
+      for_its_map d old a (λ s f m. Step s f m (command_of r v) reply m × ReadsWithin s f (sight_of d) m (command_of r v) reads)
+      (here.0, within_both d.log.shape (terms_of d) (sight_of d) a.all (command_of r v) reads held_least here.1)
 
   by_reads : (most reads : ℕ) (reply : Reply) → ReadsOnly old new most → reads ≡ new.reads - old.reads
       → reply.status ≢ 0x88 → Allowed reply reads → Does old new (sight_of d) (sight_of d') (command_of r v) reply reads false
   by_reads most reads reply made is sound here = same_sight reply reads (does_reads old new (sight_of d) (command_of r v) reply most reads few few' made is sound (on_all reply reads here))
 
   by_unread : (most reads : ℕ) → old.read_faults ≤ last_count → ReadsFailing old new most → reads ≡ new.reads - old.reads
-      → (op_of r.opcode ≡ Some Retrieve → reads ≤ most_reads d.log.shape (terms_of d) a.all (command_of r v))
+      → (op_of r.opcode ≡ Some Retrieve → reads ≤ most_unheld_reads d.log.shape (terms_of d) (sight_of d) a.all (command_of r v))
       → Does old new (sight_of d) (sight_of d') (command_of r v) (refusal 0x88) reads false
   by_unread most reads faults made is bound =
       same_sight (refusal 0x88) reads
@@ -329,54 +354,52 @@ module _ (d d' : Parts) (old new : BoardState) (r : Request) (v into : List ℕ)
 
   -- a lookup whose read failed
   pub unread_look : (o : Outcome) (reads : ℕ) → o ≡ record { status = 0x88; result = 0; data_len = 0; reads = reads; stopped = false } → old.read_faults ≤ last_count
-      → ReadsFailing old new (4 - d.levels.pinned) → reads ≡ new.reads - old.reads → Done o
+      → ReadsFailing old new (most_looks d) → reads ≡ new.reads - old.reads → Done o
   unread_look o reads told faults made is =
-      let least = most_least d.log.shape (frames_of d) a.all (command_of r v) passes in
+      let least = most_least d.log.shape (frames_of d) a.all (command_of r v) passes (sight_of d) in
       let within = made.within in
-      let p = pinned_is in
-      subst Done (sym told) (by_unread (4 - d.levels.pinned) reads faults made is (λ _. omega (arith, least, within, p, is)))
+      subst Done (sym told) (by_unread (most_looks d) reads faults made is (λ _. omega (arith, least, within, is)))
 
   pub exist_found : (o : Outcome) (reads : ℕ) (k : Key) (p : Place) → r.opcode ≡ 0x14 → k ≡ key (command_of r v) → Looks d old.pages k (Some p)
-      → o ≡ record { status = 0; result = 0; data_len = 0; reads = reads; stopped = false } → ReadsOnly old new (4 - d.levels.pinned) → reads ≡ new.reads - old.reads → Done o
+      → o ≡ record { status = 0; result = 0; data_len = 0; reads = reads; stopped = false } → ReadsOnly old new (most_looks d) → reads ≡ new.reads - old.reads → Done o
   exist_found o reads k p op named looks told made is =
       let there = (looked d old a k (Some p) looks).there in
       let here : get a.all (key (command_of r v)) ≡ Some there.0 = subst (λ q. get a.all q ≡ Some there.0) named there.2 in
-      subst Done (sym told) (by_reads (4 - d.levels.pinned) reads (success 0 []) made is ok_sound
+      subst Done (sym told) (by_reads (most_looks d) reads (success 0 []) made is ok_sound
       (exist_there d.log.shape (frames_of d) a.all (command_of r v) passes (whole_all d old a) there.0 op here, λ e. absurd (other_kind r.opcode op e)))
 
   pub exist_none : (o : Outcome) (reads : ℕ) (k : Key) → r.opcode ≡ 0x14 → k ≡ key (command_of r v) → Looks d old.pages k None
-      → o ≡ record { status = 0x87; result = 0; data_len = 0; reads = reads; stopped = false } → ReadsOnly old new (4 - d.levels.pinned) → reads ≡ new.reads - old.reads → Done o
+      → o ≡ record { status = 0x87; result = 0; data_len = 0; reads = reads; stopped = false } → ReadsOnly old new (most_looks d) → reads ≡ new.reads - old.reads → Done o
   exist_none o reads k op named looks told made is =
       let there = (looked d old a k None looks).there in
       let here : get a.all (key (command_of r v)) ≡ None = subst (λ q. get a.all q ≡ None) named there in
-      subst Done (sym told) (by_reads (4 - d.levels.pinned) reads (refusal 0x87) made is missing_sound
+      subst Done (sym told) (by_reads (most_looks d) reads (refusal 0x87) made is missing_sound
       (exist_missing d.log.shape (frames_of d) a.all (command_of r v) passes (whole_all d old a) op here, λ e. absurd (other_kind r.opcode op e)))
 
   pub retrieve_none : (o : Outcome) (reads : ℕ) (k : Key) → r.opcode ≡ 0x02 → k ≡ key (command_of r v) → Looks d old.pages k None
-      → o ≡ record { status = 0x87; result = 0; data_len = 0; reads = reads; stopped = false } → ReadsOnly old new (4 - d.levels.pinned) → reads ≡ new.reads - old.reads → Done o
+      → o ≡ record { status = 0x87; result = 0; data_len = 0; reads = reads; stopped = false } → ReadsOnly old new (most_looks d) → reads ≡ new.reads - old.reads → Done o
   retrieve_none o reads k op named looks told made is =
       let there = (looked d old a k None looks).there in
       let here : get a.all (key (command_of r v)) ≡ None = subst (λ q. get a.all q ≡ None) named there in
-      let least = most_least d.log.shape (frames_of d) a.all (command_of r v) passes in
+      let least = most_least d.log.shape (frames_of d) a.all (command_of r v) passes (sight_of d) in
       let within = made.within in
-      let p = pinned_is in
-      subst Done (sym told) (by_reads (4 - d.levels.pinned) reads (refusal 0x87) made is missing_sound
-      (retrieve_missing d.log.shape (frames_of d) a.all (command_of r v) passes (whole_all d old a) op here, λ _. omega (arith, least, within, p, is)))
+      subst Done (sym told) (by_reads (most_looks d) reads (refusal 0x87) made is missing_sound
+      (retrieve_missing d.log.shape (frames_of d) a.all (command_of r v) passes (whole_all d old a) op here, λ _. omega (arith, least, within, is)))
 
   -- how much may be read of the value that was found
   most_found : (k : Key) (p : Place) (n : ℕ) → IsKey k → k ≡ key (command_of r v) → Looks d old.pages k (Some p) → n ≡ min p.len r.size
-      → most_reads d.log.shape (terms_of d) a.all (command_of r v) ≡ 4 - d.levels.pinned + fetched d.log.shape n
+      → most_unheld_reads d.log.shape (terms_of d) (sight_of d) a.all (command_of r v) ≡ most_looks d + fetched d.log.shape n
   most_found k p n is_key named looks size =
       let there = value_of d old a k p is_key looks in
       let here : get a.all (key (command_of r v)) ≡ Some there.value = subst (λ q. get a.all q ≡ Some there.value) named there.is_there in
       let same_n : min (length there.value) r.size ≡ n = ap (λ x. min x r.size) there.size ∙ sym size in
-      most_there d.log.shape (frames_of d) a.all (command_of r v) passes there.value here ∙ (λ i. 4 - sym pinned_is i + fetched d.log.shape (same_n i))
+      most_there d.log.shape (frames_of d) a.all (command_of r v) passes (sight_of d) there.value here ∙ ap (λ k. most_looks d + fetched d.log.shape k) same_n
 
   pub retrieve_found : (o : Outcome) (reads : ℕ) (k : Key) (p : Place) (n : ℕ) → r.opcode ≡ 0x02 → IsKey k → k ≡ key (command_of r v) → Looks d old.pages k (Some p)
       → n ≡ min p.len r.size
       → ((q : Key) (w : List ℕ) → IsFront d.log.shape old.pages p.page n q w → take n into ≡ take n w)
       → o ≡ record { status = 0; result = p.len; data_len = n; reads = reads; stopped = false }
-      → ReadsOnly old new (4 - d.levels.pinned + fetched d.log.shape n) → reads ≡ new.reads - old.reads → Done o
+      → ReadsOnly old new (most_looks d + fetched d.log.shape n) → reads ≡ new.reads - old.reads → Done o
   retrieve_found o reads k p n op is_key named looks size filled told made is =
       let there = value_of d old a k p is_key looks in
       let here : get a.all (key (command_of r v)) ≡ Some there.value = subst (λ q. get a.all q ≡ Some there.value) named there.is_there in
@@ -386,13 +409,13 @@ module _ (d d' : Parts) (old new : BoardState) (r : Request) (v into : List ℕ)
       let bytes : take n into ≡ take r.size w = filled k w (there.front n long) ∙ (ap (λ (x : ℕ). take x w) n_is ∙ take_min r.size w) in
       let most = most_found k p n is_key named looks size in
       let within = made.within in
-      subst Done (sym told) (by_reads (4 - d.levels.pinned + fetched d.log.shape n) reads (success p.len (take n into)) made is ok_sound
+      subst Done (sym told) (by_reads (most_looks d + fetched d.log.shape n) reads (success p.len (take n into)) made is ok_sound
       (retrieve_there d.log.shape (frames_of d) a.all (command_of r v) passes (whole_all d old a) w (take n into) p.len op here there.size bytes, λ _. omega (arith, most, within, is)))
 
   pub unread_value : (o : Outcome) (reads : ℕ) (k : Key) (p : Place) (n : ℕ) → IsKey k → k ≡ key (command_of r v) → Looks d old.pages k (Some p) → n ≡ min p.len r.size
       → o ≡ record { status = 0x88; result = 0; data_len = 0; reads = reads; stopped = false } → old.read_faults ≤ last_count
-      → ReadsFailing old new (4 - d.levels.pinned + fetched d.log.shape n) → reads ≡ new.reads - old.reads → Done o
+      → ReadsFailing old new (most_looks d + fetched d.log.shape n) → reads ≡ new.reads - old.reads → Done o
   unread_value o reads k p n is_key named looks size told faults made is =
       let most = most_found k p n is_key named looks size in
       let within = made.within in
-      subst Done (sym told) (by_unread (4 - d.levels.pinned + fetched d.log.shape n) reads faults made is (λ _. omega (arith, most, within, is)))
+      subst Done (sym told) (by_unread (most_looks d + fetched d.log.shape n) reads faults made is (λ _. omega (arith, most, within, is)))

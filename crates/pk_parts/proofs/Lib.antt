@@ -11,3 +11,4 @@ pub mod Unchanging
 pub mod Opening
 pub mod Sights
 pub mod Staying
+pub mod Holding

@@ -125,14 +125,14 @@ less_reads old new n k less r = record { board = r.board; few = r.few; up = r.up
 less_failing : (old new : BoardState) (n k : ℕ) → n ≤ k → ReadsFailing old new n → ReadsFailing old new k
 less_failing old new n k less r = record { board = r.board; few = r.few; up = r.up; within = (let w = r.within in omega (arith, less, w)); rose = r.rose; flash = r.flash }
 
-pub looked_reads : {X Y : Type 0} (r : Result X Y) (old new : BoardState) (n p : ℕ) → old.reads ≤ last_count → n + p ≤ 4 → OnOk r (ReadsUpTo n old new) → OnOk r (ReadsOnly old new (4 - p))
-looked_reads (Ok x) old new n p few least (k, most, made) = less_reads old new (0 + k) (4 - p) (omega (arith, most, least)) (reads_more old old new 0 k (reads_none old few) made)
-looked_reads (Err y) old new n p few least made = tt
+pub looked_reads : {X Y : Type 0} (r : Result X Y) (old new : BoardState) (n most : ℕ) → old.reads ≤ last_count → n ≤ most → OnOk r (ReadsUpTo n old new) → OnOk r (ReadsOnly old new most)
+looked_reads (Ok x) old new n most few least (k, within, made) = less_reads old new (0 + k) most (omega (arith, within, least)) (reads_more old old new 0 k (reads_none old few) made)
+looked_reads (Err y) old new n most few least made = tt
 
-pub looked_failing : {X Y : Type 0} (r : Result X Y) (old new : BoardState) (n p : ℕ) → old.reads ≤ last_count
-    → n + p ≤ 4 → OnErr r (ReadFailsWithin n old new) → OnErr r (ReadsFailing old new (4 - p))
-looked_failing (Ok x) old new n p few least made = tt
-looked_failing (Err y) old new n p few least (k, at, less, failed) = less_failing old new (0 + n) (4 - p) (omega (arith, least)) (reads_break old old new 0 k n at (reads_none old few) less failed)
+pub looked_failing : {X Y : Type 0} (r : Result X Y) (old new : BoardState) (n most : ℕ) → old.reads ≤ last_count
+    → n ≤ most → OnErr r (ReadFailsWithin n old new) → OnErr r (ReadsFailing old new most)
+looked_failing (Ok x) old new n most few least made = tt
+looked_failing (Err y) old new n most few least (k, at, less, failed) = less_failing old new (0 + n) most (omega (arith, least)) (reads_break old old new 0 k n at (reads_none old few) less failed)
 
 -- ---- the answers of commands that look a key up
 

@@ -1,9 +1,10 @@
 -- What a drive keeps in memory, and what contracts see of it.
-use Rattle.std.specs.Prelude.{ℕ, ◌-◌, Bool, true, List, [], ◌∷◌, length, sum, count_by, Option, Some, None, ◌==◌, ◌&&◌, not, if◌then◌else◌, ◌||◌, false}
+use Rattle.std.specs.Prelude.{ℕ, ◌-◌, Bool, true, List, [], ◌∷◌, length, map, sum, count_by, Option, Some, None, ◌==◌, ◌&&◌, not, if◌then◌else◌, ◌||◌, false}
 use Rattle.pk_base.specs.Shape.{Shape, charge, limit, data_blocks, most_pages}
 use Rattle.pk_plan.specs.declared.owner.Owner.TheVariants.{Values}
 use Rattle.pk_pin.specs.Frames.{Frames, leased_frames}
 use Rattle.pk_pool.specs.Blocks.{Blocks, IsShared, is_ready, used_by, freed}
+use Rattle.pk_run.specs.Kept.{is_pinned}
 use Rattle.pk_level.specs.Levels.{Levels, IsLevels, run_of}
 use Rattle.pk_model.specs.Spaces.{Terms, one_space, limit_of}
 use Rattle.pk_space.specs.Uses.{Use, space_live, space_keys}
@@ -107,6 +108,14 @@ counts_of d = record {
   merge = merging d.schedule.phase;
 }
 
+-- of each level whether all its pages are in frames
+abbrev pub held_by : Parts → List Bool
+held_by d = map is_pinned d.levels.runs
+
+-- most reads of a lookup: a page of each level that has pages without a frame
+abbrev pub most_looks : Parts → ℕ
+most_looks d = 4 - count_by (λ held. held) (held_by d)
+
 -- how many pages a value takes
 abbrev pub pages_for : Parts → List ℕ → ℕ
 pages_for d value = charge d.log.shape (length value)
@@ -161,6 +170,7 @@ sight_of d = record {
   reclaims = runs_in d.reclaim.phase;
   fresh = d.log.epoch.takes_more;
   half = is_half d;
+  held = held_by d;
   work = work d.log.shape (backlog_of d);
 }
 

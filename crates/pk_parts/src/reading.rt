@@ -1,11 +1,12 @@
 //! Reads: where the value of a key is, and a prefix of it.
-ghost use Rattle.std.specs.Prelude.{◌≡◌, ◌≤◌, ◌-◌, ℕ, List, length, take, Option, IfOk, OnOk, OnErr};
+ghost use Rattle.std.specs.Prelude.{◌≡◌, ◌≤◌, ◌+◌, ℕ, List, length, take, Option, IfOk, OnOk, OnErr};
 ghost use Rattle.pk_base.specs.Shape.{fetched};
 ghost use Rattle.pk_nand.specs.Calls.{IsReady, last_count};
 ghost use Rattle.pk_nand.specs.Counts.{after_reads};
 ghost use Rattle.pk_seg.specs.Stored.{IsFront};
 ghost use Rattle.pk_seg.specs.Counts.{ReadsFailed};
 ghost use Rattle.pk_parts.specs.Agreeing.{DriveOnFlash};
+ghost use Rattle.pk_parts.specs.Parts.{most_looks};
 ghost use Rattle.pk_parts.specs.Quiet.{ReadsOnly, ReadsFailing, Looks};
 
 use crate::parts::Parts;
@@ -17,7 +18,8 @@ use pk_region::Region;
 use pk_seg::read_value;
 
 impl<A: Region> Parts<A> {
-    /// Where the value of a key is, by at most four reads.
+    /// Where the value of a key is, by at most one read of each level that has pages without a
+    /// frame.
     pub fn look<B: Nand>(&mut self, board: &mut B, key: &Key) -> Result<Option<Place>, Fault>
         // The drive and the board.
         requires agrees { DriveOnFlash self.old (B.state board.old).shape
@@ -28,9 +30,12 @@ impl<A: Region> Parts<A> {
         // The place, and the pages that were read for it.
         ensures looks { IfOk result (λ p. Looks self.old (B.state board.old).pages key.now p) }
         ensures reads { OnOk result (ReadsOnly (B.state board.old) (B.state board.new)
-            (4 - self.old.levels.pinned)) }
+            (most_looks self.old)) }
         ensures failing { OnErr result (ReadsFailing (B.state board.old) (B.state board.new)
-            (4 - self.old.levels.pinned)) }
+            (most_looks self.old)) }
+
+        // A level that is pinned has no page without a frame.
+        ensures few { most_looks self.old + self.old.levels.pinned ≤ 4 }
 
         // What is unchanged.
         ensures same { self.new ≡ self.old }

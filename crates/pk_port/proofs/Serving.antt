@@ -73,7 +73,7 @@ module _ (agrees : Option Shape → Flash → Type 0) (shape : Shape) (old : Boa
     -- ---- a command that was served
 
     module _ (rep : Reply) (reads : ℕ) (submits : Submits old new d e c rep reads) where
-      abbrev done : Submitted shape (mount old d).terms old new e ready.map c rep reads
+      abbrev done : Submitted shape (mount old d).terms old new d e ready.map c rep reads
       done = submits shape (mount old d).terms ready.map ready.stands ready.none
 
       -- the frames and the limits are the same

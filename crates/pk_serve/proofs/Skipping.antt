@@ -88,12 +88,13 @@ module _ (old new : BoardState) (before after : Sight) (c : Command) (v : List �
 
   pub stands_value : (rep : Reply) (reads : ℕ) → ExecStands old new before after c rep reads → ExecStands old new before after (record c { value = v }) rep reads
   stands_value rep reads h shape terms m s = elim is [
-    | inl same ↦ (let T : List ℕ → Type 0 = λ x. Executed shape terms new after m (record c { value = x }) rep reads in subst T (sym same) (h shape terms m s))
+    | inl same ↦ (let T : List ℕ → Type 0 = λ x. Executed shape terms before new after m (record c { value = x }) rep reads in subst T (sym same) (h shape terms m s))
     | inr large ↦ (let r = refused_both (length terms.limits) shape s.shape_is large in let x = h shape terms m s in record {
       left = x.left;
       stepped = step_too shape terms c (record c { value = v }) r.0 r.1 r.2 m rep x.left x.stepped;
       stands = x.stands;
       bounded = λ k. absurd (no_retrieve c.opcode large.0 k);
+      held_bounded = λ k. absurd (no_retrieve c.opcode large.0 k);
     })
   ]
 

@@ -89,6 +89,7 @@ module _ (a b f : BoardState) (d e : Sight) (c : Command) (r : Reply) (reads : â
         left = x.left;
         stepped = x.stepped;
         bounded = x.bounded;
+        held_bounded = x.held_bounded;
         stands = y;
         holds = subst M done y.map_is;
         reached = Reaches-then shape g.0 a b (StepCut shape terms.limits m c) s.shape_is g.1 g.2 f (CrashFinds shape commit b.pages x.left) (second shape terms m s none) w;

@@ -19,7 +19,7 @@ use Rattle.pk_model.specs.Reading.{Holds}
 use Rattle.pk_call.specs.Sight.{Sight}
 use Rattle.pk_model.specs.Wear.{roots}
 use Rattle.pk_call.specs.Drive.{HoldsMap}
-use Rattle.pk_call.specs.Exec.{most_installs}
+use Rattle.pk_call.specs.Exec.{most_installs, most_unheld_reads}
 use Rattle.pk_call.specs.Meter.{reads_after}
 use Rattle.pk_call.specs.declared.types.Outcome.{Outcome}
 use Rattle.pk_model.specs.Growth.{Reaches, Goes}
@@ -30,17 +30,18 @@ abbrev pub StepCut : Shape → List ℕ → Map → Command → Flash → List �
 StepCut shape limits m c flash posted = (posted ≡ []) × (Holds shape flash m ⊎ Holds shape flash (map_after shape limits m c))
 
 -- a command that was answered, with this many pages read for it
-pub record Submitted (shape : Shape) (terms : Terms) (old new : BoardState) (after : Sight) (m : Map) (c : Command) (reply : Reply) (reads : ℕ) : Type 0 where
+pub record Submitted (shape : Shape) (terms : Terms) (old new : BoardState) (before after : Sight) (m : Map) (c : Command) (reply : Reply) (reads : ℕ) : Type 0 where
   pub left : Map
   pub stepped : Step shape terms m c reply left
   pub bounded : op_of c.opcode ≡ Some Retrieve → reads ≤ most_reads shape terms m c
+  pub held_bounded : op_of c.opcode ≡ Some Retrieve → reads ≤ most_unheld_reads shape terms before m c
   pub stands : HoldsMap shape terms new after left
   pub holds : Holds shape new.pages left
   pub reached : Reaches shape old new (StepCut shape terms.limits m c)
 
 abbrev pub Submits : BoardState → BoardState → Sight → Sight → Command → Reply → ℕ → Type 0
 Submits old new before after c reply reads =
-    (shape : Shape) (terms : Terms) (m : Map) → HoldsMap shape terms old before m → before.pending ≡ [] → Submitted shape terms old new after m c reply reads
+    (shape : Shape) (terms : Terms) (m : Map) → HoldsMap shape terms old before m → before.pending ≡ [] → Submitted shape terms old new before after m c reply reads
 
 -- a command that stopped the drive
 abbrev pub SubmitStops : BoardState → BoardState → Sight → Command → Type 0

@@ -22,6 +22,8 @@ mod freezes;
 #[cfg(test)]
 mod halves;
 #[cfg(test)]
+mod held;
+#[cfg(test)]
 mod image;
 #[cfg(test)]
 mod layered;

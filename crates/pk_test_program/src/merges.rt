@@ -43,8 +43,8 @@ fn number_at(rt: &impl Abort, posted: &[u8], at: usize) -> u32 {
     get_u32(posted, at)
 }
 
-// The sixteen numbers of the Report whose record ends this many bytes before the end.
-fn numbers(rt: &impl Abort, posted: &[u8], behind: usize) -> [u32; 16] {
+/// The sixteen numbers of the Report whose record ends this many bytes before the end.
+pub fn numbers(rt: &impl Abort, posted: &[u8], behind: usize) -> [u32; 16] {
     let start = posted
         .len()
         .checked_sub(behind.saturating_add(64))
@@ -64,11 +64,13 @@ const ABC: Value = Value {
     len: 3,
 };
 
-// What is asked of a made drive.
+/// What is asked of a made drive.
 #[derive(Clone, Copy)]
-enum Step {
+pub enum Step {
     // Stores of n keys of two bytes, of two pages each.
     Stores(u16),
+    // The first of these numbers of Stores, of the second of these numbers of keys by turns.
+    StoresOf(u16, u16),
     // With a buffer of 10 bytes.
     Retrieve(u16),
     Tick(u32),
@@ -79,7 +81,8 @@ enum Step {
 // Adds what is asked by a step.
 fn add_step(rt: &impl Abort, into: &mut Vec<u8>, step: &Step) {
     match step {
-        Step::Stores(count) => add_stores(rt, into, *count),
+        Step::Stores(count) => add_stores(rt, into, *count, *count),
+        Step::StoresOf(count, keys) => add_stores(rt, into, *count, *keys),
         Step::Retrieve(key) => add(rt, into, &entry(2, RETRIEVE, key_of(*key), 2, 10)),
         Step::Tick(steps) => add(rt, into, &entry(1, TICK, [0, 0], 0, *steps)),
         Step::List => add(rt, into, &entry(1, LIST, [0, 0], 0, 65536)),
@@ -87,9 +90,10 @@ fn add_step(rt: &impl Abort, into: &mut Vec<u8>, step: &Step) {
     }
 }
 
-fn add_stores(rt: &impl Abort, into: &mut Vec<u8>, count: u16) {
+fn add_stores(rt: &impl Abort, into: &mut Vec<u8>, count: u16, keys: u16) {
     for i in 0..count {
-        add(rt, into, &entry(i, STORE, key_of(i), 2, ABC.len));
+        let key = key_of(i.checked_rem(keys).unwrap_or(i));
+        add(rt, into, &entry(i, STORE, key, 2, ABC.len));
         push_value(into, &ABC).expect(rt, "memory");
     }
 }
@@ -102,13 +106,14 @@ fn script_of(rt: &impl Abort, alloc: Global, steps: &[Step]) -> Vec<u8> {
     script
 }
 
-// The bytes of a Report's record and of a Retrieve's.
-const REPORT_BYTES: usize = 24 + 64;
+/// The bytes of a Report's record.
+pub const REPORT_BYTES: usize = 24 + 64;
 
-const FOUND_BYTES: usize = 24 + 3;
+/// The bytes of a Retrieve's record.
+pub const FOUND_BYTES: usize = 24 + 3;
 
-// How many pages the Retrieve read whose record ends this many bytes before the end.
-fn reads_of(rt: &impl Abort, posted: &[u8], behind: usize) -> u32 {
+/// How many pages the Retrieve read whose record ends this many bytes before the end.
+pub fn reads_of(rt: &impl Abort, posted: &[u8], behind: usize) -> u32 {
     let start = posted
         .len()
         .checked_sub(behind.saturating_add(FOUND_BYTES))
@@ -121,8 +126,8 @@ fn check_one_read(rt: &impl Abort, posted: &[u8], behind: usize) {
     same(rt, u64::from(reads_of(rt, posted, behind)), 1, "reads");
 }
 
-// These pages after a session with this many frames, which has to end well.
-fn behind_pages(
+/// These pages after a session with this many frames, which has to end well.
+pub fn behind_pages(
     rt: &impl Abort,
     alloc: Global,
     pages: Vec<PageState>,

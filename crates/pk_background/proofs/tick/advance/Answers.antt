@@ -44,3 +44,18 @@ reclaim_step-requires-clause-whole g c = sym c.is_half.ensures ∙ c.if-is_half.
 
 pub erase_step-requires-clause-whole : goal.erase_step-requires-clause-whole
 erase_step-requires-clause-whole g c = sym c.is_half.ensures ∙ c.if-is_half.false
+
+-- ---- whether a page lacks a frame
+
+pub fill_step-requires-clause-merged : goal.fill_step-requires-clause-merged
+fill_step-requires-clause-merged g c =
+    ap (λ (d : Parts). has_no_merge (index_of d)) (sym c.parts.view_is) ∙ (sym (c.has_no_merge.ensures c.parts.inside.levels c.parts.inside.arena c.parts.inside.pool) ∙ c.if-not-has_no_merge.false)
+
+pub fill_step-requires-clause-whole : goal.fill_step-requires-clause-whole
+fill_step-requires-clause-whole g c = sym c.is_half.ensures ∙ c.if-is_half.false
+
+pub fill_step-requires-clause-unfilled : goal.fill_step-requires-clause-unfilled
+fill_step-requires-clause-unfilled g c = sym c.lacks_frames.ensures ∙ c.if-lacks_frames.true
+
+pub erase_step-requires-clause-filled : goal.erase_step-requires-clause-filled
+erase_step-requires-clause-filled g c = sym c.lacks_frames.ensures ∙ c.if-lacks_frames.false

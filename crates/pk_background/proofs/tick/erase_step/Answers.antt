@@ -21,7 +21,7 @@ returns-in-Ok-false g c =
     let none = none_erased c.args.parts.now c.erase_spare.new.parts (g.B.Nand.state c.args.board.now)
     (g.B.Nand.state c.erase_spare.new.board) c.in-Ok-false.field-0 c.in-Ok-false.ensures.erased c.in-Ok-false.field-0-test in
     idle_advances c.args.parts.now (g.B.Nand.state c.args.board.now)
-    (g.B.Nand.state c.erase_spare.new.board) c.requires.may c.requires.whole c.erase_spare.new.parts none c.in-Ok-false.ensures.rest c.requires.merged c.requires.frozen c.requires.reclaimed
+    (g.B.Nand.state c.erase_spare.new.board) c.requires.may c.requires.whole c.erase_spare.new.parts none c.in-Ok-false.ensures.rest c.requires.merged c.requires.frozen c.requires.reclaimed c.requires.filled
 
 pub returns-in-Err : goal.returns-in-Err
 returns-in-Err g c =

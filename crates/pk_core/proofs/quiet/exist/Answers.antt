@@ -1,5 +1,6 @@
 use Rattle.std.proofs.Common.{ap, ◌≤◌, arith, subst, ◌-◌}
 use Rattle.pk_nand.specs.Calls.{last_count}
+use Rattle.pk_parts.specs.Parts.{most_looks}
 use Rattle.pk_parts.specs.Quiet.{Looks}
 use Rattle.pk_core.proofs.Unchanging.{exist_found, exist_none}
 use Rattle.pk_nvme.specs.Seen.{command_of}
@@ -7,7 +8,7 @@ use Rattle.pk_call.specs.declared.types.Outcome.{Outcome}
 use Rattle.pk_core.proofs.Executing.{executes_quiet, same_but_walk}
 use Rattle.pk_core.proofs.LookedUp.{executes_unread}
 use Rattle.pk_core.proofs.Sights.{only_reads, only_failing}
-use Rattle.pk_core.proofs.Callings.{few_looked, few_failed, four_less}
+use Rattle.pk_core.proofs.Callings.{few_looked, few_failed, looks_less}
 use Rattle.pk_core.proofs.quiet.exist.Goals as goal
 
 pub returns-in-Ok-Some-clause-executes : goal.returns-in-Ok-Some-clause-executes
@@ -18,7 +19,7 @@ returns-in-Ok-Some-clause-executes g c = λ v into.
     executes_quiet c.args.parts.now c.look.new.self (g.B.Nand.state c.args.board.now) (g.B.Nand.state c.look.new.board) c.args.request.now
     (command_of c.args.request.now v) c.served.result into _ c.requires.servable c.look.ensures.same c.look.ensures.pages (ap (λ (o : Outcome). o.stopped) c.served.ensures)
     (exist_found c.args.parts.now c.look.new.self old
-    (g.B.Nand.state c.look.new.board) c.args.request.now v into c.requires.servable.agrees c.look.ensures.same c.requires.servable.passed few c.reads_since.ensures.count
+    (g.B.Nand.state c.look.new.board) c.args.request.now v into c.requires.servable.agrees c.look.ensures.same c.requires.servable.passed c.look.ensures.few few c.reads_since.ensures.count
     c.served.result c.reads_since.result c.key-key.result c.in-Ok-Some.field-0-0 c.requires.opcode c.key-key.ensures looks c.served.ensures c.in-Ok-Some.ensures.reads
     (omega (arith, c.reads_since.ensures.reads, c.read_count-before.ensures.value)))
 
@@ -30,33 +31,33 @@ returns-in-Ok-None-clause-executes g c = λ v into.
     executes_quiet c.args.parts.now c.look.new.self (g.B.Nand.state c.args.board.now) (g.B.Nand.state c.look.new.board) c.args.request.now
     (command_of c.args.request.now v) c.refusal.result into _ c.requires.servable c.look.ensures.same c.look.ensures.pages (ap (λ (o : Outcome). o.stopped) c.refusal.ensures)
     (exist_none c.args.parts.now c.look.new.self old
-    (g.B.Nand.state c.look.new.board) c.args.request.now v into c.requires.servable.agrees c.look.ensures.same c.requires.servable.passed few c.reads_since-in-Ok-None.ensures.count
+    (g.B.Nand.state c.look.new.board) c.args.request.now v into c.requires.servable.agrees c.look.ensures.same c.requires.servable.passed c.look.ensures.few few c.reads_since-in-Ok-None.ensures.count
     c.refusal.result c.reads_since-in-Ok-None.result c.key-key.result c.requires.opcode c.key-key.ensures looks c.refusal.ensures c.in-Ok-None.ensures.reads
     (omega (arith, c.reads_since-in-Ok-None.ensures.reads, c.read_count-before.ensures.value)))
 
 pub returns-in-Err-clause-executes : goal.returns-in-Err-clause-executes
 returns-in-Err-clause-executes g c = λ v into.
     executes_unread c.args.parts.now c.look.new.self (g.B.Nand.state c.args.board.now)
-    (g.B.Nand.state c.look.new.board) c.args.request.now v into c.refusal-in-Err.result c.reads_since-in-Err.result c.requires.servable c.look.ensures.same
+    (g.B.Nand.state c.look.new.board) c.args.request.now v into c.refusal-in-Err.result c.reads_since-in-Err.result c.requires.servable c.look.ensures.same c.look.ensures.few
     c.refusal-in-Err.ensures c.read_count-before.ensures.faults c.in-Err.ensures.failing (omega (arith, c.reads_since-in-Err.ensures.reads, c.read_count-before.ensures.value))
 
 pub returns-in-Ok-Some-clause-only : goal.returns-in-Ok-Some-clause-only
 returns-in-Ok-Some-clause-only g c = record {
   same = same_but_walk _ _ (c.look.ensures.same);
   rest = only_reads _ _ _ c.in-Ok-Some.ensures.reads;
-  few = few_looked c.args.parts.now _ _ c.requires.servable.agrees (4 - c.args.parts.now.levels.pinned) (four_less c.args.parts.now.levels.pinned) c.in-Ok-Some.ensures.reads;
+  few = few_looked c.args.parts.now _ _ c.requires.servable.agrees (most_looks c.args.parts.now) (looks_less c.args.parts.now) c.in-Ok-Some.ensures.reads;
 }
 
 pub returns-in-Ok-None-clause-only : goal.returns-in-Ok-None-clause-only
 returns-in-Ok-None-clause-only g c = record {
   same = same_but_walk _ _ (c.look.ensures.same);
   rest = only_reads _ _ _ c.in-Ok-None.ensures.reads;
-  few = few_looked c.args.parts.now _ _ c.requires.servable.agrees (4 - c.args.parts.now.levels.pinned) (four_less c.args.parts.now.levels.pinned) c.in-Ok-None.ensures.reads;
+  few = few_looked c.args.parts.now _ _ c.requires.servable.agrees (most_looks c.args.parts.now) (looks_less c.args.parts.now) c.in-Ok-None.ensures.reads;
 }
 
 pub returns-in-Err-clause-only : goal.returns-in-Err-clause-only
 returns-in-Err-clause-only g c = record {
   same = same_but_walk _ _ (c.look.ensures.same);
   rest = only_failing _ _ _ c.in-Err.ensures.failing;
-  few = few_failed c.args.parts.now _ _ c.requires.servable.agrees (4 - c.args.parts.now.levels.pinned) (four_less c.args.parts.now.levels.pinned) c.in-Err.ensures.failing;
+  few = few_failed c.args.parts.now _ _ c.requires.servable.agrees (most_looks c.args.parts.now) (looks_less c.args.parts.now) c.in-Err.ensures.failing;
 }

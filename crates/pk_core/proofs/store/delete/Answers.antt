@@ -26,7 +26,7 @@ returns-in-Ok-clause-executes g c = λ v into.
 pub returns-in-Err-clause-executes : goal.returns-in-Err-clause-executes
 returns-in-Err-clause-executes g c = λ v into.
     executes_unread c.args.parts.now c.look.new.self (g.B.Nand.state c.args.board.now)
-    (g.B.Nand.state c.look.new.board) c.args.request.now v into c.refusal.result c.reads_since.result c.requires.servable c.look.ensures.same c.refusal.ensures
+    (g.B.Nand.state c.look.new.board) c.args.request.now v into c.refusal.result c.reads_since.result c.requires.servable c.look.ensures.same c.look.ensures.few c.refusal.ensures
     c.read_count-before.ensures.faults c.in-Err.ensures.failing (omega (arith, c.reads_since.ensures.reads, c.read_count-before.ensures.value))
 
 pub returns-in-Ok-clause-moves : goal.returns-in-Ok-clause-moves
@@ -44,7 +44,7 @@ returns-in-Ok-clause-quiet g c = λ zero whole none.
     let same = reads_behind c.args.parts.now c.look.new.self mid new c.key-key.result _ c.look.ensures.same c.key-key.ensures (e.deletes.quiet zero there) none in
     quiet_delete_behind c.args.parts.now c.look.new.self
     (g.B.Nand.state c.args.board.now) mid new c.key-key.result _ c.delete_at.result.reads c.look.ensures.same c.in-Ok.ensures.reads c.key-key.ensures (e.deletes.programs zero)
-    (omega (arith, e.told.0, same, c.read_count-before.ensures.value, c.in-Ok.ensures.reads.within)) whole none
+    (omega (arith, e.told.0, same, c.read_count-before.ensures.value, c.in-Ok.ensures.reads.within, c.look.ensures.few)) whole none
 
 pub returns-in-Err-clause-quiet : goal.returns-in-Err-clause-quiet
 returns-in-Err-clause-quiet g c = λ zero. absurd (told_refused c.refusal.result 0x88 0 0 c.reads_since.result false c.refusal.ensures (λ e. omega (arith, e)) zero)

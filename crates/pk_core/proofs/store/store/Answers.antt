@@ -28,7 +28,7 @@ returns-in-Ok-clause-executes g c = λ into.
 pub returns-in-Err-clause-executes : goal.returns-in-Err-clause-executes
 returns-in-Err-clause-executes g c = λ into.
     executes_unread c.args.parts.now c.look.new.self (g.B.Nand.state c.args.board.now)
-    (g.B.Nand.state c.look.new.board) c.args.request.now c.args.value.now into c.refusal.result c.reads_since.result c.requires.servable c.look.ensures.same c.refusal.ensures
+    (g.B.Nand.state c.look.new.board) c.args.request.now c.args.value.now into c.refusal.result c.reads_since.result c.requires.servable c.look.ensures.same c.look.ensures.few c.refusal.ensures
     c.read_count-before.ensures.faults c.in-Err.ensures.failing (omega (arith, c.reads_since.ensures.reads, c.read_count-before.ensures.value))
 
 pub returns-in-Ok-clause-opens : goal.returns-in-Ok-clause-opens
@@ -54,7 +54,7 @@ returns-in-Ok-clause-quiet g c = λ zero whole none room.
     quiet_store_behind c.args.parts.now c.look.new.self
     (g.B.Nand.state c.args.board.now) mid new c.args.request.now.size c.key-key.result _ c.store_over.result.reads c.look.ensures.same c.in-Ok.ensures.reads c.key-key.ensures
     (e.stores.programs zero)
-    (omega (arith, e.told.0, same, c.read_count-before.ensures.value, c.in-Ok.ensures.reads.within)) whole none room
+    (omega (arith, e.told.0, same, c.read_count-before.ensures.value, c.in-Ok.ensures.reads.within, c.look.ensures.few)) whole none room
 
 pub returns-in-Err-clause-quiet : goal.returns-in-Err-clause-quiet
 returns-in-Err-clause-quiet g c = λ zero. absurd (told_refused c.refusal.result 0x88 0 0 c.reads_since.result false c.refusal.ensures (λ e. omega (arith, e)) zero)

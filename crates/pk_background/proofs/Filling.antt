@@ -1,0 +1,240 @@
+-- A background step that reads a page into a frame.
+use Rattle.std.proofs.Common.{◌≡◌, inl, ℕ, suc, ◌+◌, ◌-◌, ◌<◌, ◌≤◌, refl, sym, ap, subst, ◌∙◌, arith, Bool, true, false, if◌then◌else◌, nat_le, List, [], ◌∷◌, ◌++◌, length, length-set, map, sum, slice_get, slice_set, Some, Ok}
+use Rattle.std.specs.Prelude.{slice_index_or}
+use Rattle.std.specs.List.{AllByRecursion}
+use Rattle.std.proofs.lemmas.Option.{slice_get-get_or}
+use Rattle.pk_base.specs.Shape.{Shape, cap, caps}
+use Rattle.pk_base.specs.Page.{Flash, page_at}
+use Rattle.pk_base.specs.Entry.{Entry}
+use Rattle.pk_rootfmt.specs.Root.{Root}
+use Rattle.pk_nand.specs.BoardState.{BoardState}
+use Rattle.pk_nand.specs.Calls.{IsReady}
+use Rattle.pk_nand.specs.Effects.{AtMostOneCall, OnlyFlash, OnlyReading, made_read}
+use Rattle.pk_nand.specs.Operations.{ReadFailed, after_read}
+use Rattle.pk_nand.proofs.Reaching.{Reached-start}
+use Rattle.pk_pin.specs.Frames.{Frames, filled, leased}
+use Rattle.pk_run.specs.Kept.{Kept, IsKept, empty}
+use Rattle.pk_level.specs.Levels.{Levels, IsLevels, IsOfLevel, AreOfLevels, HaveBlocks, RunsOnFlash, run_of, with_run}
+use Rattle.pk_level.specs.Arenas.{FillsOne, HasArena, unfilled, unfilled_from}
+use Rattle.pk_level.proofs.Filling.{framed_blocks, framed_counts}
+use Rattle.pk_model.specs.Found.{Found}
+use Rattle.pk_model.specs.Crashes.{CrashFinds, background}
+use Rattle.pk_model.specs.Reading.{reading}
+use Rattle.pk_model.specs.Wear.{roots}
+use Rattle.pk_law_work.specs.Backlog.{Backlog}
+use Rattle.pk_law_work.specs.Work.{work}
+use Rattle.pk_law_work.proofs.Lowering.{fills}
+use Rattle.pk_schedule.specs.declared.phase.Phase.{Phase}
+use Rattle.pk_schedule.specs.declared.phase.Phase.TheVariants.{Idle as NoMerge, Running, Ready}
+use Rattle.pk_schedule.specs.Index.{Index, IndexOnFlash, MergeStands, merging, output}
+use Rattle.pk_schedule.specs.Steps.{backlog_of as backlog_of_index, has_no_merge, is_between, merge_left}
+use Rattle.pk_schedule.proofs.Backlogs.{four}
+use Rattle.pk_schedule.proofs.Keeping.{idle_leases}
+use Rattle.pk_call.specs.declared.types.Ticked.TheVariants.{Worked, Fault}
+use Rattle.pk_parts.specs.Parts.{Parts, backlog_of, frames_of, index_of, is_half, sight_of}
+use Rattle.pk_parts.specs.Agreeing.{DriveOnFlashWith}
+use Rattle.pk_parts.specs.Moves.{StandsFor}
+use Rattle.pk_parts.specs.Staying.{Stays}
+use Rattle.pk_parts.proofs.Halves.{between, whole_like}
+use Rattle.pk_parts.proofs.Holding.{last_few, last_seen}
+use Rattle.pk_parts.proofs.Standing.{reads_as}
+use Rattle.pk_parts.proofs.Staying.{stays_frees, stays_same}
+use Rattle.pk_parts.proofs.Unchanging.{agrees_ready}
+use Rattle.pk_background.specs.Filling.{FillsSpare, lacks_frames}
+use Rattle.pk_background.specs.Ticking.{MayTick, Advances}
+use Rattle.pk_background.proofs.Ticking.{between_merges, busy_unfilled, no_merge_is, yes_no}
+use Rattle.pk_background.proofs.TickSteps.{its_whole, made_advances, read_grows, unread_advances}
+use Rattle.pk_base.proofs.Logic.{not_both}
+
+-- ---- of a drive in which no merge runs
+
+merge_still : (p : Phase) (x : Index) (ls : Levels) (fr : Frames) (flash : Flash) (root : Root) (found : Found) → is_between p ≡ true → MergeStands p x flash root found
+    → MergeStands p (record x { levels = ls; arena = fr }) flash root found
+merge_still NoMerge x ls fr flash root found e stands = stands
+merge_still (Running level) x ls fr flash root found e stands = absurd (yes_no (is_between (Running level)) refl e)
+merge_still (Ready level) x ls fr flash root found e stands = absurd (yes_no (is_between (Ready level)) refl e)
+
+left_still : (p : Phase) (x : Index) (ls : Levels) (fr : Frames) → is_between p ≡ true → merge_left p (record x { levels = ls; arena = fr }) ≡ merge_left p x
+left_still NoMerge x ls fr e = refl
+left_still (Running level) x ls fr e = absurd (yes_no (is_between (Running level)) refl e)
+left_still (Ready level) x ls fr e = absurd (yes_no (is_between (Ready level)) refl e)
+
+-- ---- how many pages may lack a frame
+
+at_most : (b : Bool) (x y : ℕ) → (if b then x - y else 0) ≤ x
+at_most true x y = omega arith
+at_most false x y = omega arith
+
+run_few : (shape : Shape) (k level : ℕ) (r : Kept) → IsOfLevel shape k level r → IsKept r → length r.firsts ≤ cap shape level
+run_few shape k level r is kept = subst (λ (l : ℕ). length r.firsts ≤ cap shape l) is.same_level (subst (λ (s : Shape). length r.firsts ≤ cap s r.level) is.same_shape kept.pages)
+
+unfilled_few : (shape : Shape) (k last : ℕ) (rs : List Kept) → length rs ≡ 4 → AreOfLevels shape k 1 rs → AllByRecursion IsKept rs → unfilled_from last 1 rs ≤ sum (caps shape)
+unfilled_few shape k last [] long are kept = absurd (omega (arith, long))
+unfilled_few shape k last (a ∷ []) long are kept = absurd (omega (arith, long))
+unfilled_few shape k last (a ∷ b ∷ []) long are kept = absurd (omega (arith, long))
+unfilled_few shape k last (a ∷ b ∷ c ∷ []) long are kept = absurd (omega (arith, long))
+unfilled_few shape k last (a ∷ b ∷ c ∷ d ∷ []) long are kept =
+    let one = run_few shape k 1 a are.0 kept.0 in
+    let two = run_few shape k 2 b are.1.0 kept.1.0 in
+    let three = run_few shape k 3 c are.1.1.0 kept.1.1.0 in
+    let last_one = run_few shape k 4 d are.1.1.1.0 kept.1.1.1.0 in
+    let p = at_most (nat_le 1 last) (length a.firsts) (length a.leases) in
+    let q = at_most (nat_le 2 last) (length b.firsts) (length b.leases) in
+    let r = at_most (nat_le 3 last) (length c.firsts) (length c.leases) in
+    let s = at_most (nat_le 4 last) (length d.firsts) (length d.leases) in
+    omega (arith, one, two, three, last_one, p, q, r, s)
+unfilled_few shape k last (a ∷ b ∷ c ∷ d ∷ e ∷ rs) long are kept = absurd (omega (arith, long))
+
+module _ (d : Parts) (old : BoardState) (m : MayTick d old) (none_half : is_half d ≡ false) (merged : has_no_merge (index_of d) ≡ true) where
+  its : StandsFor d d.log.shape old.pages m.agrees.all
+  its = its_whole d old m none_half
+
+  no_pair : {X : Type 0} → is_half d ≡ true → X
+  no_pair half = absurd (not_both (is_half d) half none_half)
+
+  no_merge : (is_between d.schedule.phase ≡ true) × (length d.log.frozen.entries ≡ 0)
+  no_merge = no_merge_is (index_of d) merged
+
+  -- ---- what a step asks
+
+  its_index : IndexOnFlash (index_of d) (frames_of d) old.pages its.top its.found
+  its_index = its.with.index
+
+  none_output : (output d.schedule).leases ≡ []
+  none_output = idle_leases (index_of d) (frames_of d) old.pages its.top its.found its_index (between_merges d.schedule.phase no_merge.0)
+
+  pub may_ready : IsReady old d.levels.shape
+  may_ready = subst (λ (s : Shape). IsReady old s) (sym its_index.levels_shape) (agrees_ready d old m.agrees)
+
+  pub may_stand : (ess : List (List Entry)) × RunsOnFlash old.pages d.arena d.levels.runs ess
+  may_stand = (its.found.runs, its_index.stand)
+
+  pub may_arena : HasArena d.levels.shape (length d.arena.used) d.levels d.arena []
+  may_arena = subst (λ (s : Shape). HasArena s (frames_of d) d.levels d.arena []) (sym its_index.levels_shape)
+      (subst (λ (others : List ℕ). HasArena d.log.shape (frames_of d) d.levels d.arena others) none_output its_index.arena_is)
+
+  -- ---- a page was read into a frame
+
+  module _ (ls : Levels) (fr : Frames) (f : FillsOne d.levels d.arena old ls fr (after_read old)) (ready : IsReady (after_read old) d.log.shape)
+      (stand : (ess : List (List Entry)) → RunsOnFlash old.pages d.arena d.levels.runs ess → RunsOnFlash old.pages fr ls.runs ess)
+      (arena : HasArena ls.shape (length fr.used) ls fr []) where
+    abbrev after_it : Parts
+    after_it = record d { levels = ls; arena = fr }
+
+    abbrev own : Kept
+    own = run_of d.levels f.level
+
+    abbrev framed : Kept
+    framed = record own { leases = own.leases ++ f.fills.fills.lease ∷ [] }
+
+    levels_behind : ls ≡ with_run d.levels f.level framed
+    levels_behind = f.fills.levels_are ∙ ap (λ (r : Kept). with_run d.levels f.level r) f.fills.fills.run_is
+
+    runs_behind : ls.runs ≡ slice_set d.levels.runs (f.level - 1) framed
+    runs_behind = ap (λ (x : Levels). x.runs) levels_behind
+
+    same_size : length fr.used ≡ frames_of d
+    same_size = ap (λ (a : Frames). length a.used) f.fills.fills.arena_is ∙ length-set d.arena.used f.fills.fills.lease true
+
+    got : slice_get d.levels.runs (f.level - 1) ≡ Some own
+    got =
+        let above = f.above in
+        let up_to = f.up_to in
+        let few = last_few d d.log.shape old.pages its.top its.found its.without m.agrees.all its.with in
+        let same = last_seen d d.log.shape old.pages its.top its.found its.without m.agrees.all its.with in
+        let long = four (index_of d) (frames_of d) old.pages its.top its.found its_index in
+        slice_get-get_or d.levels.runs (f.level - 1) (empty d.levels.shape f.level) (omega (arith, above, up_to, few, same, long))
+
+    index_behind : IndexOnFlash (index_of after_it) (frames_of after_it) old.pages its.top its.found
+    index_behind =
+        let I : ℕ → Type 0 = λ n. IndexOnFlash (index_of after_it) n old.pages its.top its.found in
+        let shape_behind : ls.shape ≡ d.log.shape = ap (λ (x : Levels). x.shape) levels_behind ∙ its_index.levels_shape in
+        let sized : HasArena d.log.shape (frames_of d) ls fr [] =
+        subst (λ (n : ℕ). HasArena d.log.shape n ls fr []) same_size (subst (λ (s : Shape). HasArena s (length fr.used) ls fr []) shape_behind arena) in
+        subst I (sym same_size) (record {
+          logs = its_index.logs;
+          pool_shape = its_index.pool_shape;
+          pool_fits = its_index.pool_fits;
+          levels_shape = shape_behind;
+          levels_pinned = ap (λ (x : Levels). x.pinned) levels_behind ∙ its_index.levels_pinned;
+          stand = stand its.found.runs its_index.stand;
+          run_blocks = subst (λ (rs : List Kept). HaveBlocks d.log.shape rs its.top.1.runs) (sym runs_behind)
+              (framed_blocks f.fills.fills.lease d.log.shape d.levels.runs (f.level - 1) own its.top.1.runs got its_index.run_blocks);
+          arena_is = subst (λ (others : List ℕ). HasArena d.log.shape (frames_of d) ls fr others) (sym none_output) sized;
+          journal = its_index.journal;
+          journal_few = its_index.journal_few;
+          runs = its_index.runs;
+          runs_few = its_index.runs_few;
+          pins_are = its_index.pins_are;
+          merge = merge_still d.schedule.phase (index_of d) ls fr old.pages its.top.1 its.found no_merge.0 its_index.merge;
+          freeze = record { taken = its_index.freeze.taken; different = its_index.freeze.different; none_frozen = its_index.freeze.none_frozen };
+        })
+
+    with_behind : DriveOnFlashWith after_it d.log.shape old.pages its.top its.found its.without m.agrees.all
+    with_behind =
+        let w = its.with in
+        record {
+          shape_is = w.shape_is;
+          is_flash = w.is_flash;
+          index = index_behind;
+          committed = w.committed;
+          pending = w.pending;
+          placed = w.placed;
+          former = w.former;
+          former_read = w.former_read;
+          reclaim = w.reclaim;
+          keys_are = w.keys_are;
+        }
+
+    stands_behind : StandsFor after_it d.log.shape old.pages m.agrees.all
+    stands_behind = record { top = its.top; found = its.found; without = its.without; with = with_behind; whole = whole_like d after_it refl (λ none. none) refl refl its.whole }
+
+    less_behind : IsLevels d.levels → AllByRecursion IsKept d.levels.runs → (sight_of after_it).work < (sight_of d).work
+    less_behind known kept =
+        let one = f.less in
+        let counts : map (λ (r : Kept). r.count) ls.runs ≡ map (λ (r : Kept). r.count) d.levels.runs =
+        ap (λ (rs : List Kept). map (λ (r : Kept). r.count) rs) runs_behind ∙ framed_counts f.fills.fills.lease d.levels.runs (f.level - 1) own got in
+        let left = left_still d.schedule.phase (index_of d) ls fr no_merge.0 in
+        let few = unfilled_few d.levels.shape d.levels.pinned _ d.levels.runs known.four known.each kept in
+        fills d.log.shape (backlog_of d) (backlog_of after_it) (record {
+          filled = λ i. record (backlog_of after_it) { runs = counts i; merge = left i };
+          one_less = one;
+          few = subst (λ (s : Shape). unfilled d.levels (frames_of d) ≤ sum (caps s)) its_index.levels_shape few;
+          none_frozen = no_merge.1;
+        })
+
+    stays : Stays d after_it
+    stays = record { fresh = record { stays = λ e. e; begun = inl refl }; blocks = record { used = refl; open_same = refl } }
+
+    fills_behind : lacks_frames d ≡ true → IsLevels d.levels → AllByRecursion IsKept d.levels.runs → Advances d after_it old (after_read old) Worked
+    fills_behind lacks known kept =
+        let here : reading d.log.shape old.pages [] ≡ Ok m.agrees.all =
+        subst (λ (es : List Entry). reading d.log.shape old.pages es ≡ Ok m.agrees.all) m.none (reads_as d d.log.shape old.pages m.agrees.all its) in
+        made_advances d old m after_it (after_read old) ready (made_read (refl, refl, refl)) refl (omega arith) no_pair no_pair (inl refl) (busy_unfilled d old m.agrees lacks) m.none
+        (record {
+          stands = between after_it d.log.shape old.pages m.agrees.all stands_behind;
+          cuts = ([], Reached-start old (after_read old) (CrashFinds d.log.shape background old.pages m.agrees.all) refl refl refl refl (refl, here), tt);
+        })
+        (refl, refl, refl, refl) same_size refl (stays_frees d after_it stays) (omega arith) (less_behind known kept)
+
+  pub fills_one : (d' : Parts) (new : BoardState) → FillsSpare d d' old new → IsReady new d.log.shape → lacks_frames d ≡ true → IsLevels d.levels → AllByRecursion IsKept d.levels.runs → Advances d d' old new Worked
+  fills_one d' new is ready lacks known kept =
+      let read : new ≡ after_read old = is.fills.read in
+      let f = subst (λ (b : BoardState). FillsOne d.levels d.arena old d'.levels d'.arena b) read is.fills in
+      let made = fills_behind d'.levels d'.arena f (subst (λ (b : BoardState). IsReady b d.log.shape) read ready)
+      (λ ess each. subst (λ (b : BoardState). RunsOnFlash b.pages d'.arena d'.levels.runs ess) read (is.stand ess each)) is.arena lacks known kept in
+      subst (λ (e : Parts). Advances d e old new Worked) (sym is.rest)
+      (subst (λ (b : BoardState). Advances d (record d { levels = d'.levels; arena = d'.arena }) old b Worked) (sym read) made)
+
+  -- ---- the read failed
+
+  pub fills_none : (d' : Parts) (new : BoardState) (page : ℕ) → ReadFailed old new page → d' ≡ d → IsReady new d.log.shape → lacks_frames d ≡ true → Advances d d' old new (Fault false)
+  fills_none d' new page failed same ready lacks =
+      let rest = failed.rest in
+      let only : OnlyReading old new = subst (λ (b : BoardState). OnlyReading old b) (sym rest) refl in
+      let flash : OnlyFlash old new = subst (λ (b : BoardState). OnlyFlash old b) (sym rest) refl in
+      let as_many : roots new ≡ roots old = ap roots rest in
+      subst (λ (e : Parts). Advances d e old new (Fault false)) (sym same)
+      (unread_advances d old m d new ready (made_read (ap (λ (b : BoardState). b.reads) rest, ap (λ (b : BoardState). b.programs) rest, ap (λ (b : BoardState). b.erases) rest)) flash
+      (omega (arith, as_many)) no_pair no_pair (read_grows d.log.shape old new only) (busy_unfilled d old m.agrees lacks) m.none refl its only failed.read failed.flash refl refl
+      (stays_frees d d (stays_same d d refl)) (omega arith))

@@ -1,0 +1,110 @@
+//! Spare frames hold further levels: background steps read the pages, and an install gives the
+//! frames back.
+
+use crate::merges::{FOUND_BYTES, REPORT_BYTES, Step, behind_pages, numbers, reads_of};
+use crate::steps::{MAKE_WORKED, made, pages_left, same};
+use std::alloc::Global;
+use std::process::Abort;
+use std::test::*;
+
+// 361 Stores of 246 keys leave runs of 60, 60, 240 and no entries, which have 4, 4, 16 and no
+// pages.
+const AT_REST: [Step; 4] = [
+    Step::StoresOf(361, 246),
+    Step::Tick(1000),
+    Step::Report,
+    Step::Retrieve(200),
+];
+
+// By the frames: how many have a page after the Tick, and how many pages the Retrieve reads.
+#[derive(Clone, Copy)]
+struct Held {
+    frames: &'static str,
+    leased: u32,
+    reads: u32,
+}
+
+// Levels 1 and 2 are pinned from 36 frames on, and level 1 with 35; so 35 frames may hold level 3
+// and 36 may not. Level 4 is empty.
+const HELD: [Held; 5] = [
+    Held {
+        frames: "7",
+        leased: 0,
+        reads: 2,
+    },
+    Held {
+        frames: "35",
+        leased: 24,
+        reads: 1,
+    },
+    Held {
+        frames: "36",
+        leased: 8,
+        reads: 2,
+    },
+    Held {
+        frames: "51",
+        leased: 8,
+        reads: 2,
+    },
+    Held {
+        frames: "52",
+        leased: 24,
+        reads: 1,
+    },
+];
+
+// The numbers of entries and of frames with a page in the Report this many bytes before the end.
+fn lists(rt: &impl Abort, posted: &[u8], behind: usize) -> [u32; 5] {
+    let found = numbers(rt, posted, behind);
+    [found[8], found[9], found[10], found[11], found[5]]
+}
+
+fn check_lists(rt: &impl Abort, found: [u32; 5], leased: u32) {
+    let wanted = [60, 60, 240, 0, leased];
+    for i in 0..5usize {
+        same(rt, u64::from(found[i]), u64::from(wanted[i]), "a number");
+    }
+}
+
+/// A Tick to rest fills the spare frames with the pages of further levels if all pages of a level
+/// have room, and a Retrieve reads no page of a level that is held.
+#[test]
+fn levels_are_held(rt: HostRuntime) {
+    let alloc = rt.alloc();
+    for held in &HELD {
+        let pages = made(&rt, alloc, &MAKE_WORKED);
+        let flash = behind_pages(&rt, alloc, pages, &AT_REST, held.frames);
+        let posted = flash.posted();
+        check_lists(&rt, lists(&rt, posted, FOUND_BYTES), held.leased);
+        let reads = reads_of(&rt, posted, 0);
+        same(&rt, u64::from(reads), u64::from(held.reads), "reads");
+    }
+}
+
+const OPENED: [Step; 6] = [
+    Step::Report,
+    Step::Retrieve(200),
+    Step::Tick(15),
+    Step::Report,
+    Step::Tick(1),
+    Step::Retrieve(200),
+];
+
+/// After an opening the pinned levels alone have frames. Each background step reads one page; up to
+/// the last page of level 3 a Retrieve of a key on it reads it from the flash.
+#[test]
+fn frames_fill_one_by_one(rt: HostRuntime) {
+    let alloc = rt.alloc();
+    let pages = made(&rt, alloc, &MAKE_WORKED);
+    let first = behind_pages(&rt, alloc, pages, &AT_REST, "36");
+    let left = pages_left(&rt, alloc, &first);
+    let flash = behind_pages(&rt, alloc, left, &OPENED, "52");
+    let posted = flash.posted();
+    let end = FOUND_BYTES + 24;
+    check_lists(&rt, lists(&rt, posted, end), 23);
+    same(&rt, u64::from(reads_of(&rt, posted, 0)), 1, "reads");
+    let begin = end + REPORT_BYTES + 24;
+    same(&rt, u64::from(reads_of(&rt, posted, begin)), 2, "reads");
+    check_lists(&rt, lists(&rt, posted, begin + FOUND_BYTES), 8);
+}
