@@ -241,7 +241,7 @@ module _ (d : Parts) (old : BoardState) (m : MayTick d old) (none_half : is_half
         let counts : map (λ (r : Kept). r.count) ls.runs ≡ map (λ (r : Kept). r.count) d.levels.runs =
         ap (λ (rs : List Kept). map (λ (r : Kept). r.count) rs) runs_behind ∙ framed_counts f.fills.fills.lease d.levels.runs (f.level - 1) own got in
         let left = left_still d.schedule.phase (index_of d) ls fr no_merge.0 in
-        let few = unfilled_few d.levels.shape d.levels.pinned _ d.levels.runs known.four known.each kept in
+        let few = unfilled_few d.levels.shape d.levels.pinned (last_level d.levels (frames_of d)) d.levels.runs known.four known.each kept in
         fills d.log.shape (backlog_of d) (backlog_of after_it) (record {
           filled = λ i. record (backlog_of after_it) { runs = counts i; merge = left i };
           one_less = one;

@@ -17,7 +17,7 @@ use Rattle.pk_level.specs.Levels.{AreOfLevels, IsLevels, HaveBlocks, RunsOnFlash
 use Rattle.pk_level.specs.Arenas.{last_level, page_counts, unfilled, unfilled_from}
 use Rattle.pk_model.specs.Found.{Found}
 use Rattle.pk_schedule.proofs.Backlogs.{four}
-use Rattle.pk_call.specs.Sight.{AreHeldTo, entries_of_runs, pages_of_each}
+use Rattle.pk_call.specs.Sight.{AreHeldTo, pages_of_each}
 use Rattle.pk_parts.specs.Parts.{Parts, counts_of, frames_of, held_by, index_of, most_looks, sight_of}
 use Rattle.pk_parts.specs.Agreeing.{DriveOnFlashWith}
 
