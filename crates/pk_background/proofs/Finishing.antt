@@ -22,6 +22,7 @@ use Rattle.pk_model.specs.Crashes.{CrashFinds, background}
 use Rattle.pk_model.specs.Wear.{root_number, roots}
 use Rattle.pk_law_steps.specs.Under.{IsUnder, places}
 use Rattle.pk_law_steps.proofs.Untouched.{under_reads}
+use Rattle.pk_scan.specs.Used.{IsUseOf}
 use Rattle.pk_values.specs.Placed.{ValuesOnFlash}
 use Rattle.pk_values.proofs.Unchanged.{ValuesOnFlash-kept}
 use Rattle.pk_gc.specs.Standing.{ReclaimOnFlash}
@@ -137,7 +138,7 @@ module _ (d : Parts) (log' : LogState) (pool' : Blocks) (old new : BoardState) (
       former = λ k is. its.values.owned (k / d.log.shape.block_pages) (h.with.former k is);
       former_read = h.with.former_read;
       reclaim = subst (λ (es : List Entry). ReclaimOnFlash d.log.shape d.reclaim d.values.live pool' new.pages (places h.found es)) (sym none) reclaim_then;
-      keys_are = h.with.keys_are ∙ ap (λ (es : List Entry). length (places h.found es)) (sym same_pending);
+      uses = subst (λ (es : List Entry). IsUseOf d.log.shape d.spaces (places h.found es)) (sym same_pending) h.with.uses;
     }
 
     whole_then : IsWhole then_drive

@@ -1,6 +1,7 @@
 -- A step of the jobs moves the index of a drive, and leaves its values where they are.
 use Rattle.std.proofs.Common.{◌≡◌, inl, inr, ℕ, ◌/◌, ◌<◌, sym, ap, subst, ◌∙◌, false, List, [], length}
-use Rattle.pk_base.specs.Entry.{Entry}
+use Rattle.pk_base.specs.Entry.{Entry, Place}
+use Rattle.pk_base.specs.Key.{Key}
 use Rattle.pk_base.specs.Page.{Flash}
 use Rattle.pk_base.specs.Map.{Map}
 use Rattle.pk_rootfmt.specs.Root.{Root}
@@ -8,6 +9,7 @@ use Rattle.pk_nand.specs.BoardState.{BoardState}
 use Rattle.pk_nand.specs.Calls.{IsReady}
 use Rattle.pk_model.specs.Found.{Found}
 use Rattle.pk_law_steps.specs.Under.{IsUnder, IsValuePage, places}
+use Rattle.pk_scan.specs.Used.{IsUseOf}
 use Rattle.pk_values.specs.Placed.{ValuesOnFlash}
 use Rattle.pk_values.proofs.Unchanged.{ValuesOnFlash-kept}
 use Rattle.pk_pool.specs.Blocks.{Blocks, freed}
@@ -76,9 +78,10 @@ module _ (d : Parts) (old new : BoardState) (top : ℕ × Root) (found : Found) 
     former = λ k is. moved.values.owned (k / d.log.shape.block_pages) (a.former k (subst (λ es. IsValuePage d.log.shape es k) moved.same_places is));
     former_read = λ k is. a.former_read k (subst (λ es. IsValuePage d.log.shape es k) moved.same_places is);
     reclaim = subst (λ (es : List Entry). ReclaimOnFlash d.log.shape d.reclaim d.values.live free new.pages (places moved.then_found es)) (sym moved.none_pending) still_reclaims;
-    keys_are =
-        a.keys_are ∙ (ap (λ (es : List Entry). length (places found es)) none
-        ∙ (ap length (sym moved.same_places) ∙ ap (λ (es : List Entry). length (places moved.then_found es)) (sym moved.none_pending)));
+    uses =
+        let U : List (Key × Place) → Type 0 = IsUseOf d.log.shape d.spaces in
+        subst (λ (es : List Entry). U (places moved.then_found es)) (sym moved.none_pending)
+        (subst U (sym moved.same_places) (subst (λ (es : List Entry). U (places found es)) none a.uses));
   }
 
   -- the pair of its root may be half made

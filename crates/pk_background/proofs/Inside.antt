@@ -176,7 +176,7 @@ module _ (d : Parts) (old : BoardState) (may : MayEmpty d old) where
         former = w.former;
         former_read = w.former_read;
         reclaim = w.reclaim;
-        keys_are = w.keys_are;
+        uses = w.uses;
       } in
       let K : Parts → Type 0 = λ e. Keeps d e d.log.shape m old new in
       subst K (sym here) (record {

@@ -4,7 +4,8 @@ use Rattle.std.specs.Prelude.{slice_get, IfOk, IfErr, ◌++◌}
 use Rattle.std.specs.List.{concat}
 use Rattle.pk_base.specs.Shape.{Shape}
 use Rattle.pk_base.specs.Page.{Flash, IsFlash}
-use Rattle.pk_base.specs.Entry.{Entry}
+use Rattle.pk_base.specs.Entry.{Entry, Place}
+use Rattle.pk_base.specs.Key.{Key}
 use Rattle.pk_base.specs.Map.{Map}
 use Rattle.pk_rootfmt.specs.Root.{Root}
 use Rattle.pk_plan.specs.declared.owner.Owner.TheVariants.{Journal, Meta}
@@ -28,6 +29,8 @@ use Rattle.pk_gc.specs.declared.course.Phase.{Phase}
 use Rattle.pk_gc.specs.declared.course.Phase.TheVariants.{Idle, Copies, Commits, GivesBack}
 use Rattle.pk_gc.specs.declared.reclaimed.Reclaimed.{Reclaimed}
 use Rattle.pk_gc.specs.declared.reclaimed.Reclaimed.TheVariants.{Worked, NeedsFreeze, Ended}
+use Rattle.pk_scan.specs.Used.{IsUseOf}
+use Rattle.pk_parts.proofs.Using.{use_elsewhere}
 use Rattle.pk_values.specs.Placed.{ValuesOnFlash}
 use Rattle.pk_merge.specs.Elsewhere.{IsElsewhere}
 use Rattle.pk_compact.specs.FreezeSteps.{IsTaken, taken_by}
@@ -157,11 +160,13 @@ module _ (d : Parts) (x' : ReclaimParts) (keeps : KeepsLog (space_of d) x') wher
         let under : IsUnder shape new.pages [] top then m = subst (λ t. IsUnder t new.pages [] top then m) is s.under in
         let placed : ValuesOnFlash shape x'.values x'.pool (held_blocks x'.job.phase) new.pages (places then []) = subst
         (λ t. ValuesOnFlash t x'.values x'.pool (held_blocks x'.job.phase) new.pages (places then [])) is s.placed in
+        let is_flash : IsFlash shape new.pages = subst (λ t. IsFlash t new.pages) with.shape_is ready.flash in
+        let is_shape : IsShape shape = subst IsShape with.shape_is with.index.logs.is_shape in
         let reclaim : ReclaimOnFlash shape x'.job x'.values.live x'.pool new.pages (places then []) = subst
         (λ t. ReclaimOnFlash t x'.job x'.values.live x'.pool new.pages (places then [])) is s.reclaim in
         record {
           shape_is = is;
-          is_flash = subst (λ t. IsFlash t new.pages) with.shape_is ready.flash;
+          is_flash = is_flash;
           index = index_moved (index_of d) (frames_of d) old.pages new.pages top found with.index x'.pool moves.others x'.log moves.newest keeps s.placed.fits s.logs;
           committed = under;
           pending = subst (λ p. IsUnder shape new.pages p top then m) (sym empty) under;
@@ -169,7 +174,11 @@ module _ (d : Parts) (x' : ReclaimParts) (keeps : KeepsLog (space_of d) x') wher
           former = placed.owned;
           former_read = placed.outputs_are.unread;
           reclaim = subst (λ p. ReclaimOnFlash shape x'.job x'.values.live x'.pool new.pages (places then p)) (sym empty) reclaim;
-          keys_are = with.keys_are ∙ (ap (λ p. length (places found p)) none ∙ (sym moves.as_many ∙ ap (λ p. length (places then p)) (sym empty)));
+          uses =
+              let U : List (Key × Place) → Type 0 = IsUseOf shape d.spaces in
+              let before : IsUnder shape old.pages [] top found m = subst (λ p. IsUnder shape old.pages p top found m) none with.pending in
+              let unchanged = use_elsewhere shape old.pages new.pages top found then m d.spaces is_shape with.is_flash is_flash before under (subst (λ p. U (places found p)) none with.uses) in
+              subst (λ p. U (places then p)) (sym empty) unchanged;
         }
 
 -- ---- which pair is half made then
@@ -260,7 +269,7 @@ module _ (d : Parts) (page : List ℕ) (flash : Flash) where
     former = with.former;
     former_read = with.former_read;
     reclaim = reclaim;
-    keys_are = with.keys_are;
+    uses = with.uses;
   }
 
 pub cannot_read : (d : Parts) (x' : ReclaimParts) (old new : BoardState) → MayReclaim d old → steps.Unread (space_of d) old x' new → CannotRead d (over_space d x') old new

@@ -66,5 +66,5 @@ module _ (d : Parts) (values : ValuesState) (pool : Blocks) (shape : Shape) (old
     former = λ k is. owners (k / shape.block_pages) Values (with.former k is);
     former_read = with.former_read;
     reclaim = reclaim;
-    keys_are = with.keys_are;
+    uses = with.uses;
   }

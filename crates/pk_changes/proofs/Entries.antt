@@ -4,8 +4,8 @@ use Rattle.std.specs.Prelude.{MatchOption, slice_set}
 use Rattle.std.specs.Ordering as order
 use Rattle.std.specs.Cmp.{tied_itself}
 use Rattle.std.specs.FinMap.{insert, remove, entries, entries-insert}
-use Rattle.std.specs.FinMap.Entries.{put, find, is_sorted, find-put, length-put, length_without}
-use Rattle.pk_base.specs.Key.{Key, key_cmp}
+use Rattle.std.specs.FinMap.Entries.{put, find, is_sorted, find-put}
+use Rattle.pk_base.specs.Key.{Key, key_cmp, space_of}
 use Rattle.pk_base.specs.Shape.{Shape, IsShape, charge, greatest, buffer, data_blocks}
 use Rattle.pk_base.specs.Page.{Flash, page_at}
 use Rattle.pk_base.specs.Entry.{Entry, Place}
@@ -16,7 +16,9 @@ use Rattle.pk_segfmt.proofs.StoredLemmas.{charge_some}
 use Rattle.pk_rootfmt.specs.Root.{Root, named}
 use Rattle.pk_model.specs.Found.{Found, entries_in_order}
 use Rattle.pk_model.specs.Values.{placed, fits, all_pages}
-use Rattle.pk_model.specs.Laws.{AnyByRecursion, IsPageOf}
+use Rattle.pk_model.specs.Laws.{AnyByRecursion, IsPageOf, IsStorable}
+use Rattle.std.specs.List.{AllByRecursion}
+use Rattle.pk_base.proofs.EntryLemmas.{key_is_key}
 use Rattle.pk_model.proofs.MapLemmas.{key_total}
 use Rattle.pk_model.proofs.ValueSets.{values_sound, fits_parts}
 use Rattle.pk_model.proofs.Stores.{placed-put, reads-put, entries_in_order-push}
@@ -42,14 +44,15 @@ use Rattle.pk_values.proofs.Unchanged.{lie_in_few}
 use Rattle.pk_parts.specs.Parts.{Parts, frames_of, index_of, outputs_of}
 use Rattle.pk_parts.specs.Agreeing.{DriveOnFlashWith}
 use Rattle.pk_parts.specs.Moves.{StandsFor}
-use Rattle.pk_changes.specs.Noting.{Puts, Drops, more_keys}
+use Rattle.pk_changes.specs.Noting.{Puts, Drops, pages_at}
+use Rattle.pk_changes.proofs.Using.{can_leave, use_few, use_of_put, use_of_gone}
+use Rattle.pk_scan.specs.Used.{IsUseOf}
+use Rattle.pk_space.specs.Uses.{Use, IsSpace, CanLeave, space_live, space_keys, used_after}
 use Rattle.pk_schedule.proofs.Keeping.{index_pushed}
 use Rattle.pk_parts.proofs.Halves.{whole_like}
 use Rattle.pk_parts.proofs.Reclaiming.{reclaim_stored, reclaim_gone, zero_fewer, replaced_fewer}
 use Rattle.pk_background.proofs.Beside.{named_owner, journal_or_values, meta_or_values}
 use Rattle.pk_base.proofs.KeyLemmas.{firsts_sorted}
-use Rattle.pk_law_steps.proofs.Outputs.{values_most}
-use Rattle.pk_scan.proofs.ValuesHeld.{limit_few}
 use Rattle.pk_model.specs.RootLimits.{root_limits}
 use Rattle.pk_model.proofs.RootLimits.{last_in_spaces}
 
@@ -73,13 +76,8 @@ module _ (d : Parts) (shape : Shape) (flash : Flash) (top : ℕ × Root) (found 
       let values = values_under shape flash d.log.pending top.1 found m with.pending.is_map in
       (values_sound shape (named top.1) (page_at flash) (root_limits shape top.1) (places found d.log.pending) values.values (nothing_fits shape (named top.1)) values.read).placed_well
 
-  pub keys_small : d.keys ≤ 1048576
-  keys_small =
-      let parts = fits_parts shape (named top.1) (all_pages shape (places found d.log.pending)) (subst T (sym fit) tt) in
-      let few = parts.few in
-      let keys = values_most shape shape_is (places found d.log.pending) in
-      let most = limit_few shape shape_is in
-      omega (arith, few, keys, most, with.keys_are)
+  pub spaces_small : (space : ℕ) → IsSpace space → (space_live d.spaces space ≤ 1048576) × (space_keys d.spaces space ≤ 1048576)
+  spaces_small = use_few shape shape_is (named top.1) (places found d.log.pending) fit d.spaces with.uses
 
   -- the live pages with one more value
   live_put : (key : Key) (place : Place) (value : List ℕ) → value_at shape (page_at flash) key place ≡ Ok value
@@ -102,12 +100,10 @@ module _ (d : Parts) (shape : Shape) (flash : Flash) (top : ℕ × Root) (found 
 pub found_put : (key : Key) (place : Place) (es : List (Key × Place)) → find key_cmp key (put key_cmp key place es) ≡ Some place
 found_put key place es = find-put key_cmp key_total key key place es ∙ ap (λ b. cond b (Some place) (find key_cmp key es)) (ap order.is_eq (tied_itself key_total key))
 
-keys_put : (key : Key) (place : Place) (es : List (Key × Place)) (old : Option Place) (keys : ℕ) → T (is_sorted key_cmp es) → find key_cmp key es ≡ old → keys ≡ length es
-    → more_keys keys old ≡ length (put key_cmp key place es)
-keys_put key place es None keys sorted is same =
-    ap (λ n. n + 1) same ∙ sym (length-put key_cmp key_total key place es sorted ∙ ap (λ o. cond (is_some o) (length es) (length es + 1)) is)
-keys_put key place es (Some p) keys sorted is same =
-    same ∙ sym (length-put key_cmp key_total key place es sorted ∙ ap (λ o. cond (is_some o) (length es) (length es + 1)) is)
+-- the namespace of an entry that may be stored
+own_space : (shape : Shape) (es : List Entry) (e : Entry) → AllByRecursion (IsStorable shape) (es ++ e ∷ []) → IsSpace (space_of e.0)
+own_space shape [] e all = let is = key_is_key shape e all.0.0 in (is.space_some, is.space_most)
+own_space shape (x ∷ es) e all = own_space shape es e all.1
 
 module _ (d : Parts) (flash : Flash) (m : Map) (key : Key) (value : List ℕ) (page : ℕ) (old : Option Place) (p : Puts d d.log.shape flash m key value page old) where
   abbrev place : Place
@@ -137,6 +133,15 @@ module _ (d : Parts) (flash : Flash) (m : Map) (key : Key) (value : List ℕ) (p
     in_open = p.in_open;
     free = λ k is is_value. p.written.apart p.top p.found p.without m p.with k is is_value;
   }
+
+  -- what each namespace uses then
+  abbrev used_now : Use
+  used_now = used_after d.spaces (space_of key) (pages_at d.log.shape old) (charge d.log.shape (length value))
+
+  -- what the key had may go
+  pub puts_leave : IsSpace (space_of key) → CanLeave d.spaces (space_of key) (pages_at d.log.shape old)
+  puts_leave own = can_leave d.log.shape (shape_is d d.log.shape flash p.top p.found p.without m p.with) d.spaces es key own
+      (rising d d.log.shape flash p.top p.found p.without m p.with) old p.old_is p.with.uses
 
   places_are : places p.found (d.log.pending ++ e ∷ []) ≡ put key_cmp key place es
   places_are = ap (λ xs. placed (firsts xs)) (entries_in_order-push p.found d.log.pending e)
@@ -175,7 +180,7 @@ module _ (d : Parts) (flash : Flash) (m : Map) (key : Key) (value : List ℕ) (p
         subst (λ (l : Values). ReclaimOnFlash d.log.shape d.reclaim l d.pool flash (put key_cmp key place es)) (sym (ap (λ (x : ValuesState). x.live) space_is)) now
 
     pub put_agrees : LogOnFlash (pushed d.log e) flash p.top p.found → length (firsts (p.found.newest ++ (d.log.pending ++ e ∷ []))) ≤ buffer d.log.shape
-        → DriveOnFlashWith (record d { log = pushed d.log e; values = values; keys = more_keys d.keys old }) d.log.shape flash p.top p.found p.without (insert m key value)
+        → DriveOnFlashWith (record d { log = pushed d.log e; values = values; spaces = used_now }) d.log.shape flash p.top p.found p.without (insert m key value)
     put_agrees logs room = record {
       shape_is = refl;
       is_flash = p.with.is_flash;
@@ -186,7 +191,10 @@ module _ (d : Parts) (flash : Flash) (m : Map) (key : Key) (value : List ℕ) (p
       former = p.with.former;
       former_read = p.with.former_read;
       reclaim = subst (λ (xs : List (Key × Place)). ReclaimOnFlash d.log.shape d.reclaim values.live d.pool flash xs) (sym places_are) reclaims_now;
-      keys_are = keys_put key place es old d.keys (rising d d.log.shape flash p.top p.found p.without m p.with) p.old_is p.with.keys_are ∙ ap length (sym places_are);
+      uses =
+          subst (IsUseOf d.log.shape used_now) (sym places_are)
+          (use_of_put d.log.shape (shape_is d d.log.shape flash p.top p.found p.without m p.with) d.spaces es key (own_space d.log.shape d.log.pending e logs.pending_are)
+          (rising d d.log.shape flash p.top p.found p.without m p.with) old p.old_is p.with.uses place);
     }
 
 -- what the calls of the parts say of one entry more
@@ -200,42 +208,44 @@ abbrev placed_at : ℕ → ℕ → Place
 placed_at page len = record { page = page; len = len }
 
 put_stands_at : (d : Parts) (flash : Flash) (m : Map) (key : Key) (value : List ℕ) (page : ℕ) (old : Option Place) → Puts d d.log.shape flash m key value page old
-    → (log : LogState) (values : ValuesState) (keys : ℕ) (o : Option Span) (n : Span) → Noted d (key, Some (placed_at page (length value))) log
+    → (log : LogState) (values : ValuesState) (spaces : Use) (o : Option Span) (n : Span) → Noted d (key, Some (placed_at page (length value))) log
     → o ≡ span_if_some d.log.shape old → n ≡ span_of d.log.shape (placed_at page (length value))
     → values ≡ with_head (with_heads d.values (heads_without o d.values.live.heads)) n.page n.count
     → ((mv : ValueMoves d.values o n) → ValuesOnFlash mv.shape values mv.pool mv.outputs mv.flash (put key_cmp mv.key mv.place mv.es))
-    → keys ≡ more_keys d.keys old
-    → StandsFor (record d { log = log; values = values; keys = keys }) d.log.shape flash (insert m key value)
+    → spaces ≡ used_after d.spaces (space_of key) (pages_at d.log.shape old) (charge d.log.shape (length value))
+    → StandsFor (record d { log = log; values = values; spaces = spaces }) d.log.shape flash (insert m key value)
 unfolding puts_moves
-put_stands_at d flash m key value page old p log values keys o n noted o_is n_is space_is moved keys_are =
+put_stands_at d flash m key value page old p log values spaces o n noted o_is n_is space_is moved used_is =
     let e : Entry = (key, Some (placed_at page (length value))) in
     let placed_now = moved (puts_moves d flash m key value page old p o n o_is n_is) in
     let space_now = subst (λ (x : Span). values ≡ with_head (with_heads d.values (heads_without o d.values.live.heads)) x.page x.count) n_is space_is in
-    let P : LogState → ℕ → Type 0 = λ l k. StandsFor (record d { log = l; values = values; keys = k }) d.log.shape flash (insert m key value) in
+    let used : Use = used_after d.spaces (space_of key) (pages_at d.log.shape old) (charge d.log.shape (length value)) in
+    let P : LogState → Use → Type 0 = λ l u. StandsFor (record d { log = l; values = values; spaces = u }) d.log.shape flash (insert m key value) in
     let logs : LogOnFlash (pushed d.log e) flash p.top p.found = subst (λ (l : LogState). LogOnFlash l flash p.top p.found) noted.pushed_is (noted.stands flash p.top p.found p.with.index.logs) in
-    let there : P (pushed d.log e) (more_keys d.keys old) = record {
+    let there : P (pushed d.log e) used = record {
       top = p.top;
       found = p.found;
       without = p.without;
       with = put_agrees d flash m key value page old p values placed_now o space_now logs (noted.fits_in flash p.top p.found p.with.index.logs);
-      whole = whole_like d (record d { log = pushed d.log e; values = values; keys = more_keys d.keys old }) refl (λ none. none) refl refl p.whole;
+      whole = whole_like d (record d { log = pushed d.log e; values = values; spaces = used }) refl (λ none. none) refl refl p.whole;
     } in
-    subst (λ (l : LogState). P l keys) (sym noted.pushed_is) (subst (λ (k : ℕ). P (pushed d.log e) k) (sym keys_are) there)
+    subst (λ (l : LogState). P l spaces) (sym noted.pushed_is) (subst (λ (u : Use). P (pushed d.log e) u) (sym used_is) there)
 
 pub put_stands : (d : Parts) (shape : Shape) (flash : Flash) (m : Map) (key : Key) (value : List ℕ) (page len : ℕ) (old : Option Place) → length value ≡ len → Puts d shape flash m key value page old
-    → (log : LogState) (values : ValuesState) (keys : ℕ) (o : Option Span) (n : Span) → Noted d (key, Some (placed_at page len)) log
+    → (log : LogState) (values : ValuesState) (spaces : Use) (o : Option Span) (n : Span) → Noted d (key, Some (placed_at page len)) log
     → o ≡ span_if_some d.log.shape old → n ≡ span_of d.log.shape (placed_at page len)
     → values ≡ with_head (with_heads d.values (heads_without o d.values.live.heads)) n.page n.count
     → ((mv : ValueMoves d.values o n) → ValuesOnFlash mv.shape values mv.pool mv.outputs mv.flash (put key_cmp mv.key mv.place mv.es))
-    → keys ≡ more_keys d.keys old
-    → StandsFor (record d { log = log; values = values; keys = keys }) shape flash (insert m key value)
-put_stands d shape flash m key value page len old is_len p log values keys o n noted o_is n_is space_is moved keys_are =
+    → spaces ≡ used_after d.spaces (space_of key) (pages_at d.log.shape old) (charge d.log.shape len)
+    → StandsFor (record d { log = log; values = values; spaces = spaces }) shape flash (insert m key value)
+put_stands d shape flash m key value page len old is_len p log values spaces o n noted o_is n_is space_is moved used_is =
     let is : d.log.shape ≡ shape = p.with.shape_is in
     let own : Puts d d.log.shape flash m key value page old = subst (λ (s : Shape). Puts d s flash m key value page old) (sym is) p in
     let noted' : Noted d (key, Some (placed_at page (length value))) log = subst (λ (l : ℕ). Noted d (key, Some (placed_at page l)) log) (sym is_len) noted in
     let n_is' : n ≡ span_of d.log.shape (placed_at page (length value)) = subst (λ (l : ℕ). n ≡ span_of d.log.shape (placed_at page l)) (sym is_len) n_is in
-    subst (λ (s : Shape). StandsFor (record d { log = log; values = values; keys = keys }) s flash (insert m key value)) is
-    (put_stands_at d flash m key value page old own log values keys o n noted' o_is n_is' space_is moved keys_are)
+    let used_is' = subst (λ (l : ℕ). spaces ≡ used_after d.spaces (space_of key) (pages_at d.log.shape old) (charge d.log.shape l)) (sym is_len) used_is in
+    subst (λ (s : Shape). StandsFor (record d { log = log; values = values; spaces = spaces }) s flash (insert m key value)) is
+    (put_stands_at d flash m key value page old own log values spaces o n noted' o_is n_is' space_is moved used_is')
 
 -- what the calls need
 pub put_moves : (d : Parts) (flash : Flash) (m : Map) (key : Key) (value : List ℕ) (page len : ℕ) (old : Option Place) → length value ≡ len → Puts d d.log.shape flash m key value page old
@@ -250,13 +260,6 @@ old_short d flash m key value page None p = tt
 old_short d flash m key value page (Some q) p = (found_place d.log.shape key q (places p.found d.log.pending) p.with.placed.places p.old_is).short
 
 -- ---- a key loses its value
-
-keys_gone : (key : Key) (place : Place) (es : List (Key × Place)) (keys : ℕ) → T (is_sorted key_cmp es)
-    → find key_cmp key es ≡ Some place → keys ≡ length es → (keys - 1 ≡ length (without key es)) × (1 ≤ keys)
-keys_gone key place es keys sorted is same =
-    let all : cond (is_some (find key_cmp key es)) 1 0 + length (without key es) ≡ length es = length_without key_cmp key_total key es sorted in
-    let one : 1 + length (without key es) ≡ length es = subst (λ (o : Option Place). cond (is_some o) 1 0 + length (without key es) ≡ length es) is all in
-    (omega (arith, one, same), omega (arith, one, same))
 
 module _ (d : Parts) (flash : Flash) (m : Map) (key : Key) (old : Place) (p : Drops d d.log.shape flash m key old) where
   abbrev gone : Entry
@@ -283,8 +286,14 @@ module _ (d : Parts) (flash : Flash) (m : Map) (key : Key) (old : Place) (p : Dr
   pub gone_short : old.len ≤ greatest d.log.shape
   gone_short = (found_place d.log.shape key old values_before p.with.placed.places p.old_is).short
 
-  pub gone_keys : (d.keys - 1 ≡ length (without key values_before)) × (1 ≤ d.keys)
-  gone_keys = keys_gone key old values_before d.keys (rising d d.log.shape flash p.top p.found p.without m p.with) p.old_is p.with.keys_are
+  -- what the key had may go
+  pub drops_leave : IsSpace (space_of key) → CanLeave d.spaces (space_of key) (charge d.log.shape old.len)
+  drops_leave own = can_leave d.log.shape (shape_is d d.log.shape flash p.top p.found p.without m p.with) d.spaces values_before key own
+      (rising d d.log.shape flash p.top p.found p.without m p.with) (Some old) p.old_is p.with.uses
+
+  -- what each namespace uses then
+  abbrev used_then : Use
+  used_then = used_after d.spaces (space_of key) (charge d.log.shape old.len) 0
 
   places_gone : places p.found (d.log.pending ++ gone ∷ []) ≡ without key values_before
   places_gone = ap (λ xs. placed (firsts xs)) (entries_in_order-push p.found d.log.pending gone)
@@ -293,7 +302,7 @@ module _ (d : Parts) (flash : Flash) (m : Map) (key : Key) (old : Place) (p : Dr
   pub gone_agrees : (values : ValuesState) → ValuesOnFlash d.log.shape values d.pool (outputs_of d) flash (without key values_before)
       → (at : ℕ) → values ≡ with_head d.values at 0 → LogOnFlash (pushed d.log gone) flash p.top p.found
       → length (firsts (p.found.newest ++ (d.log.pending ++ gone ∷ []))) ≤ buffer d.log.shape
-      → DriveOnFlashWith (record d { log = pushed d.log gone; values = values; keys = d.keys - 1 }) d.log.shape flash p.top p.found p.without (remove m key)
+      → DriveOnFlashWith (record d { log = pushed d.log gone; values = values; spaces = used_then }) d.log.shape flash p.top p.found p.without (remove m key)
   gone_agrees values placed_now at space_is logs room = record {
     shape_is = refl;
     is_flash = p.with.is_flash;
@@ -307,34 +316,37 @@ module _ (d : Parts) (flash : Flash) (m : Map) (key : Key) (old : Place) (p : Dr
         let R : Values → List (Key × Place) → Type 0 = λ l es. ReclaimOnFlash d.log.shape d.reclaim l d.pool flash es in
         let now = reclaim_gone d.log.shape d.reclaim d.values.live d.pool flash values_before key (slice_set d.values.live.heads at 0) p.with.reclaim (λ k. zero_fewer d.values.live.heads at k) in
         subst (λ (es : List (Key × Place)). R values.live es) (sym places_gone) (subst (λ (l : Values). R l (without key values_before)) (sym (ap (λ (x : ValuesState). x.live) space_is)) now);
-    keys_are = gone_keys.0 ∙ ap length (sym places_gone);
+    uses =
+        subst (IsUseOf d.log.shape used_then) (sym places_gone)
+        (use_of_gone d.log.shape (shape_is d d.log.shape flash p.top p.found p.without m p.with) d.spaces values_before key (own_space d.log.shape d.log.pending gone logs.pending_are)
+        (rising d d.log.shape flash p.top p.found p.without m p.with) (Some old) p.old_is p.with.uses);
   }
 
 gone_stands_at : (d : Parts) (flash : Flash) (m : Map) (key : Key) (old : Place) → Drops d d.log.shape flash m key old
     → (log : LogState) (values : ValuesState) (n : Span) → Noted d (key, None) log → n ≡ span_of d.log.shape old
     → values ≡ with_head d.values n.page 0
     → ((h : ValueHeld d.values n) → ValuesOnFlash h.shape values h.pool h.outputs h.flash (without h.key h.es))
-    → StandsFor (record d { log = log; values = values; keys = d.keys - 1 }) d.log.shape flash (remove m key)
+    → StandsFor (record d { log = log; values = values; spaces = used_after d.spaces (space_of key) (charge d.log.shape old.len) 0 }) d.log.shape flash (remove m key)
 unfolding drops_held
 gone_stands_at d flash m key old p log values n noted n_is space_is removed =
     let e : Entry = (key, None) in
     let placed_now = removed (drops_held d flash m key old p n n_is) in
     let logs : LogOnFlash (pushed d.log e) flash p.top p.found = subst (λ (l : LogState). LogOnFlash l flash p.top p.found) noted.pushed_is (noted.stands flash p.top p.found p.with.index.logs) in
-    let there : StandsFor (record d { log = pushed d.log e; values = values; keys = d.keys - 1 }) d.log.shape flash (remove m key) = record {
+    let there : StandsFor (record d { log = pushed d.log e; values = values; spaces = used_after d.spaces (space_of key) (charge d.log.shape old.len) 0 }) d.log.shape flash (remove m key) = record {
       top = p.top;
       found = p.found;
       without = p.without;
       with = gone_agrees d flash m key old p values placed_now n.page space_is logs (noted.fits_in flash p.top p.found p.with.index.logs);
-      whole = whole_like d (record d { log = pushed d.log e; values = values; keys = d.keys - 1 }) refl (λ none. none) refl refl p.whole;
+      whole = whole_like d (record d { log = pushed d.log e; values = values; spaces = used_after d.spaces (space_of key) (charge d.log.shape old.len) 0 }) refl (λ none. none) refl refl p.whole;
     } in
-    subst (λ (l : LogState). StandsFor (record d { log = l; values = values; keys = d.keys - 1 }) d.log.shape flash (remove m key)) (sym noted.pushed_is) there
+    subst (λ (l : LogState). StandsFor (record d { log = l; values = values; spaces = used_after d.spaces (space_of key) (charge d.log.shape old.len) 0 }) d.log.shape flash (remove m key)) (sym noted.pushed_is) there
 
 pub gone_stands : (d : Parts) (shape : Shape) (flash : Flash) (m : Map) (key : Key) (old : Place) → Drops d shape flash m key old
     → (log : LogState) (values : ValuesState) (n : Span) → Noted d (key, None) log → n ≡ span_of d.log.shape old
     → values ≡ with_head d.values n.page 0
     → ((h : ValueHeld d.values n) → ValuesOnFlash h.shape values h.pool h.outputs h.flash (without h.key h.es))
-    → StandsFor (record d { log = log; values = values; keys = d.keys - 1 }) shape flash (remove m key)
+    → StandsFor (record d { log = log; values = values; spaces = used_after d.spaces (space_of key) (charge d.log.shape old.len) 0 }) shape flash (remove m key)
 gone_stands d shape flash m key old p log values n noted n_is space_is removed =
     let is : d.log.shape ≡ shape = p.with.shape_is in
-    subst (λ (s : Shape). StandsFor (record d { log = log; values = values; keys = d.keys - 1 }) s flash (remove m key)) is
+    subst (λ (s : Shape). StandsFor (record d { log = log; values = values; spaces = used_after d.spaces (space_of key) (charge d.log.shape old.len) 0 }) s flash (remove m key)) is
     (gone_stands_at d flash m key old (subst (λ (s : Shape). Drops d s flash m key old) (sym is) p) log values n noted n_is space_is removed)

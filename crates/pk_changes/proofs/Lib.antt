@@ -2,6 +2,7 @@ pub mod Changing
 pub mod Quieted
 pub mod Filling
 pub mod Writing
+pub mod Using
 pub mod Entries
 pub mod Putting
 pub mod Noted

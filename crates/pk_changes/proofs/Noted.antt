@@ -23,6 +23,7 @@ use Rattle.pk_parts.specs.Parts.{Parts, block_if_open}
 use Rattle.pk_changes.specs.Noting.{Puts}
 use Rattle.pk_parts.specs.Moves.{OnlyCommits}
 use Rattle.pk_parts.specs.Staying.{IsNoted}
+use Rattle.pk_space.specs.Uses.{Use}
 
 -- ---- the entry
 
@@ -36,11 +37,11 @@ open_is shape pool flash (Some o) page count is inside some =
     let high = inside.1 in
     ap Some (sym (block_of shape.block_pages page o.block (omega (arith, low)) (omega (arith, high, within, some))))
 
-pub put_noted : (d : Parts) (flash : Flash) (m : Map) (k : Key) (value : List ℕ) (page len : ℕ) (old : Option Place) (log' : LogState) (space' : ValuesState) (keys' : ℕ)
+pub put_noted : (d : Parts) (flash : Flash) (m : Map) (k : Key) (value : List ℕ) (page len : ℕ) (old : Option Place) (log' : LogState) (space' : ValuesState) (spaces' : Use)
     → length value ≡ len → Puts d d.log.shape flash m k value page old
-    → log' ≡ pushed d.log (k, Some (record { page = page; len = len })) → space'.open_block ≡ d.values.open_block → IsNoted (record d { log = log'; values = space'; keys = keys' }) k
-put_noted d flash m k value page len old log' space' keys' is_len p is same =
-    let T : LogState → Type 0 = λ l. IsNoted (record d { log = l; values = space'; keys = keys' }) k in
+    → log' ≡ pushed d.log (k, Some (record { page = page; len = len })) → space'.open_block ≡ d.values.open_block → IsNoted (record d { log = log'; values = space'; spaces = spaces' }) k
+put_noted d flash m k value page len old log' space' spaces' is_len p is same =
+    let T : LogState → Type 0 = λ l. IsNoted (record d { log = l; values = space'; spaces = spaces' }) k in
     let some = charge_some d.log.shape p.with.placed.is_shape (length value) in
     subst T (sym is) (record {
       place = record { page = page; len = len };

@@ -45,10 +45,10 @@ pub record Drops (d : Parts) (shape : Shape) (flash : Flash) (m : Map) (key : Ke
   pub old_is : find key_cmp key (places found d.log.pending) ≡ Some old
   pub bytes : AreBytes key
 
--- one more key if there was none
-abbrev pub more_keys : ℕ → Option Place → ℕ
-more_keys keys None = keys + 1
-more_keys keys (Some p) = keys
+-- the pages of a value at a place; none if there is none
+abbrev pub pages_at : Shape → Option Place → ℕ
+pages_at shape None = 0
+pages_at shape (Some p) = charge shape p.len
 
 -- whatever was under the root is still there, with the same places of values
 abbrev pub KeepsFound : Parts → Parts → BoardState → BoardState → Type 0

@@ -10,3 +10,4 @@ mod noting;
 mod placing;
 
 pub use change::{put, take_out};
+pub use noting::pages_at;

@@ -7,7 +7,9 @@ ghost use Rattle.pk_base.specs.Map.{Map};
 ghost use Rattle.pk_log.specs.State.{needs_freeze as needs_freeze_for, pushed};
 ghost use Rattle.pk_values.specs.Entries.{span_of, span_if_some};
 ghost use Rattle.pk_parts.specs.Moves.{StandsFor};
-ghost use Rattle.pk_changes.specs.Noting.{Puts, Drops, more_keys as more_keys_by};
+ghost use Rattle.pk_changes.specs.Noting.{Puts, Drops, pages_at as pages_at_by};
+ghost use Rattle.pk_space.specs.Uses.{used_after};
+ghost use Rattle.pk_base.specs.Key.{space_of};
 ghost use Rattle.pk_parts.specs.Staying.{Stays, IsNoted};
 
 use pk_base::{Entry, Key, Place, Shape};
@@ -37,14 +39,14 @@ fn span_if_there(shape: &Shape, place: &Option<Place>) -> Option<Span>
     }
 }
 
-// One more key if there was none.
-fn more_keys(keys: u32, old: &Option<Place>) -> u32
-    requires { keys ≤ 1048576 }
-    ensures { result ≡ more_keys_by keys old.now }
+/// The pages of the value at a place; none if there is none.
+pub fn pages_at(shape: &Shape, place: &Option<Place>) -> u32
+    requires { MatchOption place.now (Unit {0}) (λ p. p.len ≤ spec.greatest shape.now) }
+    ensures { result ≡ pages_at_by shape.now place.now }
 {
-    match old {
-        None => keys + 1,
-        Some(_) => keys,
+    match place {
+        None => 0,
+        Some(place) => shape.charge(place.len),
     }
 }
 
@@ -68,7 +70,8 @@ pub(crate) fn note_put<A: Region>(
     ensures rest { parts.new ≡ record parts.old {
       log = pushed parts.old.log (key, Some (record { page = page; len = len }));
       values = parts.new.values;
-      keys = more_keys_by parts.old.keys old;
+      spaces = used_after parts.old.spaces (space_of key) (pages_at_by parts.old.log.shape old)
+          count;
     } }
     ensures stands { (shape : spec.Shape) (flash : Flash) (m : Map) (value : List ℕ)
         → length value ≡ len → Puts parts.old shape flash m key value page old
@@ -81,9 +84,11 @@ pub(crate) fn note_put<A: Region>(
     let _ = key.bytes();
     let before = span_if_there(&shape, &old);
     let now = Span { page, count };
+    parts
+        .spaces
+        .change(key.space(), pages_at(&shape, &old), count);
     parts.log.push(Entry::Put { key, page, len });
     parts.values.replace(before, now);
-    parts.keys = more_keys(parts.keys, &old);
 }
 
 /// A key has no value from now on; it had the one at `old`.
@@ -97,7 +102,8 @@ pub(crate) fn note_gone<A: Region>(parts: &mut Parts<A>, key: Key, old: Place)
     ensures rest { parts.new ≡ record parts.old {
       log = pushed parts.old.log (key, None);
       values = parts.new.values;
-      keys = parts.old.keys - 1;
+      spaces = used_after parts.old.spaces (space_of key)
+          (spec.charge parts.old.log.shape old.len) 0;
     } }
     ensures stands { (shape : spec.Shape) (flash : Flash) (m : Map)
         → Drops parts.old shape flash m key old → StandsFor parts.new shape flash (remove m key) }
@@ -107,7 +113,7 @@ pub(crate) fn note_gone<A: Region>(parts: &mut Parts<A>, key: Key, old: Place)
     let shape = parts.shape();
     let _ = key.bytes();
     let before = span_at(&shape, &old);
+    parts.spaces.change(key.space(), before.count, 0);
     parts.log.push(Entry::Gone { key });
     parts.values.remove(before);
-    parts.keys -= 1;
 }

@@ -1,6 +1,5 @@
 -- The numbers of a Report, and those of the map.
-use Rattle.std.proofs.Common.{◌≡◌, ℕ, ◌+◌, ◌*◌, ◌<◌, ◌≤◌, refl, sym, ap, subst, ◌∙◌, arith, List, [], ◌++◌, length, sum, take, get_or, false, Option, Some, None, Ok}
-use Rattle.std.specs.FinMap.{len}
+use Rattle.std.proofs.Common.{◌≡◌, ℕ, ◌+◌, ◌*◌, ◌<◌, ◌≤◌, refl, sym, ap, subst, ◌∙◌, arith, List, [], ◌++◌, length, take, get_or, false, Option, Some, None, Ok}
 use Rattle.std.specs.List.{flat_map, AllByRecursion}
 use Rattle.std.proofs.lemmas.List.{flat_map_more, take_more}
 use Rattle.pk_base.specs.Fields.{u32}
@@ -19,24 +18,22 @@ use Rattle.pk_model.specs.Answer.{early, success}
 use Rattle.pk_model.specs.Found.{Found}
 use Rattle.pk_model.specs.Reading.{reading}
 use Rattle.pk_model.specs.Run.{Step}
-use Rattle.pk_law_steps.specs.Under.{places}
 use Rattle.pk_law_steps.proofs.Untouched.{under_reads}
-use Rattle.pk_law_steps.proofs.Counting.{counts}
-use Rattle.pk_values.proofs.Standing.{total_of}
 use Rattle.pk_model.specs.Wear.{root_number, number_of}
 use Rattle.pk_model.specs.Spaces.{Terms, AreInSpaces, in_space, limits_at, one_space, terms_at}
 use Rattle.pk_model.proofs.HeldMap.{map_held}
 use Rattle.pk_model.proofs.SpaceLemmas.{is_whole}
-use Rattle.pk_call.specs.Sight.{InSpace, in_space_at}
+use Rattle.pk_call.specs.Sight.{InSpace, in_space_at, live_of_all}
 use Rattle.pk_call.specs.Drive.{CountsMap}
 use Rattle.pk_call.specs.Exec.{report_of}
 use Rattle.pk_call.specs.Seen.{reply_of}
 use Rattle.pk_call.specs.declared.types.Outcome.{Outcome}
-use Rattle.pk_parts.specs.Parts.{Parts, sight_of, counts_of, spaces_of, outputs_of, frames_of, terms_of, settled_parts}
+use Rattle.pk_parts.specs.Parts.{Parts, sight_of, counts_of, spaces_of, frames_of, terms_of, settled_parts}
 use Rattle.pk_parts.specs.Agreeing.{DriveOnFlashWith, DriveOnFlash}
 use Rattle.pk_core.specs.Done.{Does}
 use Rattle.pk_core.specs.Quiet.{DoneWithout}
 use Rattle.pk_core.proofs.Unchanging.{same_early, does_reads, flush_step, report_step, ok_sound, other_within, AnswersAll, ReadsWithin}
+use Rattle.pk_parts.proofs.Using.{use_of_part}
 use Rattle.pk_parts.proofs.Unchanging.{own, for_its_map, reads_none, same_ok, whole_all, limits_are}
 use Rattle.pk_base.proofs.Logic.{some_same}
 
@@ -66,13 +63,12 @@ held_with d shape flash top found without all a =
 counts_map : (d : Parts) (shape : Shape) (flash : Flash) (top : ℕ × Root) (found : Found) (without all : Map)
     → DriveOnFlashWith d shape flash top found without all → CountsMap shape (one_space (frames_of d) (limit shape)) 1 all (first_of d) (counts_of d)
 counts_map d shape flash top found without all a =
-    let c = counts shape flash d.log.pending top found all a.placed.is_shape a.is_flash a.pending in
+    let used = use_of_part shape flash d.log.pending top found all d.spaces a.placed.is_shape a.is_flash a.pending a.uses 1 (omega arith, omega arith) in
     let held = held_with d shape flash top found without all a in
-    let whole : all ≡ in_space 1 all = sym (is_whole shape all held.is_map) in
     record {
-      live_is = total_of shape d.values d.pool (outputs_of d) flash (places found d.log.pending) a.placed ∙ sym c.live_is ∙ ap (live shape) whole;
+      live_is = used.0;
       limit_is = ap (λ s. limit s) a.shape_is;
-      keys_is = a.keys_are ∙ sym c.len_is ∙ ap len whole;
+      keys_is = used.1;
       pinned_is = a.index.levels_pinned ∙ ap (λ s. pinned s (frames_of d)) a.shape_is;
       frames_is = refl;
       in_spaces = subst (λ (limits : List ℕ). AreInSpaces (length limits) all) (limits_are shape flash) held.in_spaces;
@@ -106,11 +102,12 @@ agrees_counts d shape flash m a read =
     subst (λ limits. CountsMap shape (record { frames = frames_of d; limits = limits }) 1 m (first_of d) (counts_of d)) (sym (limits_are shape flash)) own
 
 -- its live pages are those of the map
-pub agrees_live : (d : Parts) (shape : Shape) (flash : Flash) (m : Map) → DriveOnFlash d (Some shape) flash → reading shape flash d.log.pending ≡ Ok m → sum d.values.live.heads ≡ live shape m
+pub agrees_live : (d : Parts) (shape : Shape) (flash : Flash) (m : Map) → DriveOnFlash d (Some shape) flash → reading shape flash d.log.pending ≡ Ok m → live_of_all (spaces_of d) ≡ live shape m
 agrees_live d shape flash m a read =
     let held = held_with (settled_parts d) a.shape flash a.top a.found a.without a.all a.with in
     let one : in_space 1 m ≡ m = subst (λ (x : Map). in_space 1 x ≡ x) (read_is d shape flash m a read) (is_whole a.shape a.all held.is_map) in
-    (agrees_counts d shape flash m a read).live_is ∙ ap (live shape) one
+    let its = (agrees_counts d shape flash m a read).live_is ∙ ap (live shape) one in
+    omega (arith, its)
 
 -- ---- roots
 

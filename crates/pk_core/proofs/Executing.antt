@@ -48,7 +48,7 @@ walked_agrees d w told flash a = record {
     former = a.with.former;
     former_read = a.with.former_read;
     reclaim = a.with.reclaim;
-    keys_are = a.with.keys_are;
+    uses = a.with.uses;
   };
   course = elim a.course [
     | inl is ↦ inl (record { settles = is.settles; moves = is.moves; epoch = is.epoch })

@@ -1,5 +1,5 @@
 -- The answers of commands that change the map.
-use Rattle.std.proofs.Common.{◌≡◌, ◌≢◌, inl, inr, ℕ, ◌+◌, ◌-◌, ◌/◌, ◌%◌, ◌<◌, ◌≤◌, refl, sym, ap, subst, ◌∙◌, arith, Bool, true, false, not, ◌&&◌, ◌||◌, ◌==◌, List, [], length, sum, nat_le, is_some}
+use Rattle.std.proofs.Common.{◌≡◌, ◌≢◌, inl, inr, ℕ, ◌+◌, ◌-◌, ◌/◌, ◌%◌, ◌<◌, ◌≤◌, refl, sym, ap, subst, ◌∙◌, arith, Bool, true, false, not, ◌&&◌, ◌||◌, ◌==◌, List, [], length, nat_le, is_some}
 use Rattle.std.proofs.Common.{◌∷◌}
 use Rattle.std.proofs.Common.{min, Option, Some, None, Result, Ok, Err, leb-true}
 use Rattle.std.specs.Prelude.{MatchOption}
@@ -7,7 +7,7 @@ use Rattle.std.specs.FinMap.{get, insert, remove, contains_key}
 use Rattle.pk_base.specs.Choices.{or_else}
 use Rattle.pk_base.specs.Entry.{Place}
 use Rattle.pk_base.specs.Fields.{AreBytes}
-use Rattle.pk_base.specs.Key.{Key, IsKey}
+use Rattle.pk_base.specs.Key.{Key, IsKey, space_of}
 use Rattle.pk_base.specs.Shape.{Shape, charge, greatest, limit, page_entries}
 use Rattle.pk_base.specs.Page.{Flash}
 use Rattle.pk_base.specs.Map.{Map, live, pages_if_some}
@@ -50,14 +50,16 @@ use Rattle.pk_changes.specs.Changes.{Changes, StaysBetween}
 use Rattle.pk_core.specs.Whole.{MayPutBetween, MayStoreBetween, MayTakeBetween, CanPutBetween, CanTakeBetween, StoresWhole, TakesWhole}
 use Rattle.pk_background.specs.Spacing.{SameMap}
 use Rattle.pk_parts.proofs.Halves.{between}
-use Rattle.pk_core.specs.Serving.{IsServable, IsCounted, outcome_for, pages_at}
+use Rattle.pk_core.specs.Serving.{IsServable, IsCounted, outcome_for}
+use Rattle.pk_changes.specs.Noting.{pages_at}
+use Rattle.pk_space.specs.Uses.{space_live}
 use Rattle.pk_core.proofs.Standing.{stands_so}
 use Rattle.pk_parts.proofs.Standing.{agrees_so}
 use Rattle.pk_core.proofs.Counting.{counts_own}
 use Rattle.pk_core.proofs.Early.{told_shape}
 use Rattle.pk_core.proofs.Unchanging.{unread_step, refused_step, alone, value_of, same_early, does_reads, other_within, AnswersAll, ReadsWithin}
 use Rattle.pk_parts.proofs.Unchanging.{own, looked, for_its_map, reads_none, agrees_ready, whole_all, limits_are}
-use Rattle.pk_model.specs.Spaces.{Terms, one_space, limits_at, in_space}
+use Rattle.pk_model.specs.Spaces.{Terms, one_space, limit_of, limits_at, in_space}
 
 -- ---- what a Store asks
 
@@ -297,21 +299,31 @@ module _ (d : Parts) (old : BoardState) (r : Request) (value : List ℕ) (k : Ke
   abbrev shape : Shape
   shape = d.log.shape
 
+  -- the live pages of its namespace then, and their limit
   abbrev after_pages : ℕ
-  after_pages = sum d.values.live.heads - pages_at d.log.shape o + charge d.log.shape r.size
+  after_pages = space_live d.spaces (space_of k) - pages_at d.log.shape o + charge d.log.shape r.size
+
+  abbrev most_pages_here : ℕ
+  most_pages_here = limit_of (terms_of d).limits (space_of k)
+
+  only_space : space_of k ≡ 1
+  only_space = let some = is_key.space_some in let most = is_key.space_most in omega (arith, some, most)
+
+  most_is : most_pages_here ≡ limit d.log.shape
+  most_is = ap (limit_of (terms_of d).limits) only_space
 
   passes : early 1 d.log.shape c ≡ None
   passes = same_early d.log.shape r value ∙ s.passed
 
-  live_is : sum d.values.live.heads ≡ live d.log.shape all
-  live_is = (counts_own d old s.agrees).live_is ∙ ap (live d.log.shape) (whole_all d old s.agrees)
+  live_is : space_live d.spaces (space_of k) ≡ live d.log.shape all
+  live_is = ap (space_live d.spaces) only_space ∙ (counts_own d old s.agrees).live_is ∙ ap (live d.log.shape) (whole_all d old s.agrees)
 
-  late_is : store_check r.options (is_some o) after_pages (limit d.log.shape) ≡ late_of d.log.shape (limit d.log.shape) all c (Some Store)
-  late_is = store_late d.log.shape all r value (is_some o) (sum d.values.live.heads) (pages_at d.log.shape o) (charge d.log.shape r.size) (limit d.log.shape)
+  late_is : store_check r.options (is_some o) after_pages most_pages_here ≡ late_of d.log.shape (limit d.log.shape) all c (Some Store)
+  late_is = store_late d.log.shape all r value (is_some o) (space_live d.spaces (space_of k)) (pages_at d.log.shape o) (charge d.log.shape r.size) most_pages_here
       (is_there_same d old s.agrees k o is_key looks ∙ ap (contains_key all) named) live_is
-      (pages_same d old s.agrees k o is_key looks ∙ ap (λ q. pages_if_some d.log.shape (get all q)) named) refl refl
+      (pages_same d old s.agrees k o is_key looks ∙ ap (λ q. pages_if_some d.log.shape (get all q)) named) refl most_is
 
-  pub store_refused : (status : ℕ) (e : Parts) (into : List ℕ) (outcome : Outcome) (reads : ℕ) → store_check r.options (is_some o) after_pages (limit d.log.shape) ≡ Some status → e ≡ d
+  pub store_refused : (status : ℕ) (e : Parts) (into : List ℕ) (outcome : Outcome) (reads : ℕ) → store_check r.options (is_some o) after_pages most_pages_here ≡ Some status → e ≡ d
       → outcome ≡ record { status = status; result = 0; data_len = 0; reads = reads; stopped = false }
       → Does old old (sight_of d) (sight_of e) c (shown outcome into) 0 outcome.stopped
   store_refused status e into outcome reads failed same told_is =
@@ -320,22 +332,22 @@ module _ (d : Parts) (old : BoardState) (r : Request) (value : List ℕ) (k : Ke
       for_its_map d old s.agrees (λ x f m. Step x f m c (refusal status) m × ReadsWithin x f (sight_of d) m c 0)
       (step, other_within d.log.shape (terms_of d) (sight_of d) all c 0 (store_other r.opcode op)) in
       let done = does_reads old old (sight_of d) c (refusal status) 0 0 s.counted s.counted (reads_none old s.counted)
-      (omega arith) (not_unread r.options after_pages (limit d.log.shape) status (is_some o) failed) answers in
+      (omega arith) (not_unread r.options after_pages most_pages_here status (is_some o) failed) answers in
       subst (λ (x : Outcome). Does old old (sight_of d) (sight_of e) c (shown x into) 0 x.stopped) (sym told_is)
       (subst (λ (x : Parts). Does old old (sight_of d) (sight_of x) c (refusal status) 0 false) (sym same) done)
 
-  module _ (passed : store_check r.options (is_some o) after_pages (limit d.log.shape) ≡ None) where
+  module _ (passed : store_check r.options (is_some o) after_pages most_pages_here ≡ None) where
     pub may_put : MayPutBetween d d.log.shape old.pages all k value o
     unfolding its_drive
     may_put =
-        let few = within r.options after_pages (limit d.log.shape) (is_some o) passed in
-        let same = live_stored d.log.shape all k value (sum d.values.live.heads) (pages_at d.log.shape o)
+        let few = within r.options after_pages most_pages_here (is_some o) passed in
+        let same = live_stored d.log.shape all k value (space_live d.spaces (space_of k)) (pages_at d.log.shape o)
         (charge d.log.shape r.size) live_is (pages_same d old s.agrees k o is_key looks) (ap (charge d.log.shape) (sym whole)) in
         record {
           stands = its_drive d old s.agrees k o is_key looks;
           old_is = (placed_there d old s.agrees k o is_key looks).placed;
           bytes = bytes;
-          room = omega (arith, few, same);
+          room = omega (arith, few, same, most_is);
         }
 
     may_store : MayStoreBetween d d.log.shape old.pages all k value

@@ -1,7 +1,6 @@
 -- Commands that change the map: what a drive needs to serve one.
-use Rattle.std.specs.Prelude.{◌≡◌, ◌≤◌, ◌<◌, ℕ, [], length, ◌+◌, true, false, Option, Some, None, Result, Ok, Err}
-use Rattle.pk_base.specs.Entry.{Place}
-use Rattle.pk_base.specs.Shape.{Shape, charge, page_entries}
+use Rattle.std.specs.Prelude.{◌≡◌, ◌≤◌, ◌<◌, ℕ, [], length, ◌+◌, true, false, None, Result, Ok, Err}
+use Rattle.pk_base.specs.Shape.{page_entries}
 use Rattle.pk_nvme.specs.Seen.{command_of}
 use Rattle.pk_nvme.specs.declared.status.TheConstants.{SUCCESSFUL_COMPLETION, UNRECOVERED_ERROR}
 use Rattle.pk_nvme.specs.declared.request.Request.{Request}
@@ -23,11 +22,6 @@ pub record IsServable (d : Parts) (board : BoardState) (r : Request) : Type 0 wh
   pub passed : early 1 d.log.shape (command_of r []) ≡ None
   pub few : length d.log.pending < page_entries d.log.shape
   pub counted : board.reads ≤ last_count
-
--- the pages of a value at a place; none if there is none
-abbrev pub pages_at : Shape → Option Place → ℕ
-pages_at shape None = 0
-pages_at shape (Some p) = charge shape p.len
 
 -- ---- how many pages were read
 

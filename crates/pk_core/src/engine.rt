@@ -142,6 +142,6 @@ impl<A: Region> Engine for Drive<A> {
     }
 
     fn live_pages(&self) -> u32 {
-        self.parts.total()
+        self.parts.live_pages()
     }
 }

@@ -1,17 +1,20 @@
 //! The commands that change the map.
-ghost use Rattle.std.specs.Prelude.{◌≡◌, ◌≤◌, ◌+◌, ◌-◌, ℕ, is_some, sum, List, [], length, false, true, None, Some, Err, MatchOption};
+ghost use Rattle.std.specs.Prelude.{◌≡◌, ◌≤◌, ◌+◌, ◌-◌, ℕ, is_some, List, [], length, false, true, None, Some, Err, MatchOption};
 ghost use Rattle.pk_base.specs.Fields.{AreBytes};
-ghost use Rattle.pk_base.specs.Key.{IsKey};
+ghost use Rattle.pk_base.specs.Key.{IsKey, space_of};
 ghost use Rattle.pk_base.specs.Shape as spec;
 ghost use Rattle.pk_nvme.specs.Command.{key as key_in};
 ghost use Rattle.pk_nvme.specs.Seen.{command_of};
 ghost use Rattle.pk_model.specs.Answer.{store_fault as store_fault_of};
 ghost use Rattle.pk_core.specs.Done.{Executes};
-ghost use Rattle.pk_core.specs.Serving.{IsServable, IsCounted, outcome_for, pages_at as pages_at_by};
+ghost use Rattle.pk_core.specs.Serving.{IsServable, IsCounted, outcome_for};
+ghost use Rattle.pk_changes.specs.Noting.{pages_at as pages_at_by};
 ghost use Rattle.pk_nvme.specs.declared.opcode.TheConstants.{STORE, DELETE};
 ghost use Rattle.pk_law_work.specs.Calls.{commit_calls, pair_calls, room_calls, room_roots, store_roots};
 ghost use Rattle.pk_background.specs.Costs.{Spends, space_and_put_calls};
-ghost use Rattle.pk_parts.specs.Parts.{is_half};
+ghost use Rattle.pk_parts.specs.Parts.{is_half, terms_of};
+ghost use Rattle.pk_space.specs.Uses.{space_live};
+ghost use Rattle.pk_model.specs.Spaces.{limit_of};
 ghost use Rattle.pk_parts.specs.Staying.{Stays, StaysOrOpens, IsNoted};
 ghost use Rattle.pk_core.specs.Programming.{QuietStore, QuietDelete};
 ghost use Rattle.pk_core.specs.LookedUp.{IsLookedUp, StoresOver, DeletesAt};
@@ -20,25 +23,15 @@ ghost use Rattle.pk_nvme.specs.declared.status.TheConstants.{SUCCESSFUL_COMPLETI
 use crate::counts::reads_since;
 use crate::quiet::{refusal, served};
 use crate::storing::{put_whole, take_whole};
-use pk_base::{Key, Place, Shape, are_bytes};
+use pk_base::{Key, Place, are_bytes};
 use pk_call::Outcome;
+use pk_changes::pages_at;
 use pk_model::early::store_fault;
 use pk_nand::{Fault, Nand};
 use pk_nvme::Request;
 use pk_nvme::status::{KEY_DOES_NOT_EXIST, UNRECOVERED_ERROR};
 use pk_parts::Parts;
 use pk_region::Region;
-
-// The pages of the value at a place; none if there is none.
-fn pages_at(shape: &Shape, place: &Option<Place>) -> u32
-    requires { MatchOption place.now (Unit {0}) (λ p. p.len ≤ spec.greatest shape.now) }
-    ensures { result ≡ pages_at_by shape.now place.now }
-{
-    match place {
-        None => 0,
-        Some(place) => shape.charge(place.len),
-    }
-}
 
 // Ghost: a key has 1 to 16 bytes, a fact that this makes visible to the prover.
 fn known(key: &Key)
@@ -88,10 +81,11 @@ fn changed(answer: Result<(), Fault>, reads: u32) -> Outcome
 }
 
 // The check of a Store of `count` pages that fails on the map, if the key has its value at this
-// place.
+// place. What counts are the live pages of its namespace, and their limit.
 fn fault_of_store<A: Region>(
     parts: &Parts<A>,
     request: &Request,
+    key: &Key,
     old: &Option<Place>,
     count: u32,
 ) -> Option<u8>
@@ -99,14 +93,16 @@ fn fault_of_store<A: Region>(
         (λ p. p.len ≤ spec.greatest parts.now.log.shape) }
     requires counted { count ≡ spec.charge parts.now.log.shape request.now.size }
     ensures { result ≡ store_fault_of (command_of request.now []) (is_some old.now)
-        (sum parts.now.values.live.heads - pages_at_by parts.now.log.shape old.now
-        + spec.charge parts.now.log.shape request.now.size) (spec.limit parts.now.log.shape) }
+        (space_live parts.now.spaces (space_of key.now) - pages_at_by parts.now.log.shape old.now
+        + spec.charge parts.now.log.shape request.now.size)
+        (limit_of (terms_of parts.now).limits (space_of key.now)) }
 {
     let shape = parts.shape();
+    let space = key.space();
     let held = pages_at(&shape, old);
-    let left = parts.total().saturating_sub(held);
+    let left = parts.spaces.live(space).saturating_sub(held);
     let live = left as u64 + count as u64;
-    store_fault(request, old.is_some(), live, shape.limit() as u64)
+    store_fault(request, old.is_some(), live, parts.limit(space) as u64)
 }
 
 // A Store whose key has its value at this place, as was found since the board had this count of reads.
@@ -142,7 +138,7 @@ fn store_over<B: Nand, A: Region>(
 {
     known(&key);
     let count = parts.shape().charge(request.size);
-    match fault_of_store(parts, request, &old, count) {
+    match fault_of_store(parts, request, &key, &old, count) {
         Some(status) => refusal(status, reads_since(board, before)),
         None => {
             let answer = put_whole(parts, board, key, value, old, count);

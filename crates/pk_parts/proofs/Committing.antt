@@ -32,6 +32,7 @@ use Rattle.pk_model.proofs.SamePages.{any_front}
 use Rattle.pk_law_steps.specs.Under.{IsUnder, IsValuePage, places}
 use Rattle.pk_law_steps.specs.Roots.{committed}
 use Rattle.pk_law_steps.proofs.Untouched.{under_reads}
+use Rattle.pk_scan.specs.Used.{IsUseOf}
 use Rattle.pk_values.specs.Placed.{ValuesOnFlash}
 use Rattle.pk_values.proofs.Unchanged.{flash_elsewhere}
 use Rattle.pk_model.specs.Growth.{Goes}
@@ -127,7 +128,7 @@ module _ (d : Parts) (old new : BoardState) (top : ℕ × Root) (found : Found) 
             subst (λ (es : List (Key × Place)). ReclaimOnFlash its d.reclaim d.values.live d.pool new.pages es) same
             (reclaim_elsewhere its d.reclaim d.values d.pool d.pool old.pages new.pages (places found d.log.pending) agrees.reclaim agrees.placed refl
             (λ k held not_open. values_same its d.pool old.pages new.pages block owned others [] k held (λ none. none)));
-        keys_are = agrees.keys_are ∙ ap length same;
+        uses = subst (IsUseOf its d.spaces) same agrees.uses;
       }
 
 -- ---- cuts

@@ -4,6 +4,7 @@ pub mod Searching
 pub mod Standing
 pub mod Keeping
 pub mod Elsewhere
+pub mod Using
 pub mod Committing
 pub mod Reclaiming
 pub mod Unchanging

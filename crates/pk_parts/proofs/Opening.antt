@@ -29,12 +29,12 @@ use Rattle.pk_gc.specs.Stepping.{runs_in}
 use Rattle.pk_gc.specs.Standing.{held_blocks}
 use Rattle.pk_scan.specs.Opened.{ListsOnFlash, BlocksOnFlash, FoundOnFlash}
 use Rattle.pk_scan.specs.declared.contents.Found.{Found as Opened}
+use Rattle.pk_scan.specs.Used.{IsUseOf}
 use Rattle.pk_walk.specs.Walking.{Walk}
 use Rattle.pk_parts.specs.Parts.{Parts, commits_in}
 use Rattle.pk_parts.specs.Opening.{OpenedOn}
 use Rattle.pk_parts.proofs.Reclaiming.{reclaim_rests}
 use Rattle.pk_schedule.proofs.Keeping.{IsFound, index_opens}
-use Rattle.pk_space.specs.Uses.{space_keys}
 
 -- the lists are what a log is opened with
 log_opens : {A : Type 0} (shape : Shape) (flash : Flash) (frames : ℕ) (f : Opened A) (found : Found) (m : Map)
@@ -69,9 +69,9 @@ values_found shape flash f found is has = record {
 }
 
 -- the parts of a drive made of what was found
-module _ {A : Type 0} (shape : Shape) (flash : Flash) (frames : ℕ) (f : Opened A) (log : LogState) (values : ValuesState) (s : Schedule) (job : JobState) (keys : ℕ) (walk : Walk) where
+module _ {A : Type 0} (shape : Shape) (flash : Flash) (frames : ℕ) (f : Opened A) (log : LogState) (values : ValuesState) (s : Schedule) (job : JobState) (walk : Walk) where
   abbrev parts : Parts
-  parts = record { log = log; levels = f.levels; arena = f.arena; schedule = s; values = values; reclaim = job; pool = f.pool; keys = keys; stopped = false; walk = walk }
+  parts = record { log = log; levels = f.levels; arena = f.arena; schedule = s; values = values; reclaim = job; pool = f.pool; spaces = f.spaces; stopped = false; walk = walk }
 
   -- the index of what was found, in which nothing runs
   index_found : IsShape f.root.shape → (was : FoundOnFlash shape flash frames f) → log ≡ opened f.root f.root_page f.epoch f.active f.frozen
@@ -104,9 +104,9 @@ module _ {A : Type 0} (shape : Shape) (flash : Flash) (frames : ℕ) (f : Opened
       → ((x : Flash) (found : Found) → Opens f.root f.root_page f.epoch f.active f.frozen x found → LogOnFlash log x (f.root_page, f.root.root) found)
       → values ≡ with_none_open f.live → ((s : Shape) (named : List ℕ) (p : Blocks) (x : Flash) (es : List (Key × Place)) → FoundAtOpening s named f.live p x es → ValuesOnFlash s values p [] x es)
       → (s.phase ≡ Idle) × (s.freeze ≡ NoFreeze) × IsIdle f.root.shape s.job → s.job.pinned ≡ pinned f.root.shape (length f.arena.used)
-      → (job.shape ≡ f.root.shape) × (job.phase ≡ NoReclaim) × (job.moves ≡ []) → keys ≡ space_keys f.spaces 1
+      → (job.shape ≡ f.root.shape) × (job.phase ≡ NoReclaim) × (job.moves ≡ [])
       → OpenedOn shape flash frames parts
-  opens_on held is_flash was log_is stands space_is places_so idle pins rests counted =
+  opens_on held is_flash was log_is stands space_is places_so idle pins rests =
       let is : IsShape shape = subst IsShape was.lists.shape_is held in
       let none : log.pending ≡ [] = ap (λ (l : LogState). l.pending) log_is in
       let placed : ValuesOnFlash shape values f.pool [] flash (places was.found []) = places_so shape
@@ -127,7 +127,7 @@ module _ {A : Type 0} (shape : Shape) (flash : Flash) (frames : ℕ) (f : Opened
           former = placed.owned;
           former_read = λ k is. subst (λ (p : Phase). IsOutput (held_blocks p) (k / shape.block_pages) → ⊥) (sym rests.1) (λ none_held. none_held);
           reclaim = reclaim_rests shape job values.live f.pool flash (places was.found log.pending) (rests.0 ∙ was.lists.shape_is) (ap runs_in rests.1);
-          keys_are = counted ∙ was.keys_are ∙ sym (ap (λ (es : List Entry). length (places was.found es)) none);
+          uses = subst (λ (es : List Entry). IsUseOf shape f.spaces (places was.found es)) (sym none) was.uses;
         };
         whole = record {
           settles = record {

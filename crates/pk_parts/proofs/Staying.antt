@@ -13,6 +13,7 @@ use Rattle.pk_pool.proofs.Sharing.{count-set}
 use Rattle.pk_log.specs.State.{LogState, pushed}
 use Rattle.pk_log.specs.Commits.{CommitsNone, CommitsAll}
 use Rattle.pk_values.specs.State.{ValuesState, fits_open}
+use Rattle.pk_space.specs.Uses.{Use}
 use Rattle.pk_parts.specs.Parts.{Parts, block_if_open}
 use Rattle.pk_parts.specs.Staying.{StaysFresh, SameUse, Stays, StaysOrOpens, StaysOrFrees}
 
@@ -106,10 +107,10 @@ commit_stays_ok (Ok x) d log' old new made = commit_stays d log' old new made
 commit_stays_ok (Err e) d log' old new made = tt
 
 -- an entry is noted
-pub note_stays : (d : Parts) (e : Entry) (log' : LogState) (space' : ValuesState) (keys' : ℕ) → log' ≡ pushed d.log e
-    → space'.open_block ≡ d.values.open_block → Stays d (record d { log = log'; values = space'; keys = keys' })
-note_stays d e log' space' keys' is same =
-    let T : LogState → Type 0 = λ l. Stays d (record d { log = l; values = space'; keys = keys' }) in
+pub note_stays : (d : Parts) (e : Entry) (log' : LogState) (space' : ValuesState) (spaces' : Use) → log' ≡ pushed d.log e
+    → space'.open_block ≡ d.values.open_block → Stays d (record d { log = log'; values = space'; spaces = spaces' })
+note_stays d e log' space' spaces' is same =
+    let T : LogState → Type 0 = λ l. Stays d (record d { log = l; values = space'; spaces = spaces' }) in
     subst T (sym is) (record { fresh = record { stays = λ x. x; begun = inl refl }; blocks = record { used = refl; open_same = ap block_if_open same } })
 
 -- a step erases a spare block, or none

@@ -1,5 +1,5 @@
 -- How a drive matches its flash.
-use Rattle.std.specs.Prelude.{◌≡◌, ℕ, ◌/◌, List, [], length, Option, Some, ◌⊎◌, false}
+use Rattle.std.specs.Prelude.{◌≡◌, ℕ, ◌/◌, List, [], Option, Some, ◌⊎◌, false}
 use Rattle.pk_base.specs.Shape.{Shape}
 use Rattle.pk_base.specs.Page.{Flash, IsFlash}
 use Rattle.pk_base.specs.Map.{Map}
@@ -9,6 +9,7 @@ use Rattle.pk_law_steps.specs.Under.{IsUnder, IsValuePage, places}
 use Rattle.pk_values.specs.Placed.{HoldsValues, IsOutput, ValuesOnFlash}
 use Rattle.pk_gc.specs.declared.course.Phase.TheVariants.{Commits}
 use Rattle.pk_gc.specs.Standing.{ReclaimOnFlash}
+use Rattle.pk_scan.specs.Used.{IsUseOf}
 use Rattle.pk_schedule.specs.Index.{IndexOnFlash, IsSettled, HalfStands}
 use Rattle.pk_reclaim.specs.Space.{HalfMoves, reclaim_parts}
 use Rattle.pk_parts.specs.Parts.{Parts, frames_of, index_of, outputs_of, settled_parts, commits_in}
@@ -27,7 +28,7 @@ pub record DriveOnFlashBeside (d : Parts) (outputs : List ℕ) (shape : Shape) (
   pub former_read : (k : ℕ) → IsValuePage shape (places found []) k → IsOutput outputs (k / shape.block_pages) → ⊥
   -- the reclaim matches them
   pub reclaim : ReclaimOnFlash shape d.reclaim d.values.live d.pool flash (places found d.log.pending)
-  pub keys_are : d.keys ≡ length (places found d.log.pending)
+  pub uses : IsUseOf shape d.spaces (places found d.log.pending)
 
 -- the same next to what runs in the drive
 abbrev pub DriveOnFlashWith : Parts → Shape → Flash → ℕ × Root → Found → Map → Map → Type 0

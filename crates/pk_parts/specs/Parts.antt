@@ -6,7 +6,8 @@ use Rattle.pk_pin.specs.Frames.{Frames, leased_frames}
 use Rattle.pk_pool.specs.Blocks.{Blocks, IsShared, is_ready, used_by, freed}
 use Rattle.pk_run.specs.Kept.{is_pinned}
 use Rattle.pk_level.specs.Levels.{Levels, IsLevels, run_of}
-use Rattle.pk_model.specs.Spaces.{Terms, one_space}
+use Rattle.pk_model.specs.Spaces.{Terms, one_space, limit_of}
+use Rattle.pk_space.specs.Uses.{Use, space_live, space_keys}
 use Rattle.pk_call.specs.Sight.{Sight, Counts, InSpace}
 use Rattle.pk_log.specs.State.{LogState}
 use Rattle.pk_values.specs.State.{ValuesState, fits_open}
@@ -26,8 +27,8 @@ use Rattle.pk_gc.specs.Standing.{held_blocks}
 use Rattle.pk_root.specs.Installing.{repeats_next}
 use Rattle.pk_walk.specs.Walking.{Walk}
 
--- The log, the runs with the arena of their frames, the jobs that keep both short, where values lie, the reclaim, the blocks, how many
--- keys there are, whether it stopped, and the walk of a List.
+-- The log, the runs with the arena of their frames, the jobs that keep both short, where values lie, the reclaim, the blocks, the live
+-- pages and the keys of each namespace, whether it stopped, and the walk of a List.
 pub record Parts : Type 0 where
   pub log : LogState
   pub levels : Levels
@@ -36,7 +37,7 @@ pub record Parts : Type 0 where
   pub values : ValuesState
   pub reclaim : JobState
   pub pool : Blocks
-  pub keys : ℕ
+  pub spaces : Use
   pub stopped : Bool
   pub walk : Walk
 
@@ -85,9 +86,9 @@ held_of d = record {
 abbrev pub outputs_of : Parts → List ℕ
 outputs_of d = (held_of d).values
 
--- what a Report says of each namespace
+-- what a Report says of each namespace, of which there is one
 abbrev pub spaces_of : Parts → List InSpace
-spaces_of d = record { live = sum d.values.live.heads; limit = limit d.log.shape; keys = d.keys } ∷ []
+spaces_of d = record { live = space_live d.spaces 1; limit = limit_of (terms_of d).limits 1; keys = space_keys d.spaces 1 } ∷ []
 
 -- and of the drive
 abbrev pub counts_of : Parts → Counts

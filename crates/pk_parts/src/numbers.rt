@@ -2,7 +2,8 @@
 ghost use Rattle.std.specs.Prelude.{◌≡◌, ◌≤◌, length};
 ghost use Rattle.pk_call.specs.Seen.{counts_of, in_space_of};
 ghost use Rattle.pk_gc.specs.Standing.{held_blocks};
-ghost use Rattle.pk_call.specs.Sight.{in_space_at};
+ghost use Rattle.pk_call.specs.Sight.{in_space_at, live_of_all};
+ghost use Rattle.pk_model.specs.Spaces.{limit_of};
 ghost use Rattle.pk_parts.specs.Parts as spec;
 
 use crate::parts::Parts;
@@ -41,6 +42,21 @@ impl<A: Region> Parts<A> {
         1
     }
 
+    /// The live limit of this namespace, in pages: that of the shape, as there is one.
+    pub fn limit(&self, space: u8) -> u32
+        requires { 1 ≤ space × space ≤ length (spec.spaces_of self.now) }
+        ensures { result ≡ limit_of (spec.terms_of self.now).limits space }
+    {
+        self.shape().limit()
+    }
+
+    /// The live pages of all namespaces.
+    pub fn live_pages(&self) -> u32
+        ensures { result ≡ live_of_all (spec.spaces_of self.now) }
+    {
+        self.spaces.live(1)
+    }
+
     /// The sixteen numbers of a Report in this namespace.
     pub fn counts(&self, space: u8) -> Counts
         requires { 1 ≤ space × space ≤ length (spec.spaces_of self.now) }
@@ -48,9 +64,9 @@ impl<A: Region> Parts<A> {
         ensures here { in_space_of result ≡ in_space_at (spec.spaces_of self.now) space }
     {
         Counts {
-            live: self.values.total(),
-            limit: self.shape().limit(),
-            keys: self.keys,
+            live: self.spaces.live(space),
+            limit: self.limit(space),
+            keys: self.spaces.keys(space),
             pinned: self.levels.pinned() as u32,
             frames: self.arena.frames(),
             leased: self.arena.frames() - self.arena.free(),

@@ -43,7 +43,7 @@ impl<A: Region> Parts<A> {
             values: Values::new(found.live),
             reclaim: jobs.reclaim,
             pool: found.pool,
-            keys: found.spaces.keys(1),
+            spaces: found.spaces,
             stopped: false,
             page,
             walk,

@@ -1,5 +1,5 @@
 //! The parts of a drive.
-ghost use Rattle.std.specs.Prelude.{◌≡◌, length, sum};
+ghost use Rattle.std.specs.Prelude.{◌≡◌, length};
 ghost use Rattle.pk_parts.specs.Parts.{IsParts};
 ghost use Rattle.pk_parts.specs.Stopping.{failed_by};
 
@@ -12,6 +12,7 @@ use pk_pin::PinArena;
 use pk_pool::Pool;
 use pk_region::Region;
 use pk_schedule::Schedule;
+use pk_space::Use;
 use pk_values::Values;
 use pk_walk::Walk;
 use std::marker::Model;
@@ -36,8 +37,8 @@ pub struct Parts<A: Region> {
     pub reclaim: ReclaimJob<A>,
     /// The owners of the blocks.
     pub pool: Pool<A>,
-    /// How many keys the map has.
-    pub keys: u32,
+    /// The live pages and the keys of each namespace.
+    pub spaces: Use,
     /// A program or an erase failed: the drive refuses every later call. Set by `fail` alone.
     pub(crate) stopped: bool,
     /// A buffer of the bytes of a page.
@@ -57,7 +58,7 @@ impl<A: Region> Drop for Parts<A> {
             values: _,
             reclaim: _,
             pool: _,
-            keys: _,
+            spaces: _,
             stopped: _,
             page: _,
             walk: _,
@@ -79,7 +80,7 @@ impl<A: Region> Model for Parts<A> {
       values = d.values;
       reclaim = d.reclaim;
       pool = d.pool;
-      keys = d.keys;
+      spaces = d.spaces;
       stopped = d.stopped;
       walk = d.walk;
     } };
@@ -117,13 +118,6 @@ impl<A: Region> Parts<A> {
         ensures { result ≡ self.now.log.root.number }
     {
         self.log.root().number()
-    }
-
-    /// How many pages the values of the map have.
-    pub fn total(&self) -> u32
-        ensures { result ≡ sum self.now.values.live.heads }
-    {
-        self.values.total()
     }
 
     /// Whether a call failed that stops the drive.

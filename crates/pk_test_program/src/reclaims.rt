@@ -332,11 +332,12 @@ fn check_one(rt: &impl Abort, alloc: Global, full: &Full, every: u32) -> Cuts {
     check(rt, alloc, &cutting, &first)
 }
 
-/// The first reclaim of a full drive of 64 blocks, cut at every mark.
+/// The first reclaim of a full drive of 64 blocks, cut at every mark, and of the cuts of the session after each one, one of every three.
 #[test]
 fn first_on_full(rt: HostRuntime) {
-    let cuts = check_one(&rt, rt.alloc(), &WORKED, 0);
+    let cuts = check_one(&rt, rt.alloc(), &WORKED, 3);
     at_least(&rt, cuts.first, 30, "cuts");
+    at_least(&rt, cuts.second, 500, "cuts after them");
 }
 
 /// The same, and of the cuts of the session after each one, of every mark in some ways, one in

@@ -1,9 +1,10 @@
 //! A session in which a block moves to a spare block is cut off at each call of the inner flash: what was answered is kept, and the drive
 //! serves on.
 
-use crate::spared::{Failing, MOST_CALLS, left, made, moving, one, serve_failing, serves_on, way};
+use crate::spared::{
+    Failing, Image, MOST_CALLS, left, made, moving, one, serve_failing, serves_on, way,
+};
 use pk_flash::Left;
-use pk_nand::PageState;
 use pk_test_scripts::program::SCRIPT;
 use std::alloc::Global;
 use std::process::Abort;
@@ -22,10 +23,10 @@ fn cut_at(rt: &impl Abort, alloc: Global, fault: u64, cut: u64, number: u8) -> V
 }
 
 // The session with a fault is cut off at this call, which is undone, Torn or done, and the drive is used after it.
-fn check_cut(rt: &impl Abort, alloc: Global, pages: &[PageState], fault: u64, cut: u64) {
+fn check_cut(rt: &impl Abort, alloc: Global, image: &Image, fault: u64, cut: u64) {
     for number in 0..6u8 {
         let failing = cut_at(rt, alloc, fault, cut, number);
-        let ran = serve_failing(rt, alloc, pages, &SCRIPT, failing);
+        let ran = serve_failing(rt, alloc, image, &SCRIPT, failing);
         let stored = ran.flash.posted().len() >= 24;
         serves_on(rt, alloc, &left(rt, alloc, &ran.flash), !stored);
     }
@@ -35,10 +36,10 @@ fn check_cut(rt: &impl Abort, alloc: Global, pages: &[PageState], fault: u64, cu
 #[test]
 fn a_move_that_is_cut_off(rt: HostRuntime) {
     let alloc = rt.alloc();
-    let pages = made(&rt, alloc);
-    for fault in &moving(&rt, alloc, &pages) {
+    let image = made(&rt, alloc);
+    for fault in &moving(&rt, alloc, &image) {
         for more in 1..MOST_CALLS {
-            check_cut(&rt, alloc, &pages, *fault, fault.saturating_add(more));
+            check_cut(&rt, alloc, &image, *fault, fault.saturating_add(more));
         }
     }
 }

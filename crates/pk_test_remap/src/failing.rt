@@ -1,12 +1,9 @@
-//! Each call of the inner flash in a session fails, in each way, alone and with a second one. What was answered is kept, and the drive
-//! serves on.
+//! Each call of the inner flash in a session fails. What was answered is kept, and the drive serves on.
 
 use crate::spared::{
-    Failing, MOST_CALLS, call_after_opening, left, made, moving, one, serve, serve_failing,
-    serves_on, way,
+    Failing, Image, call_after_opening, left, made, one, serve, serve_failing, serves_on, way,
 };
-use pk_flash::{Flash, Left};
-use pk_nand::PageState;
+use pk_flash::Flash;
 use pk_test_scripts::program::{RECORDS, SCRIPT};
 use pk_test_scripts::script::{Answer, records};
 use pk_top::Status;
@@ -24,8 +21,8 @@ fn calls_of(flash: &Flash) -> u64 {
 
 // The session with these faults answers with a prefix of the records, or that a read failed; what it answered is kept, and the drive
 // serves on.
-fn check(rt: &impl Abort, alloc: Global, pages: &[PageState], failing: Vec<Failing>) {
-    let ran = serve_failing(rt, alloc, pages, &SCRIPT, failing);
+fn check(rt: &impl Abort, alloc: Global, image: &Image, failing: Vec<Failing>) {
+    let ran = serve_failing(rt, alloc, image, &SCRIPT, failing);
     let posted = ran.flash.posted();
     let unread = records(alloc, &[Answer::Done, Answer::Unread]).expect(rt, "memory");
     let is_unread = posted == unread.as_slice();
@@ -40,10 +37,10 @@ fn check(rt: &impl Abort, alloc: Global, pages: &[PageState], failing: Vec<Faili
 #[test]
 fn one_call_that_fails(rt: HostRuntime) {
     let alloc = rt.alloc();
-    let pages = made(&rt, alloc);
-    let quiet = serve(&rt, alloc, &pages, &SCRIPT);
+    let image = made(&rt, alloc);
+    let quiet = serve(&rt, alloc, &image, &SCRIPT);
     for call in 0..calls_of(&quiet.flash) {
-        check(&rt, alloc, &pages, one(&rt, alloc, call, way(0)));
+        check(&rt, alloc, &image, one(&rt, alloc, call, way(0)));
     }
 }
 
@@ -51,33 +48,11 @@ fn one_call_that_fails(rt: HostRuntime) {
 #[test]
 fn each_way_of_a_failure(rt: HostRuntime) {
     let alloc = rt.alloc();
-    let pages = made(&rt, alloc);
-    let quiet = serve(&rt, alloc, &pages, &SCRIPT);
+    let image = made(&rt, alloc);
+    let quiet = serve(&rt, alloc, &image, &SCRIPT);
     for call in call_after_opening(&quiet.flash)..calls_of(&quiet.flash) {
         for number in 0..6u8 {
-            check(&rt, alloc, &pages, one(&rt, alloc, call, way(number)));
-        }
-    }
-}
-
-// This call and a later one.
-fn two(rt: &impl Abort, alloc: Global, first: u64, second: u64) -> Vec<Failing> {
-    let mut all = one(rt, alloc, first, Left::Torn);
-    let left = Left::Torn;
-    all.push(Failing { call: second, left })
-        .expect(rt, "memory");
-    all
-}
-
-/// Each call that moves a block fails, and so does one of the calls after it, to the end of the session.
-#[test]
-fn two_calls_that_fail(rt: HostRuntime) {
-    let alloc = rt.alloc();
-    let pages = made(&rt, alloc);
-    for call in &moving(&rt, alloc, &pages) {
-        for more in 1..MOST_CALLS {
-            let later = call.saturating_add(more);
-            check(&rt, alloc, &pages, two(&rt, alloc, *call, later));
+            check(&rt, alloc, &image, one(&rt, alloc, call, way(number)));
         }
     }
 }

@@ -7,8 +7,12 @@ mod cuts;
 #[cfg(test)]
 mod failing;
 #[cfg(test)]
+mod pairs;
+#[cfg(test)]
 mod rows;
 #[cfg(test)]
 mod spared;
 #[cfg(test)]
 mod tables;
+#[cfg(test)]
+mod trail;

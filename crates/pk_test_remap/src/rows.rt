@@ -1,8 +1,8 @@
 //! The worked rows: a program that fails in a session moves its block to a spare block, and five that fail use the spare blocks up.
 
 use crate::spared::{
-    BLOCK_PAGES, FIRST_TABLE_BLOCK, Failing, LIST, call_after_opening, made, one, said, serve,
-    serve_failing,
+    BLOCK_PAGES, FIRST_TABLE_BLOCK, Failing, Image, LIST, call_after_opening, left, made, one,
+    said, serve, serve_failing,
 };
 use pk_flash::{Flash, Left};
 use pk_nand::{Mark, PageState};
@@ -24,13 +24,13 @@ fn first_program(rt: &impl Abort, flash: &Flash) -> (usize, u32) {
 
 // The call of the first program of a value in the worked session: of the calls whose failure uses a spare block, the one after those that
 // erase.
-fn call_of_value(rt: &impl Abort, alloc: Global, pages: &[PageState], erases: usize) -> u64 {
-    let quiet = serve(rt, alloc, pages, &SCRIPT);
+fn call_of_value(rt: &impl Abort, alloc: Global, image: &Image, erases: usize) -> u64 {
+    let quiet = serve(rt, alloc, image, &SCRIPT);
     let start = call_after_opening(&quiet.flash);
     let mut found = 0usize;
     for call in start..start.saturating_add(40) {
         let failing = one(rt, alloc, call, Left::Untouched);
-        let ran = serve_failing(rt, alloc, pages, &SCRIPT, failing);
+        let ran = serve_failing(rt, alloc, image, &SCRIPT, failing);
         if ran.status == Status::DONE && ran.left == 3 {
             if found == erases {
                 return call;
@@ -81,14 +81,14 @@ fn has_table(rt: &impl Abort, alloc: Global, flash: &Flash, block: u32) -> bool 
 #[test]
 fn a_block_that_moves(rt: HostRuntime) {
     let alloc = rt.alloc();
-    let pages = made(&rt, alloc);
-    let quiet = serve(&rt, alloc, &pages, &SCRIPT);
+    let image = made(&rt, alloc);
+    let quiet = serve(&rt, alloc, &image, &SCRIPT);
     assert!(rt; quiet.status == Status::DONE && quiet.left == 4);
     assert!(rt; quiet.flash.posted() == RECORDS.as_slice());
     let (erases, page) = first_program(&rt, &quiet.flash);
-    let call = call_of_value(&rt, alloc, &pages, erases);
+    let call = call_of_value(&rt, alloc, &image, erases);
     let failing = one(&rt, alloc, call, Left::Torn);
-    let ran = serve_failing(&rt, alloc, &pages, &SCRIPT, failing);
+    let ran = serve_failing(&rt, alloc, &image, &SCRIPT, failing);
     assert!(rt; ran.status == Status::DONE && ran.left == 3);
     assert!(rt; ran.flash.posted() == RECORDS.as_slice());
     assert!(rt; has_table(&rt, alloc, &ran.flash, page / BLOCK_PAGES));
@@ -110,14 +110,14 @@ fn every_second(rt: &impl Abort, alloc: Global, call: u64) -> Vec<Failing> {
 #[test]
 fn spare_blocks_that_are_used_up(rt: HostRuntime) {
     let alloc = rt.alloc();
-    let pages = made(&rt, alloc);
-    let quiet = serve(&rt, alloc, &pages, &SCRIPT);
+    let image = made(&rt, alloc);
+    let quiet = serve(&rt, alloc, &image, &SCRIPT);
     let (erases, _) = first_program(&rt, &quiet.flash);
-    let call = call_of_value(&rt, alloc, &pages, erases);
-    let ran = serve_failing(&rt, alloc, &pages, &SCRIPT, every_second(&rt, alloc, call));
+    let call = call_of_value(&rt, alloc, &image, erases);
+    let ran = serve_failing(&rt, alloc, &image, &SCRIPT, every_second(&rt, alloc, call));
     assert!(rt; ran.status == Status::FLASH && ran.left == 0);
     assert!(rt; ran.flash.posted().is_empty());
-    let pages = crate::spared::left(&rt, alloc, &ran.flash);
-    let again = said(&rt, alloc, &pages, &LIST, &[]);
+    let image = left(&rt, alloc, &ran.flash);
+    let again = said(&rt, alloc, &image, &LIST, &[]);
     assert!(rt; again.left == 4);
 }

@@ -13,6 +13,8 @@ use std::test::*;
 
 /// The words that make a drive of 64 blocks of 16 pages, with four spare blocks.
 pub const MAKE: [&str; 6] = ["spared", "4", "make", "512", "16", "64"];
+/// Those that make one of 33 blocks of 8 pages.
+pub const MAKE_SMALL: [&str; 6] = ["spared", "4", "make", "512", "8", "33"];
 /// Those that serve the input of a board.
 pub const SERVE: [&str; 4] = ["spared", "4", "serve", "36"];
 /// Those that list all keys.
@@ -37,6 +39,13 @@ pub struct Ran {
     pub status: Status,
     pub left: u16,
     pub flash: Flash,
+}
+
+/// An inner board between two runs: its shape, and its pages.
+#[derive(Drop)]
+pub struct Image {
+    pub shape: Shape,
+    pub pages: Vec<PageState>,
 }
 
 /// Calls of a run that fail, and what they leave.
@@ -66,7 +75,7 @@ pub fn done<T>(rt: &impl Abort, step: Result<T, Fail>) -> T {
     }
 }
 
-/// The shape of the inner flash: the blocks of the drive, four spare blocks and two for tables.
+/// The shape of the inner flash under the drive of 64 blocks: its blocks, four spare blocks and two for tables.
 pub fn inner(rt: &impl Abort) -> Shape {
     match Shape::new(512, 16, 70) {
         Ok(shape) => shape,
@@ -74,9 +83,10 @@ pub fn inner(rt: &impl Abort) -> Shape {
     }
 }
 
-/// The run of words over this inner board, which are not refused.
-pub fn run_over(rt: &impl Abort, alloc: Global, flash: Flash, words: &[&str]) -> Ran {
-    let (status, remap) = run_spared(alloc, words, flash, 0);
+/// The run of words over this inner board, which are not refused. The flash with spare blocks records this many marks; if that is 0, it
+/// records none, and takes any number.
+pub fn run_logged(rt: &impl Abort, alloc: Global, flash: Flash, words: &[&str], log: usize) -> Ran {
+    let (status, remap) = run_spared(alloc, words, flash, log);
     match remap {
         Some(remap) => {
             let left = remap.spares_left();
@@ -90,9 +100,20 @@ pub fn run_over(rt: &impl Abort, alloc: Global, flash: Flash, words: &[&str]) ->
     }
 }
 
-/// The pages that a board has now.
-pub fn left(rt: &impl Abort, alloc: Global, flash: &Flash) -> Vec<PageState> {
-    done(rt, boards::pages_left(alloc, flash))
+/// The same, without a record of marks.
+pub fn run_over(rt: &impl Abort, alloc: Global, flash: Flash, words: &[&str]) -> Ran {
+    run_logged(rt, alloc, flash, words, 0)
+}
+
+/// A board as it is now.
+pub fn left(rt: &impl Abort, alloc: Global, flash: &Flash) -> Image {
+    match flash.shape() {
+        Some(shape) => Image {
+            shape,
+            pages: done(rt, boards::pages_left(alloc, flash)),
+        },
+        None => panic!(rt; "a board without an image"),
+    }
 }
 
 /// Copies of these pages.
@@ -106,38 +127,59 @@ fn copies(rt: &impl Abort, alloc: Global, pages: &[PageState]) -> Vec<PageState>
 }
 
 /// An inner board with copies of these pages, and this input.
-pub fn board_of(rt: &impl Abort, alloc: Global, pages: &[PageState], input: &[u8]) -> Flash {
-    let own = copies(rt, alloc, pages);
+pub fn board_of(rt: &impl Abort, alloc: Global, image: &Image, input: &[u8]) -> Flash {
+    let own = copies(rt, alloc, &image.pages);
     let input = input.to_vec(alloc).expect(rt, "memory");
-    done(rt, boards::board_in(alloc, inner(rt), own, input, ROOM))
+    done(rt, boards::board_in(alloc, image.shape, own, input, ROOM))
 }
 
-/// The inner pages of a drive that was just made.
-pub fn made(rt: &impl Abort, alloc: Global) -> Vec<PageState> {
+/// The inner board of a drive that these words just made.
+pub fn made_by(rt: &impl Abort, alloc: Global, words: &[&str]) -> Image {
     let flash = boards::blank(alloc, None, Vec::new(alloc)).expect(rt, "memory");
-    let ran = run_over(rt, alloc, flash, &MAKE);
+    let ran = run_over(rt, alloc, flash, words);
     assert!(rt; ran.status == Status::DONE && ran.left == 4);
     left(rt, alloc, &ran.flash)
+}
+
+/// The inner board of a drive of 64 blocks that was just made.
+pub fn made(rt: &impl Abort, alloc: Global) -> Image {
+    made_by(rt, alloc, &MAKE)
+}
+
+/// An inner board with copies of these pages and this input, of whose calls these fail.
+pub fn failing_board(
+    rt: &impl Abort,
+    alloc: Global,
+    image: &Image,
+    input: &[u8],
+    failing: Vec<Failing>,
+) -> Flash {
+    let mut flash = board_of(rt, alloc, image, input);
+    for one in failing {
+        flash.fail(alloc, one.call, one.left).expect(rt, "memory");
+    }
+    flash
 }
 
 /// The session of this input on copies of these pages, in which these calls fail.
 pub fn serve_failing(
     rt: &impl Abort,
     alloc: Global,
-    pages: &[PageState],
+    image: &Image,
     input: &[u8],
     failing: Vec<Failing>,
 ) -> Ran {
-    let mut flash = board_of(rt, alloc, pages, input);
-    for one in failing {
-        flash.fail(alloc, one.call, one.left).expect(rt, "memory");
-    }
-    run_over(rt, alloc, flash, &SERVE)
+    run_over(
+        rt,
+        alloc,
+        failing_board(rt, alloc, image, input, failing),
+        &SERVE,
+    )
 }
 
 /// The same, in which none does.
-pub fn serve(rt: &impl Abort, alloc: Global, pages: &[PageState], input: &[u8]) -> Ran {
-    serve_failing(rt, alloc, pages, input, Vec::new(alloc))
+pub fn serve(rt: &impl Abort, alloc: Global, image: &Image, input: &[u8]) -> Ran {
+    serve_failing(rt, alloc, image, input, Vec::new(alloc))
 }
 
 /// One call that fails.
@@ -148,14 +190,8 @@ pub fn one(rt: &impl Abort, alloc: Global, call: u64, left: Left) -> Vec<Failing
 }
 
 /// What a word posts over copies of these pages, which ends with status 0.
-pub fn said(
-    rt: &impl Abort,
-    alloc: Global,
-    pages: &[PageState],
-    words: &[&str],
-    wanted: &[u8],
-) -> Ran {
-    let flash = board_of(rt, alloc, pages, &[]);
+pub fn said(rt: &impl Abort, alloc: Global, image: &Image, words: &[&str], wanted: &[u8]) -> Ran {
+    let flash = board_of(rt, alloc, image, &[]);
     let ran = run_over(rt, alloc, flash, words);
     assert!(rt; ran.status == Status::DONE && ran.flash.posted() == wanted);
     ran
@@ -170,13 +206,13 @@ pub fn call_after_opening(flash: &Flash) -> u64 {
 pub const MOST_CALLS: u64 = 60;
 
 /// The calls of the worked session whose failure moves a block to a spare block.
-pub fn moving(rt: &impl Abort, alloc: Global, pages: &[PageState]) -> Vec<u64> {
-    let quiet = serve(rt, alloc, pages, &SCRIPT);
+pub fn moving(rt: &impl Abort, alloc: Global, image: &Image) -> Vec<u64> {
+    let quiet = serve(rt, alloc, image, &SCRIPT);
     let start = call_after_opening(&quiet.flash);
     let mut found = Vec::new(alloc);
     for call in start..start.saturating_add(40) {
         let failing = one(rt, alloc, call, Left::Torn);
-        let ran = serve_failing(rt, alloc, pages, &SCRIPT, failing);
+        let ran = serve_failing(rt, alloc, image, &SCRIPT, failing);
         if ran.left == 3 {
             found.push(call).expect(rt, "memory");
         }
@@ -200,9 +236,9 @@ const WORKED: Value = Value {
 const OTHER: Value = Value { first: 7, len: 600 };
 
 /// The drive can be used: the value of the worked script is there, or, if it may lack, is not; and another value is stored and read.
-pub fn serves_on(rt: &impl Abort, alloc: Global, pages: &[PageState], may_lack: bool) {
+pub fn serves_on(rt: &impl Abort, alloc: Global, image: &Image, may_lack: bool) {
     let input = script(alloc, &ASKS).expect(rt, "memory");
-    let ran = serve(rt, alloc, pages, &input);
+    let ran = serve(rt, alloc, image, &input);
     let has = [Answer::Found(WORKED), Answer::Done, Answer::Found(OTHER)];
     let lacks = [Answer::Missing, Answer::Done, Answer::Found(OTHER)];
     let has = records(alloc, &has).expect(rt, "memory");

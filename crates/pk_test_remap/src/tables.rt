@@ -41,8 +41,8 @@ fn a_table_of_another_shape(rt: HostRuntime) {
         &["spared", "3", "make", "512", "16", "65"],
     );
     assert!(rt; other.status == Status::DONE && other.left == 3);
-    let pages = left(&rt, alloc, &other.flash);
-    no_drive(&rt, alloc, board_of(&rt, alloc, &pages, &[]), &LIST);
+    let image = left(&rt, alloc, &other.flash);
+    no_drive(&rt, alloc, board_of(&rt, alloc, &image, &[]), &LIST);
     let own = made(&rt, alloc);
     let words = ["spared", "3", "list"];
     no_drive(&rt, alloc, board_of(&rt, alloc, &own, &[]), &words);
@@ -61,14 +61,14 @@ fn put(rt: &impl Abort, pages: &mut Vec<PageState>, at: usize, page: PageState) 
 fn two_tables(rt: HostRuntime) {
     let alloc = rt.alloc();
     let ran = serve(&rt, alloc, &made(&rt, alloc), &SCRIPT);
-    let mut pages = left(&rt, alloc, &ran.flash);
+    let mut image = left(&rt, alloc, &ran.flash);
     let from = (FIRST_TABLE_BLOCK * BLOCK_PAGES) as usize;
-    let table = match pages.get(from) {
+    let table = match image.pages.get(from) {
         Some(page) => boards::copied(alloc, page).expect(&rt, "memory"),
         None => panic!(rt; "a table"),
     };
-    put(&rt, &mut pages, from + BLOCK_PAGES as usize, table);
-    let again = said(&rt, alloc, &pages, &GET, b"ok 616263\n");
+    put(&rt, &mut image.pages, from + BLOCK_PAGES as usize, table);
+    let again = said(&rt, alloc, &image, &GET, b"ok 616263\n");
     assert!(rt; again.left == 4);
 }
 
@@ -77,18 +77,18 @@ fn two_tables(rt: HostRuntime) {
 fn half_a_table(rt: HostRuntime) {
     let alloc = rt.alloc();
     let ran = serve(&rt, alloc, &made(&rt, alloc), &SCRIPT);
-    let mut pages = left(&rt, alloc, &ran.flash);
+    let mut image = left(&rt, alloc, &ran.flash);
     let from = (FIRST_TABLE_BLOCK * BLOCK_PAGES) as usize;
-    put(&rt, &mut pages, from, PageState::Torn);
-    said(&rt, alloc, &pages, &GET, b"ok 616263\n");
+    put(&rt, &mut image.pages, from, PageState::Torn);
+    said(&rt, alloc, &image, &GET, b"ok 616263\n");
 }
 
 /// An image of spare blocks that is there is not made again.
 #[test]
 fn an_image_that_is_there(rt: HostRuntime) {
     let alloc = rt.alloc();
-    let pages = made(&rt, alloc);
-    let ran = run_over(&rt, alloc, board_of(&rt, alloc, &pages, &[]), &MAKE);
+    let image = made(&rt, alloc);
+    let ran = run_over(&rt, alloc, board_of(&rt, alloc, &image, &[]), &MAKE);
     assert!(rt; ran.status == Status::IMAGE_EXISTS && ran.flash.marks() == 0);
 }
 

@@ -9,5 +9,6 @@ mod Images
 mod Runs
 mod Resting
 mod Pairs
+mod Obeyed
 mod Judging
 mod SparedRuns

@@ -1,7 +1,7 @@
 -- A run between two states of a board.
 use Rattle.std.proofs.Common.{◌≡◌, ℕ, List, subst}
 use Rattle.pk_nand.specs.BoardState.{BoardState}
-use Rattle.pk_top.specs.Spared.{RunsOver}
+use Rattle.pk_top.specs.Runs.{RunsOver}
 
 -- from another name of its first state
 pub runs_from : (asked : List (List ℕ)) (start old new : BoardState) (status : ℕ) → old ≡ start → RunsOver asked old new status → RunsOver asked start new status

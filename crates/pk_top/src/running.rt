@@ -1,19 +1,19 @@
 //! The run of the program.
-ghost use Rattle.std.specs.Prelude.{◌≡◌, ◌≢◌, ◌≤◌, ◌⊎◌, ℕ, None, Some, map};
+ghost use Rattle.std.specs.Prelude.{◌≡◌, ◌≢◌, ◌≤◌, ℕ, map};
 ghost use Rattle.pk_base.specs.Shape.{Shape as Form};
 ghost use Rattle.pk_top.specs.Words as spec;
-ghost use Rattle.pk_top.specs.declared.status.TheConstants.Status.{DONE, WORDS, MEMORY};
+ghost use Rattle.pk_top.specs.declared.status.TheConstants.Status.{MEMORY};
 ghost use Rattle.pk_top.specs.declared.words.TheConstants.{MOST_FRAMES};
 ghost use Rattle.pk_top.specs.Statuses.{Tells, Untouched};
-ghost use Rattle.pk_top.specs.Resting.{Rests, RestsIn};
+ghost use Rattle.pk_top.specs.Resting.{RestsIn};
+ghost use Rattle.pk_top.specs.Runs.{RunsOver};
 ghost use Rattle.pk_top.specs.Texts.{seen};
 ghost use Rattle.pk_top.specs.TextRuns.{TextRun};
 ghost use Rattle.pk_wordrun.specs.Seen.{IsShortTask};
 ghost use Rattle.pk_wordrun.specs.Tasks.{Task};
-ghost use Rattle.pk_top.specs.Asks.{AskRun, AsksWhole};
-ghost use Rattle.pk_top.specs.Isolates.{IsolatesWhole};
-ghost use Rattle.pk_top.specs.Serves.{ServeRun, ServesWhole};
-ghost use Rattle.pk_top.specs.Makes.{MakeRun, IsMade};
+ghost use Rattle.pk_top.specs.Asks.{AskRun};
+ghost use Rattle.pk_top.specs.Serves.{ServeRun};
+ghost use Rattle.pk_top.specs.Makes.{MakeRun};
 ghost use Rattle.pk_text.specs.Assembled.{assembled};
 ghost use Rattle.pk_text.specs.Records.{shown};
 
@@ -31,53 +31,14 @@ use std::alloc::Global;
 /// nothing of the table (or `MEMORY` if the memory for a value among them is missing), and nothing
 /// was done then.
 ///
+/// The clause cites one record, which a run over a board with spare blocks meets too. Its field
 /// `serves` carries what the project is about, for one session: every record that was posted is the
 /// finite map's, and wherever the session is stopped the flash holds the map after a prefix of its
 /// commands that contains every completed one. `laws::sessions` says it of any number of sessions
 /// on a made drive.
 pub fn run<B: Board>(alloc: Global, words: &[&str], board: &mut B) -> Status
-    // The words, the status and its cause.
-    ensures words { result.0 ≡ WORDS.0 → (spec.word_of (map (λ w. w.now) words.now) ≡ None)
-        × (B.state board.new ≡ B.state board.old) }
-    ensures no_words { spec.word_of (map (λ w. w.now) words.now) ≡ None
-        → (B.state board.new ≡ B.state board.old) × ((result.0 ≡ WORDS.0) ⊎ (result.0 ≡ MEMORY.0)) }
-    ensures tells { (result.0 ≡ WORDS.0) ⊎ Tells (B.state board.old) (B.state board.new) result.0 }
-    ensures memory { ((shape : Form)
-        → spec.word_of (map (λ w. w.now) words.now) ≢ Some (spec.make shape)) → result.0 ≡ MEMORY.0
-        → Untouched (B.state board.old) (B.state board.new) }
-
-    // The words that touch the flash.
-    ensures makes { (shape : Form)
-        → spec.word_of (map (λ w. w.now) words.now) ≡ Some (spec.make shape)
-        → MakeRun shape (B.state board.old) (B.state board.new) result.0 }
-    ensures made { (shape : Form)
-        → spec.word_of (map (λ w. w.now) words.now) ≡ Some (spec.make shape) → result.0 ≡ DONE.0
-        → IsMade shape (B.state board.new) }
-    ensures serves { (frames : ℕ)
-        → spec.word_of (map (λ w. w.now) words.now) ≡ Some (spec.serve frames)
-        → ServeRun frames (B.state board.old) (B.state board.new) result.0 }
-    ensures asks { (task : Task)
-        → spec.word_of (map (λ w. w.now) words.now) ≡ Some (spec.ask task)
-        → AskRun task (B.state board.old) (B.state board.new) result.0 }
-    ensures asks_whole { (task : Task)
-        → spec.word_of (map (λ w. w.now) words.now) ≡ Some (spec.ask task)
-        → AsksWhole task (B.state board.old) (B.state board.new) result.0 }
-    ensures serves_whole { (frames : ℕ)
-        → spec.word_of (map (λ w. w.now) words.now) ≡ Some (spec.serve frames)
-        → ServesWhole frames (B.state board.old) (B.state board.new) result.0 }
-
-    // Each namespace is answered as a drive answers that has it alone.
-    ensures isolated { (frames : ℕ)
-        → spec.word_of (map (λ w. w.now) words.now) ≡ Some (spec.serve frames)
-        → IsolatesWhole frames (B.state board.old) (B.state board.new) result.0 }
-
-    // Those that touch no flash, and what any word leaves of it.
-    ensures assembles { spec.word_of (map (λ w. w.now) words.now) ≡ Some spec.assemble
-        → TextRun assembled (B.state board.old) (B.state board.new) result.0 }
-    ensures shows { spec.word_of (map (λ w. w.now) words.now) ≡ Some spec.show
-        → TextRun shown (B.state board.old) (B.state board.new) result.0 }
-    ensures rests { Rests (spec.word_of (map (λ w. w.now) words.now)) (B.state board.old)
-        (B.state board.new) }
+    ensures runs { RunsOver (map (λ w. w.now) words.now) (B.state board.old) (B.state board.new)
+        result.0 }
 {
     match word_of(alloc, words) {
         Ok(Some(word)) => obey(alloc, word, board),

@@ -3,7 +3,8 @@ ghost use Rattle.std.specs.Prelude.{◌≡◌, ◌⊎◌, ◌≤◌, None, Some,
 ghost use Rattle.pk_remap.specs.declared.layout.TheConstants.{MOST_SPARES};
 ghost use Rattle.pk_remap.specs.Remapped.{fresh_remap};
 ghost use Rattle.pk_top.specs.declared.status.TheConstants.Status.{WORDS, MEMORY};
-ghost use Rattle.pk_top.specs.Spared.{RunsOver, SparedForm, spared_form};
+ghost use Rattle.pk_top.specs.Runs.{RunsOver};
+ghost use Rattle.pk_top.specs.Spared.{SparedForm, spared_form};
 
 use crate::running::run;
 use crate::spared_words::spared_words;

@@ -33,7 +33,7 @@ returns-clause-moves g c =
       values = c.parts.inside.values;
       reclaim = c.parts.inside.reclaim;
       pool = c.parts.inside.pool;
-      keys = c.parts.inside.keys;
+      spaces = c.parts.inside.spaces;
       stopped = c.parts.inside.stopped;
       walk = c.parts.inside.walk;
     })

@@ -1,5 +1,9 @@
-use Rattle.pk_changes.proofs.Entries.{old_short, keys_small, put_moves, put_stands}
-use Rattle.std.proofs.Common.{ℕ, ap}
+use Rattle.pk_changes.proofs.Entries.{old_short, spaces_small, puts_leave, put_moves, put_stands}
+use Rattle.std.proofs.Common.{◌≡◌, ℕ, ◌∙◌, ap, subst, sym, arith}
+use Rattle.pk_base.specs.Shape.{Shape}
+use Rattle.pk_base.specs.Key.{space_of}
+use Rattle.pk_space.specs.Uses.{CanLeave, IsSpace, used_after}
+use Rattle.pk_changes.specs.Noting.{pages_at}
 use Rattle.pk_parts.proofs.Staying.{note_stays}
 use Rattle.pk_changes.proofs.Noted.{put_noted}
 use Rattle.pk_changes.proofs.Programming.{pushed_more}
@@ -17,20 +21,32 @@ replace-requires g c =
     let now = ap (λ (n : ℕ). record { page = c.args.page; count = n }) (rw (← c.parts.view_is) at c.requires.counted) in
     put_moves _ p.0 p.1 c.args.key p.2 c.args.page c.args.len c.args.old p.3 p.4 c.span_if_there-before.result (record { page = c.args.page; count = c.args.count }) before now
 
-pub more_keys-parts-inside-requires : goal.more_keys-parts-inside-requires
-more_keys-parts-inside-requires g c =
+pub pages_at-requires : goal.pages_at-requires
+pages_at-requires g c =
     let p = rw (← c.parts.view_is) at c.requires.puts in
-    keys_small _ _ p.0 p.4.top p.4.found p.4.without p.1 p.4.with
+    rw (c.shape-shape.ensures, ← c.parts.view_is) (old_short _ p.0 p.1 c.args.key p.2 c.args.page c.args.old p.4)
+
+pub change-requires-clause-space : goal.change-requires-clause-space
+change-requires-clause-space g c = rw c.space.ensures.value (c.space.ensures.key.space_some, c.space.ensures.key.space_most)
+
+pub change-requires-clause-there : goal.change-requires-clause-there
+change-requires-clause-there g c =
+    let p = rw (← c.parts.view_is) at c.requires.puts in
+    let held = rw (c.shape-shape.ensures, ← c.parts.view_is) at c.pages_at.ensures in
+    rw (c.space.ensures.value, held) (puts_leave _ p.0 p.1 c.args.key p.2 c.args.page c.args.old p.4 (c.space.ensures.key.space_some, c.space.ensures.key.space_most))
 
 pub returns-clause-stands : goal.returns-clause-stands
 returns-clause-stands g c shape flash m value is_len puts =
     let p = rw (← c.parts.view_is) at puts in
     let before = rw (c.shape-shape.ensures, ← c.parts.view_is) at c.span_if_there-before.ensures in
     let now = ap (λ (n : ℕ). record { page = c.args.page; count = n }) (rw (← c.parts.view_is) at c.requires.counted) in
-    put_stands _ shape flash m c.args.key value c.args.page c.args.len c.args.old is_len p c.push.new.self c.replace.new.self c.more_keys-parts-inside.result c.span_if_there-before.result
+    let held = rw (c.shape-shape.ensures, ← c.parts.view_is) at c.pages_at.ensures in
+    let count = rw (← c.parts.view_is) at c.requires.counted in
+    let used = c.change.ensures ∙ (λ i. used_after c.parts.inside.spaces (c.space.ensures.value i) (held i) (count i)) in
+    put_stands _ shape flash m c.args.key value c.args.page c.args.len c.args.old is_len p c.push.new.self c.replace.new.self c.change.new.self c.span_if_there-before.result
     (record { page = c.args.page; count = c.args.count })
     (record { pushed_is = c.push.ensures.pushed; stands = c.push.ensures.stands; fits_in = c.push.ensures.fits })
-    before now c.replace.ensures.moved c.replace.ensures.placed c.more_keys-parts-inside.ensures
+    before now c.replace.ensures.moved c.replace.ensures.placed used
 
 pub returns-clause-moves : goal.returns-clause-moves
 returns-clause-moves g c =
@@ -43,16 +59,16 @@ returns-clause-moves g c =
       values = c.parts.inside.values;
       reclaim = c.parts.inside.reclaim;
       pool = c.parts.inside.pool;
-      keys = c.parts.inside.keys;
+      spaces = c.parts.inside.spaces;
       stopped = c.parts.inside.stopped;
       walk = c.parts.inside.walk;
     })
-    _ c.push.new.self c.replace.new.self c.more_keys-parts-inside.result c.push.ensures.pushed (ap (λ s. s.open_block) c.replace.ensures.moved))
+    _ c.push.new.self c.replace.new.self c.change.new.self c.push.ensures.pushed (ap (λ s. s.open_block) c.replace.ensures.moved))
 
 pub returns-clause-noted : goal.returns-clause-noted
 returns-clause-noted g c =
     let p = rw (← c.parts.view_is) at c.requires.puts in
-    put_noted _ p.0 p.1 c.args.key p.2 c.args.page c.args.len c.args.old c.push.new.self c.replace.new.self c.more_keys-parts-inside.result p.3 p.4 c.push.ensures.pushed
+    put_noted _ p.0 p.1 c.args.key p.2 c.args.page c.args.len c.args.old c.push.new.self c.replace.new.self c.change.new.self p.3 p.4 c.push.ensures.pushed
     (ap (λ s. s.open_block) c.replace.ensures.moved)
 
 pub returns-clause-more : goal.returns-clause-more

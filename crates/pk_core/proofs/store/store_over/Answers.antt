@@ -1,9 +1,13 @@
-use Rattle.std.proofs.Common.{ap, refl, sym, subst, ◌∙◌, length, ◌-◌, ◌+◌, sum, is_some, arith, false, ℕ}
+use Rattle.std.proofs.Common.{ap, refl, sym, subst, ◌∙◌, length, ◌-◌, ◌+◌, is_some, arith, false, ℕ}
 use Rattle.pk_nvme.specs.Seen.{command_of}
-use Rattle.pk_base.specs.Shape.{charge, limit}
+use Rattle.pk_base.specs.Shape.{charge}
 use Rattle.pk_call.specs.declared.types.Outcome.{Outcome}
 use Rattle.pk_core.specs.Done.{Executes}
-use Rattle.pk_core.specs.Serving.{pages_at}
+use Rattle.pk_changes.specs.Noting.{pages_at}
+use Rattle.pk_base.specs.Key.{space_of}
+use Rattle.pk_space.specs.Uses.{space_live}
+use Rattle.pk_model.specs.Spaces.{limit_of}
+use Rattle.pk_parts.specs.Parts.{terms_of}
 use Rattle.pk_core.proofs.LookedUp.{stores_none, stores_came}
 use Rattle.pk_core.proofs.Amounts.{store_few}
 use Rattle.pk_core.proofs.Executing.{executes_quiet}
@@ -49,8 +53,8 @@ pub returns-in-Some-clause-stores : goal.returns-in-Some-clause-stores
 returns-in-Some-clause-stores g c =
     stores_none c.args.parts.now (g.B.Nand.state c.args.board.now) c.args.key c.refusal.result
     (told_refused c.refusal.result c.in-Some.status 0 0 _ false c.refusal.ensures
-    (store_refuses c.args.request.now.options (sum c.args.parts.now.values.live.heads - pages_at c.args.parts.now.log.shape c.args.old + charge c.args.parts.now.log.shape c.args.request.now.size)
-    (limit c.args.parts.now.log.shape) c.in-Some.status (is_some c.args.old) (sym c.fault_of_store.ensures ∙ c.in-Some.is))) _
+    (store_refuses c.args.request.now.options (space_live c.args.parts.now.spaces (space_of c.args.key) - pages_at c.args.parts.now.log.shape c.args.old + charge c.args.parts.now.log.shape c.args.request.now.size)
+    (limit_of (terms_of c.args.parts.now).limits (space_of c.args.key)) c.in-Some.status (is_some c.args.old) (sym c.fault_of_store.ensures ∙ c.in-Some.is))) _
 
 pub returns-in-None-clause-executes : goal.returns-in-None-clause-executes
 returns-in-None-clause-executes g c = λ into.

@@ -43,7 +43,7 @@ returns-clause-seen g c =
       values = c.self.inside.values;
       reclaim = c.self.inside.reclaim;
       pool = c.self.inside.pool;
-      keys = c.self.inside.keys;
+      spaces = c.self.inside.spaces;
       stopped = c.self.inside.stopped;
       walk = c.self.inside.walk;
     }) c.commit.new.self

@@ -1,14 +1,16 @@
-use Rattle.std.proofs.Common.{◌≡◌, ◌≤◌, ◌∙◌, ap, arith, sum}
-use Rattle.pk_base.specs.Shape.{limit}
-use Rattle.pk_parts.specs.Parts.{Parts}
+use Rattle.std.proofs.Common.{◌≡◌, ◌≤◌, ◌∙◌, ap, arith}
+use Rattle.pk_model.specs.Spaces.{limit_of}
+use Rattle.pk_space.specs.Uses.{space_live, space_keys}
+use Rattle.pk_parts.specs.Parts.{Parts, terms_of}
 use Rattle.pk_parts.proofs.parts.Parts.counts.Goals as goal
 
 pub returns-clause-here : goal.returns-clause-here
 returns-clause-here g c =
+    let d = c.args.self.now in
     let some : 1 ≤ c.args.space = c.requires.0 in
     let most : c.args.space ≤ 1 = c.requires.1 in
     let only : c.args.space ≡ 1 = omega (arith, some, most) in
-    let live : c.total.result ≡ sum c.args.self.now.values.live.heads = c.total.ensures.value ∙ ap (λ (d : Parts). sum d.values.live.heads) c.self.view_is in
-    let limit_is : c.limit.result ≡ limit c.args.self.now.log.shape = c.limit.ensures.value ∙ ap limit c.shape.ensures in
-    let keys : c.self.inside.keys ≡ c.args.self.now.keys = ap (λ (d : Parts). d.keys) c.self.view_is in
+    let live : c.live.result ≡ space_live d.spaces c.args.space = c.live.ensures ∙ ap (λ (p : Parts). space_live p.spaces c.args.space) c.self.view_is in
+    let limit_is : c.limit.result ≡ limit_of (terms_of d).limits c.args.space = c.limit.ensures in
+    let keys : c.keys.result ≡ space_keys d.spaces c.args.space = c.keys.ensures ∙ ap (λ (p : Parts). space_keys p.spaces c.args.space) c.self.view_is in
     rw only (λ i. record { live = live i; limit = limit_is i; keys = keys i })

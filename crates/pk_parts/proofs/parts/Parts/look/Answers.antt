@@ -19,7 +19,7 @@ returns-clause-looks g c =
       values = c.self.inside.values;
       reclaim = c.self.inside.reclaim;
       pool = c.self.inside.pool;
-      keys = c.self.inside.keys;
+      spaces = c.self.inside.spaces;
       stopped = c.self.inside.stopped;
       walk = c.self.inside.walk;
     } in
