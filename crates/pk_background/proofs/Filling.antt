@@ -229,7 +229,7 @@ module _ (d : Parts) (old : BoardState) (m : MayTick d old) (none_half : is_half
           former = w.former;
           former_read = w.former_read;
           reclaim = w.reclaim;
-          keys_are = w.keys_are;
+          uses = w.uses;
         }
 
     stands_behind : StandsFor after_it d.log.shape old.pages m.agrees.all
