@@ -2,7 +2,7 @@
 use Rattle.std.proofs.Common.{◌≡◌, ◌≢◌, inl, inr, ℕ, zero, suc, ◌+◌, ◌-◌, ◌<◌, ◌≤◌, true, List, [], ◌∷◌, length, drop, refl, sym, ap, subst, ◌∙◌, arith, Some, None, Result, Ok, Err}
 use Rattle.std.specs.Prelude.{nat_eq, ◌==◌, ◌++◌}
 use Rattle.std.specs.List.{AllByRecursion, list_all, starts_with}
-use Rattle.pk_base.specs.Key.{Key, IsKey}
+use Rattle.pk_base.specs.Key.{Key}
 use Rattle.pk_base.specs.Shape.{Shape, charge, buffer, root_pages, pinned}
 use Rattle.pk_base.specs.Entry.{Entry, Place}
 use Rattle.pk_base.specs.EntryChecks.{IsEntry, IsPlace}
