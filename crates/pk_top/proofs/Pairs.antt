@@ -417,12 +417,12 @@ module _ (task : PairTask) (shape : Shape) (old loaded new old' loaded' new' : B
       memory = λ e. absurd (let is = l.tells in omega (arith, e, is));
       no_drive = λ e. (
         inr (inr (inr (
-              shape,
-              ap (λ (s : BoardState). s.shape) l.first_opened ∙ found.shape_is,
-              ap (λ (s : BoardState). s.shape) l.second_opened ∙ found'.shape_is,
-              λ same. l.differ (ap (first_limit shape) (sym (ap (λ (s : BoardState). s.pages) l.first_opened)) ∙ same
-                ∙ ap (first_limit shape) (ap (λ (s : BoardState). s.pages) l.second_opened)),
-            ))),
+          shape,
+          ap (λ (s : BoardState). s.shape) l.first_opened ∙ found.shape_is,
+          ap (λ (s : BoardState). s.shape) l.second_opened ∙ found'.shape_is,
+          λ same. l.differ (ap (first_limit shape) (sym (ap (λ (s : BoardState). s.pages) l.first_opened)) ∙ same
+              ∙ ap (first_limit shape) (ap (λ (s : BoardState). s.pages) l.second_opened)),
+        ))),
         opened_untouched shape old loaded new found l.first_opened,
         opened_untouched shape old' loaded' new' found' l.second_opened,
       );
