@@ -1,6 +1,6 @@
 -- Pages of keys, one after another, are all keys.
 use Rattle.std.proofs.Common.{◌≡◌, inl, inr, ℕ, ◌-◌, ◌≤◌, ◌==◌, nat_lt, if◌then◌else◌, List, [], ◌∷◌, ◌++◌, length, filter, Bool, true, false, not, nat_le, Option, Some, None, Result, Ok, Err, IfOk}
-use Rattle.std.proofs.Common.{OnOk, refl, sym, ap, subst, ◌∙◌, arith, append_assoc}
+use Rattle.std.proofs.Common.{zero, suc, IfSome, OnOk, refl, sym, ap, subst, ◌∙◌, arith, append_assoc}
 use Rattle.std.proofs.lemmas.List.{append-nil}
 use Rattle.std.proofs.lemmas.Bool.{le-leb}
 use Rattle.std.specs.List.{AllByRecursion, slice_get}
@@ -21,7 +21,7 @@ use Rattle.pk_nvme.specs.declared.limits.TheConstants.{MOST_LIST_BYTES}
 use Rattle.pk_model.specs.Answer.{refused, map_after, effect, listed, fitting, list_bytes}
 use Rattle.pk_host.specs.declared.types.HostError.{HostError}
 use Rattle.pk_host.specs.Port.{PortState, Replies, Took, LeftBySome}
-use Rattle.pk_host.specs.Calls.{of_bytes}
+use Rattle.pk_host.specs.Calls.{of_bytes, IsOwnKey}
 use Rattle.pk_host.specs.Outcomes.{list_of, Leaves, AreLists, TookSome}
 use Rattle.pk_host.specs.Listing.{IsStart, list_room, above, keys_of, page_after, Pages, Follows, TellsKeys, ListsAll}
 use Rattle.pk_host.proofs.CommandLemmas.{success_served, list_by, key_named}
@@ -115,6 +115,20 @@ ok_only r e P is = subst (λ x. OnOk x P) (sym is) tt
 
 pub ok_never : {X E : Type 0} (r : Result X E) (e : E) (P : X → Type 0) → r ≡ Err e → IfOk r P
 ok_never r e P is = subst (λ x. IfOk x P) (sym is) tt
+
+-- ---- keys of the namespace in which commands are passed
+
+pub own_more : (ks ls : List Key) → AllByRecursion IsOwnKey ks → AllByRecursion IsOwnKey ls → AllByRecursion IsOwnKey (ks ++ ls)
+own_more [] ls own more = more
+own_more (k ∷ ks) ls own more = (own.0, own_more ks ls own.1 more)
+
+own_at : (ks : List Key) (i : ℕ) → AllByRecursion IsOwnKey ks → IfSome (slice_get ks i) IsOwnKey
+own_at [] i own = tt
+own_at (k ∷ ks) zero own = own.0
+own_at (k ∷ ks) (suc i) own = own_at ks i own.1
+
+pub own_one : (o : Option Key) (ks : List Key) (i : ℕ) → o ≡ slice_get ks i → AllByRecursion IsOwnKey ks → IfSome o IsOwnKey
+own_one o ks i same own = subst (λ (k : Option Key). IfSome k IsOwnKey) (sym same) (own_at ks i own)
 
 -- ---- a page and the keys after it
 
