@@ -90,10 +90,10 @@ keys_started shape m from (inr key) is = ap (λ (q : Key). keys_from q m) (in_fi
 
 pub page_read : (old new : PortState) (from : Key) (a : Reply) (each : List Key) → length (bytes_of from) ≤ 16 → IsStart from → Replies old new (list_of from) a → a.status ≡ 0
     → each ≡ above from (keys_of a.data_bytes) → Pages old from each
-page_read old new from a each short start x zero read m told =
+page_read old new from a each short start x done read m told =
     let s = x.answers m told in
     let none = not_refused (refused old.shape (old.limit ∷ []) m (list_of from)) (list_by old.shape old.limit m from short) in
-    let served = success_served old.shape old.limit s.frames m (list_of from) ListKeys refl s.within.alone a s.left refl none zero s.stepped in
+    let served = success_served old.shape old.limit s.frames m (list_of from) ListKeys refl s.within.alone a s.left refl none done s.stepped in
     let bytes : a.data_bytes ≡ list_bytes (fitting list_room (keys_from (key (list_of from)) m)) = ap (λ (r : Reply). r.data_bytes) served.replied in
     read ∙ ap (λ (xs : List ℕ). above from (keys_of xs)) (bytes ∙ ap (λ (q : Key). list_bytes (fitting list_room (keys_from q m))) (key_named LIST from MOST_LIST_BYTES 0 [])
     ∙ ap (λ (ks : List Key). list_bytes (fitting list_room ks)) (keys_started old.shape m from start s.within.sized))
@@ -194,8 +194,8 @@ same_some (k ∷ page) rest all none e =
 pub follows_read : (old new : PortState) (from : Key) (a : Reply) (each : List Key) (r : Result Bool HostError) → length (bytes_of from) ≤ 16
     → IsStart from → Replies old new (list_of from) a → a.status ≡ 0
     → each ≡ above from (keys_of a.data_bytes) → r ≡ Ok (nat_lt 0 (length each)) → IfOk r (λ more. Follows old from more)
-follows_read old new from a each r short start x zero read is = subst (λ y. IfOk y (λ more. Follows old from more)) (sym is) (λ m told.
-    let page = page_read old new from a each short start x zero read m told in
+follows_read old new from a each r short start x done read is = subst (λ y. IfOk y (λ more. Follows old from more)) (sym is) (λ m told.
+    let page = page_read old new from a each short start x done read m told in
     let split = page_rest from m in
     ap (λ (ks : List Key). nat_lt 0 (length ks)) page ∙ same_some (page_after from m) split.0 (above from (keys m)) (none_follows from m (knows_keys old new (list_of from) a x m told)) split.1)
 
