@@ -268,6 +268,15 @@ no_more_left log log' old new (inr all) =
 
 -- ---- by what the call answered
 
+-- the shape is unchanged
+pub shape_kept : (r : Result Unit Fault) (log log' : LogState) (old new : BoardState)
+    → OnOk r (CommitsNone log old log' new ⊎ CommitsAll log old log' new) → OnErr r (log' ≡ log) → log'.shape ≡ log.shape
+shape_kept (Ok x) log log' old new made kept = elim made [
+  | inl none ↦ ap (λ (l : LogState). l.shape) none.kept
+  | inr all ↦ ap (λ (l : LogState). l.shape) all.taken
+]
+shape_kept (Err e) log log' old new made kept = ap (λ (l : LogState). l.shape) kept
+
 pub left_ok : (r : Result Unit Fault) (log log' : LogState) (old new : BoardState)
     → OnOk r (CommitsNone log old log' new ⊎ CommitsAll log old log' new) → OnOk r (left_of log'.epoch ≤ left_of log.epoch)
 left_ok (Ok x) log log' old new made = no_more_left log log' old new made

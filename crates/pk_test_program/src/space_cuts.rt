@@ -23,15 +23,13 @@ const A1_LATER: Value = Value { first: 2, len: 992 };
 
 const A2: Value = Value { first: 3, len: 600 };
 
-const B1: Value = Value { first: 4, len: 10 };
-
 const D2: Value = Value { first: 5, len: 0 };
 
 // The value of the second session.
 const E: Value = Value { first: 6, len: 10 };
 
-// The keys `a` and `b` of namespace 1, and `a` and `d` of namespace 2.
-const FIRST: [(u32, Ask); 12] = [
+// The key `a` of namespace 1, and `a` and `d` of namespace 2: four values, which fill one block.
+const FIRST: [(u32, Ask); 9] = [
     (1, Ask::Store(0x61, A1)),
     (2, Ask::Store(0x61, A2)),
     (2, Ask::Flush),
@@ -40,39 +38,31 @@ const FIRST: [(u32, Ask); 12] = [
     (1, Ask::Flush),
     (2, Ask::Tick(3)),
     (2, Ask::Store(0x64, D2)),
-    (1, Ask::Store(0x62, B1)),
-    (2, Ask::Store(0x61, A2)),
-    (1, Ask::Tick(2)),
     (1, Ask::Delete(0x61)),
 ];
 
-// The values of `a` and `b` of namespace 1, and of `a` and `d` of namespace 2.
-type Held = [Option<Value>; 4];
+// The values of `a` of namespace 1, and of `a` and `d` of namespace 2.
+type Held = [Option<Value>; 3];
 
 // After this many commands of the first session.
-const HELD: [Held; 13] = [
-    [None, None, None, None],
-    [Some(A1), None, None, None],
-    [Some(A1), None, Some(A2), None],
-    [Some(A1), None, Some(A2), None],
-    [Some(A1_LATER), None, Some(A2), None],
-    [Some(A1_LATER), None, None, None],
-    [Some(A1_LATER), None, None, None],
-    [Some(A1_LATER), None, None, None],
-    [Some(A1_LATER), None, None, Some(D2)],
-    [Some(A1_LATER), Some(B1), None, Some(D2)],
-    [Some(A1_LATER), Some(B1), Some(A2), Some(D2)],
-    [Some(A1_LATER), Some(B1), Some(A2), Some(D2)],
-    [None, Some(B1), Some(A2), Some(D2)],
+const HELD: [Held; 10] = [
+    [None, None, None],
+    [Some(A1), None, None],
+    [Some(A1), Some(A2), None],
+    [Some(A1), Some(A2), None],
+    [Some(A1_LATER), Some(A2), None],
+    [Some(A1_LATER), None, None],
+    [Some(A1_LATER), None, None],
+    [Some(A1_LATER), None, None],
+    [Some(A1_LATER), None, Some(D2)],
+    [None, None, Some(D2)],
 ];
 
 // Each key, in its own namespace and in the other; a Store and the same key in the other; and a Report of each.
-const SECOND: [(u32, Ask); 11] = [
+const SECOND: [(u32, Ask); 9] = [
     (1, Ask::Retrieve(0x61)),
-    (1, Ask::Retrieve(0x62)),
     (1, Ask::Retrieve(0x64)),
     (2, Ask::Retrieve(0x61)),
-    (2, Ask::Retrieve(0x62)),
     (2, Ask::Retrieve(0x64)),
     (2, Ask::Store(0x65, E)),
     (1, Ask::Retrieve(0x65)),
@@ -82,14 +72,12 @@ const SECOND: [(u32, Ask); 11] = [
 ];
 
 // The answers of the second session on these values, but for those of the Reports.
-fn second_answers(held: &Held) -> [Answer; 9] {
+fn second_answers(held: &Held) -> [Answer; 7] {
     [
         retrieved(held[0]),
+        Answer::Missing,
         retrieved(held[1]),
-        Answer::Missing,
         retrieved(held[2]),
-        Answer::Missing,
-        retrieved(held[3]),
         Answer::Done,
         Answer::Missing,
         Answer::Found(E),
@@ -127,10 +115,10 @@ fn is_posted(rt: &impl Abort, alloc: Global, posted: &[u8], held: &Held) -> bool
     if !posted.starts_with(&want) {
         return false;
     }
-    let first = report_end(posted, want.len(), keys_of(held[0], held[1]));
+    let first = report_end(posted, want.len(), keys_of(held[0], None));
     match first {
         Some(at) => {
-            let second = report_end(posted, at, keys_of(held[2], held[3]).saturating_add(1));
+            let second = report_end(posted, at, keys_of(held[1], held[2]).saturating_add(1));
             second == Some(posted.len())
         }
         None => false,
@@ -175,7 +163,7 @@ fn check_mark(rt: &impl Abort, alloc: Global, first: &Flash, k: usize) -> u32 {
 fn every_cut_of_two(rt: HostRuntime) {
     let alloc = rt.alloc();
     let first = ask_both(&rt, alloc, made(&rt, alloc, &MAKE), &FIRST);
-    let want = records(&rt, alloc, &[Answer::Done; 12]);
+    let want = records(&rt, alloc, &[Answer::Done; 9]);
     posted(&rt, &first, DONE, &want, Place::Named("the first session"));
     let mut cuts = 0u32;
     for k in 0..first.flash.marks().saturating_add(1) {
