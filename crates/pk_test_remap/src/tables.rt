@@ -131,9 +131,9 @@ fn limits_with_spare_blocks(rt: HostRuntime) {
     let image = made_by(&rt, alloc, &words);
     let value = Value { first: 1, len: 600 };
     let asks = [
-        (2, Ask::Store(0x61, value)),
-        (1, Ask::Retrieve(0x61)),
-        (2, Ask::Retrieve(0x61)),
+        (2u32, Ask::Store(0x61, value)),
+        (1u32, Ask::Retrieve(0x61)),
+        (2u32, Ask::Retrieve(0x61)),
     ];
     let input = script_over(alloc, &asks).expect(&rt, "memory");
     let answers = [Answer::Done, Answer::Missing, Answer::Found(value)];
