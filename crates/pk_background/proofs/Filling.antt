@@ -1,7 +1,8 @@
 -- A background step that reads a page into a frame.
-use Rattle.std.proofs.Common.{◌≡◌, inl, ℕ, suc, ◌+◌, ◌-◌, ◌<◌, ◌≤◌, refl, sym, ap, subst, ◌∙◌, arith, Bool, true, false, if◌then◌else◌, nat_le, List, [], ◌∷◌, ◌++◌, length, length-set, map, sum, slice_get, slice_set, Some, Ok}
-use Rattle.std.specs.Prelude.{slice_index_or}
+use Rattle.std.proofs.Common.{◌≡◌, inl, inr, ℕ, zero, suc, ◌+◌, ◌-◌, ◌<◌, ◌≤◌, refl, sym, ap, subst, ◌∙◌, arith, Bool, true, false, if◌then◌else◌, nat_le, List, [], ◌∷◌, ◌++◌, length, length-set, map, sum, slice_get, slice_set, Option, Some, Ok}
+use Rattle.std.specs.Prelude.{not, slice_index_or, ◌==◌}
 use Rattle.std.specs.List.{AllByRecursion}
+use Rattle.std.proofs.lemmas.Bool.{cases_lt, eqb-true, eq-eqb}
 use Rattle.std.proofs.lemmas.Option.{slice_get-get_or}
 use Rattle.pk_base.specs.Shape.{Shape, cap, caps}
 use Rattle.pk_base.specs.Page.{Flash, page_at}
@@ -13,10 +14,10 @@ use Rattle.pk_nand.specs.Effects.{AtMostOneCall, OnlyFlash, OnlyReading, made_re
 use Rattle.pk_nand.specs.Operations.{ReadFailed, after_read}
 use Rattle.pk_nand.proofs.Reaching.{Reached-start}
 use Rattle.pk_pin.specs.Frames.{Frames, filled, leased}
-use Rattle.pk_run.specs.Kept.{Kept, IsKept, empty}
+use Rattle.pk_run.specs.Kept.{Kept, IsKept, empty, is_pinned}
 use Rattle.pk_level.specs.Levels.{Levels, IsLevels, IsOfLevel, AreOfLevels, HaveBlocks, RunsOnFlash, run_of, with_run}
-use Rattle.pk_level.specs.Arenas.{FillsOne, HasArena, unfilled, unfilled_from}
-use Rattle.pk_level.proofs.Filling.{framed_blocks, framed_counts}
+use Rattle.pk_level.specs.Arenas.{FillsOne, HasArena, last_level, unfilled, unfilled_from}
+use Rattle.pk_level.proofs.Filling.{framed_blocks, framed_counts, got_of}
 use Rattle.pk_model.specs.Found.{Found}
 use Rattle.pk_model.specs.Crashes.{CrashFinds, background}
 use Rattle.pk_model.specs.Reading.{reading}
@@ -36,7 +37,7 @@ use Rattle.pk_parts.specs.Agreeing.{DriveOnFlashWith}
 use Rattle.pk_parts.specs.Moves.{StandsFor}
 use Rattle.pk_parts.specs.Staying.{Stays}
 use Rattle.pk_parts.proofs.Halves.{between, whole_like}
-use Rattle.pk_parts.proofs.Holding.{last_few, last_seen}
+use Rattle.pk_parts.proofs.Holding.{filled_held, held_filled, last_few, last_seen}
 use Rattle.pk_parts.proofs.Standing.{reads_as}
 use Rattle.pk_parts.proofs.Staying.{stays_frees, stays_same}
 use Rattle.pk_parts.proofs.Unchanging.{agrees_ready}
@@ -45,6 +46,51 @@ use Rattle.pk_background.specs.Ticking.{MayTick, Advances}
 use Rattle.pk_background.proofs.Ticking.{between_merges, busy_unfilled, no_merge_is, yes_no}
 use Rattle.pk_background.proofs.TickSteps.{its_whole, made_advances, read_grows, unread_advances}
 use Rattle.pk_base.proofs.Logic.{not_both}
+
+-- ---- whether a page lacks a frame
+
+map_got : (rs : List Kept) (i : ℕ) (r : Kept) → slice_get rs i ≡ Some r → slice_get (map is_pinned rs) i ≡ Some (is_pinned r)
+map_got [] i r got = cc
+map_got (x ∷ rs) zero r got = let same : x ≡ r = cc in ap (λ (y : Kept). Some (is_pinned y)) same
+map_got (x ∷ rs) (suc i) r got = map_got rs i r got
+
+-- the runs of all levels before this one have all their pages in frames
+abbrev pub AllPinnedBelow : List Kept → ℕ → Type 0
+AllPinnedBelow rs level = (i : ℕ) → 1 + i < level → slice_get (map is_pinned rs) i ≡ Some true
+
+its_pin : (levels : Levels) (level : ℕ) → IsLevels levels → 1 ≤ level → level ≤ 4 → slice_get (map is_pinned levels.runs) (level - 1) ≡ Some (is_pinned (run_of levels level))
+its_pin levels level is least few = map_got levels.runs (level - 1) (run_of levels level) (got_of levels level is least few)
+
+pub none_below : (rs : List Kept) → AllPinnedBelow rs 1
+none_below rs i less = absurd (omega (arith, less))
+
+pub pinned_next : (levels : Levels) (level : ℕ) → IsLevels levels → 1 ≤ level → level ≤ 4 → is_pinned (run_of levels level) ≡ true → AllPinnedBelow levels.runs level → AllPinnedBelow levels.runs (level + 1)
+pinned_next levels level is least few here below i less = elim (cases_lt (1 + i) level) [
+  | inl before ↦ below i before
+  | inr at ↦
+      let same : level - 1 ≡ i = omega (arith, at, less) in
+      subst (λ (n : ℕ). slice_get (map is_pinned levels.runs) n ≡ Some true) same (its_pin levels level is least few ∙ ap (λ (b : Bool). Some b) here)
+]
+
+pub all_filled : (d : Parts) (last : ℕ) → last ≡ last_level d.levels (frames_of d) → AllPinnedBelow d.levels.runs (last + 1) → lacks_frames d ≡ false
+all_filled d last same below =
+    let none : unfilled_from last 1 d.levels.runs ≡ 0 = filled_held last 1 d.levels.runs (λ i low inside. below i (omega (arith, low))) in
+    let all : unfilled d.levels (frames_of d) ≡ 0 = subst (λ (n : ℕ). unfilled_from n 1 d.levels.runs ≡ 0) same none in
+    ap not (eq-eqb (unfilled d.levels (frames_of d)) 0 all)
+
+some_false : (b : Bool) → ◌≡◌ {A = Option Bool} (Some b) (Some true) → b ≡ false → ⊥
+some_false b e f = cc
+
+pub one_unfilled : (d : Parts) (last level : ℕ) → last ≡ last_level d.levels (frames_of d) → IsLevels d.levels → 1 ≤ level → level ≤ last → last ≤ 4 → is_pinned (run_of d.levels level) ≡ false → lacks_frames d ≡ true
+one_unfilled d last level same is least within few lacks = by (unfilled d.levels (frames_of d) == 0) refl
+  where
+    by : (b : Bool) → (unfilled d.levels (frames_of d) == 0) ≡ b → not b ≡ true
+    by false e = refl
+    by true e =
+        let none : unfilled_from last 1 d.levels.runs ≡ 0 = subst (λ (n : ℕ). unfilled_from n 1 d.levels.runs ≡ 0) (sym same) (eqb-true (unfilled d.levels (frames_of d)) 0 e) in
+        let four = is.four in
+        let held = held_filled last 1 d.levels.runs (level - 1) none (omega (arith, least, within)) (omega (arith, least, within, few, four)) in
+        absurd (some_false (is_pinned (run_of d.levels level)) (sym (its_pin d.levels level is least (omega (arith, within, few))) ∙ held) lacks)
 
 -- ---- of a drive in which no merge runs
 
@@ -195,7 +241,7 @@ module _ (d : Parts) (old : BoardState) (m : MayTick d old) (none_half : is_half
         let counts : map (λ (r : Kept). r.count) ls.runs ≡ map (λ (r : Kept). r.count) d.levels.runs =
         ap (λ (rs : List Kept). map (λ (r : Kept). r.count) rs) runs_behind ∙ framed_counts f.fills.fills.lease d.levels.runs (f.level - 1) own got in
         let left = left_still d.schedule.phase (index_of d) ls fr no_merge.0 in
-        let few = unfilled_few d.levels.shape d.levels.pinned _ d.levels.runs known.four known.each kept in
+        let few = unfilled_few d.levels.shape d.levels.pinned (last_level d.levels (frames_of d)) d.levels.runs known.four known.each kept in
         fills d.log.shape (backlog_of d) (backlog_of after_it) (record {
           filled = λ i. record (backlog_of after_it) { runs = counts i; merge = left i };
           one_less = one;

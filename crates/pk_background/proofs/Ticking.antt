@@ -402,7 +402,7 @@ none_lacks d e = eqb-true (unfilled d.levels (frames_of d)) 0 (not_not (unfilled
   where
     not_not : (b : Bool) → not b ≡ false → b ≡ true
     not_not true e = refl
-    not_not false e = absurd (yes_no true (sym e) refl)
+    not_not false e = absurd (yes_no true e refl)
 
 lacks_some : (d : Parts) → lacks_frames d ≡ true → unfilled d.levels (frames_of d) ≡ 0 → ⊥
 lacks_some d e none = yes_no (lacks_frames d) (ap not (eq-eqb (unfilled d.levels (frames_of d)) 0 none)) e

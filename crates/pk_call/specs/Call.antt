@@ -1,5 +1,4 @@
 -- What a call of a drive leaves, for every map that the drive may represent.
-use Rattle.std.specs.Prelude.{ℕ}
 use Rattle.pk_base.specs.Shape.{Shape}
 use Rattle.pk_base.specs.Map.{Map}
 use Rattle.pk_nand.specs.BoardState.{BoardState, shape_of}

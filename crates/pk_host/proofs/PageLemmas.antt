@@ -1,6 +1,6 @@
 -- Pages of keys, one after another, are all keys.
 use Rattle.std.proofs.Common.{◌≡◌, inl, inr, ℕ, ◌-◌, ◌≤◌, ◌==◌, nat_lt, if◌then◌else◌, List, [], ◌∷◌, ◌++◌, length, filter, Bool, true, false, not, nat_le, Option, Some, None, Result, Ok, Err, IfOk}
-use Rattle.std.proofs.Common.{OnOk, refl, sym, ap, subst, ◌∙◌, arith, append_assoc}
+use Rattle.std.proofs.Common.{zero, suc, IfSome, OnOk, refl, sym, ap, subst, ◌∙◌, arith, append_assoc}
 use Rattle.std.proofs.lemmas.List.{append-nil}
 use Rattle.std.proofs.lemmas.Bool.{le-leb}
 use Rattle.std.specs.List.{AllByRecursion, slice_get}
@@ -21,7 +21,7 @@ use Rattle.pk_nvme.specs.declared.limits.TheConstants.{MOST_LIST_BYTES}
 use Rattle.pk_model.specs.Answer.{refused, map_after, effect, listed, fitting, list_bytes}
 use Rattle.pk_host.specs.declared.types.HostError.{HostError}
 use Rattle.pk_host.specs.Port.{PortState, Replies, Took, LeftBySome}
-use Rattle.pk_host.specs.Calls.{of_bytes}
+use Rattle.pk_host.specs.Calls.{of_bytes, IsOwnKey}
 use Rattle.pk_host.specs.Outcomes.{list_of, Leaves, AreLists, TookSome}
 use Rattle.pk_host.specs.Listing.{IsStart, list_room, above, keys_of, page_after, Pages, Follows, TellsKeys, ListsAll}
 use Rattle.pk_host.proofs.CommandLemmas.{success_served, list_by, key_named}
@@ -90,10 +90,10 @@ keys_started shape m from (inr key) is = ap (λ (q : Key). keys_from q m) (in_fi
 
 pub page_read : (old new : PortState) (from : Key) (a : Reply) (each : List Key) → length (bytes_of from) ≤ 16 → IsStart from → Replies old new (list_of from) a → a.status ≡ 0
     → each ≡ above from (keys_of a.data_bytes) → Pages old from each
-page_read old new from a each short start x zero read m told =
+page_read old new from a each short start x done read m told =
     let s = x.answers m told in
     let none = not_refused (refused old.shape (old.limit ∷ []) m (list_of from)) (list_by old.shape old.limit m from short) in
-    let served = success_served old.shape old.limit s.frames m (list_of from) ListKeys refl s.within.alone a s.left refl none zero s.stepped in
+    let served = success_served old.shape old.limit s.frames m (list_of from) ListKeys refl s.within.alone a s.left refl none done s.stepped in
     let bytes : a.data_bytes ≡ list_bytes (fitting list_room (keys_from (key (list_of from)) m)) = ap (λ (r : Reply). r.data_bytes) served.replied in
     read ∙ ap (λ (xs : List ℕ). above from (keys_of xs)) (bytes ∙ ap (λ (q : Key). list_bytes (fitting list_room (keys_from q m))) (key_named LIST from MOST_LIST_BYTES 0 [])
     ∙ ap (λ (ks : List Key). list_bytes (fitting list_room ks)) (keys_started old.shape m from start s.within.sized))
@@ -115,6 +115,20 @@ ok_only r e P is = subst (λ x. OnOk x P) (sym is) tt
 
 pub ok_never : {X E : Type 0} (r : Result X E) (e : E) (P : X → Type 0) → r ≡ Err e → IfOk r P
 ok_never r e P is = subst (λ x. IfOk x P) (sym is) tt
+
+-- ---- keys of the namespace in which commands are passed
+
+pub own_more : (ks ls : List Key) → AllByRecursion IsOwnKey ks → AllByRecursion IsOwnKey ls → AllByRecursion IsOwnKey (ks ++ ls)
+own_more [] ls own more = more
+own_more (k ∷ ks) ls own more = (own.0, own_more ks ls own.1 more)
+
+own_at : (ks : List Key) (i : ℕ) → AllByRecursion IsOwnKey ks → IfSome (slice_get ks i) IsOwnKey
+own_at [] i own = tt
+own_at (k ∷ ks) zero own = own.0
+own_at (k ∷ ks) (suc i) own = own_at ks i own.1
+
+pub own_one : (o : Option Key) (ks : List Key) (i : ℕ) → o ≡ slice_get ks i → AllByRecursion IsOwnKey ks → IfSome o IsOwnKey
+own_one o ks i same own = subst (λ (k : Option Key). IfSome k IsOwnKey) (sym same) (own_at ks i own)
 
 -- ---- a page and the keys after it
 
@@ -180,8 +194,8 @@ same_some (k ∷ page) rest all none e =
 pub follows_read : (old new : PortState) (from : Key) (a : Reply) (each : List Key) (r : Result Bool HostError) → length (bytes_of from) ≤ 16
     → IsStart from → Replies old new (list_of from) a → a.status ≡ 0
     → each ≡ above from (keys_of a.data_bytes) → r ≡ Ok (nat_lt 0 (length each)) → IfOk r (λ more. Follows old from more)
-follows_read old new from a each r short start x zero read is = subst (λ y. IfOk y (λ more. Follows old from more)) (sym is) (λ m told.
-    let page = page_read old new from a each short start x zero read m told in
+follows_read old new from a each r short start x done read is = subst (λ y. IfOk y (λ more. Follows old from more)) (sym is) (λ m told.
+    let page = page_read old new from a each short start x done read m told in
     let split = page_rest from m in
     ap (λ (ks : List Key). nat_lt 0 (length ks)) page ∙ same_some (page_after from m) split.0 (above from (keys m)) (none_follows from m (knows_keys old new (list_of from) a x m told)) split.1)
 

@@ -1,5 +1,6 @@
 //! A page of keys, with room for as many as one List can give.
 ghost use Rattle.std.specs.Prelude.{◌≡◌, ◌≤◌, ◌<◌, ◌++◌, [], ◌∷◌, length, slice_index_or, IfOk};
+ghost use Rattle.std.specs.List.{AllByRecursion};
 ghost use Rattle.pk_host.specs.declared.sizes.TheConstants.{MOST_KEYS};
 ghost use Rattle.pk_host.specs.Calls.{IsOwnKey};
 
@@ -55,6 +56,13 @@ impl KeyPage {
         ensures own { IsOwnKey result.now }
     {
         &self.keys[i as usize]
+    }
+
+    /// Does nothing: brings into a proof that its keys are of the namespace in which commands are passed.
+    pub(crate) fn known(&self)
+        ensures { AllByRecursion IsOwnKey self.now }
+    {
+        let _ = &self.keys;
     }
 
     /// No key.

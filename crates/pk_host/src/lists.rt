@@ -87,6 +87,7 @@ impl Host {
                 Err(error) => return Err(error),
                 Ok(false) => return Ok(all),
                 Ok(true) => {
+                    page.known();
                     if !add(&mut all, &page) {
                         return Err(HostError::Memory);
                     }

@@ -17,7 +17,7 @@ use Rattle.pk_level.specs.Levels.{AreOfLevels, IsLevels, HaveBlocks, RunsOnFlash
 use Rattle.pk_level.specs.Arenas.{last_level, page_counts, unfilled, unfilled_from}
 use Rattle.pk_model.specs.Found.{Found}
 use Rattle.pk_schedule.proofs.Backlogs.{four}
-use Rattle.pk_call.specs.Sight.{AreHeldTo, entries_of_runs, pages_of_each}
+use Rattle.pk_call.specs.Sight.{AreHeldTo, pages_of_each}
 use Rattle.pk_parts.specs.Parts.{Parts, counts_of, frames_of, held_by, index_of, most_looks, sight_of}
 use Rattle.pk_parts.specs.Agreeing.{DriveOnFlashWith}
 
@@ -61,7 +61,7 @@ pinned_counted shape k level (r ∷ rs) are within =
       | inl above ↦ omega (arith, above)
       | inr pins ↦
           let all : length r.leases ≡ length r.firsts = are.0.frames pins in
-          let one : cond (is_pinned r) 1 0 ≡ 1 = ap (λ (held : Bool). cond held 1 0) (le_true (length r.firsts) (length r.leases) (omega (arith, all))) in
+          let one : ◌≡◌ {A = ℕ} (cond (is_pinned r) 1 0) 1 = ap (λ (held : Bool). cond {A = ℕ} held 1 0) (le_true (length r.firsts) (length r.leases) (omega (arith, all))) in
           omega (arith, rest, step, one)
     ]
 
@@ -84,7 +84,7 @@ looks_few d is =
 -- ---- pages without a frame
 
 -- if no page lacks a frame, all runs up to the last one have all theirs
-held_filled : (last level : ℕ) (rs : List Kept) (i : ℕ) → unfilled_from last level rs ≡ 0 → level + i ≤ last → i < length rs → slice_get (map is_pinned rs) i ≡ Some true
+pub held_filled : (last level : ℕ) (rs : List Kept) (i : ℕ) → unfilled_from last level rs ≡ 0 → level + i ≤ last → i < length rs → slice_get (map is_pinned rs) i ≡ Some true
 held_filled last level [] i none low inside = absurd (omega (arith, inside))
 held_filled last level (r ∷ rs) zero none low inside =
     let here : (if nat_le level last then length r.firsts - length r.leases else 0) ≡ length r.firsts - length r.leases =
@@ -96,7 +96,7 @@ some_true : (b : Bool) → ◌≡◌ {A = Option Bool} (Some b) (Some true) → 
 some_true b e = cc
 
 -- and the other way round
-filled_held : (last level : ℕ) (rs : List Kept) → ((i : ℕ) → level + i ≤ last → i < length rs → slice_get (map is_pinned rs) i ≡ Some true) → unfilled_from last level rs ≡ 0
+pub filled_held : (last level : ℕ) (rs : List Kept) → ((i : ℕ) → level + i ≤ last → i < length rs → slice_get (map is_pinned rs) i ≡ Some true) → unfilled_from last level rs ≡ 0
 filled_held last level [] all = refl
 filled_held last level (r ∷ rs) all =
     let rest = filled_held last (suc level) rs (λ i low inside. all (suc i) (omega (arith, low)) (omega (arith, inside))) in

@@ -1,5 +1,5 @@
 -- The limits of a drive's namespaces are those on its flash; what each namespace reports.
-use Rattle.std.proofs.Common.{◌≡◌, ℕ, zero, suc, ◌+◌, ◌-◌, ◌<◌, ◌≤◌, refl, sym, ap, subst, ◌∙◌, arith, T, ◌&&◌, nat_le, leb→le, List, [], ◌∷◌, length, sum, Option, Some}
+use Rattle.std.proofs.Common.{◌≡◌, ℕ, zero, suc, ◌+◌, ◌-◌, ◌<◌, ◌≤◌, refl, sym, ap, subst, ◌∙◌, arith, T, ◌&&◌, nat_le, leb→le, List, [], ◌∷◌, length, take, map, min, sum, Option, Some}
 use Rattle.std.specs.Prelude.{slice_index, slice_index_or}
 use Rattle.std.proofs.lemmas.List.Sums.{sum_by-cons}
 use Rattle.pk_base.specs.Shape.{Shape, limit}
@@ -19,7 +19,7 @@ use Rattle.pk_model.proofs.Commits.{root_valid}
 use Rattle.pk_model.proofs.Growing.{reached_limits}
 use Rattle.pk_model.proofs.RootLimits.{limits_under}
 use Rattle.pk_model.proofs.Roots.{newest_sound}
-use Rattle.pk_call.specs.Sight.{InSpace, in_space_at}
+use Rattle.pk_call.specs.Sight.{InSpace, in_space_at, live_of_all}
 use Rattle.pk_parts.specs.Parts.{Parts, drive_limits, reported_from, spaces_of, settled_parts}
 use Rattle.pk_parts.specs.Agreeing.{DriveOnFlashWith, DriveOnFlash}
 use Rattle.pk_parts.specs.Moves.{StandsFor, StandsBetween}
@@ -128,3 +128,27 @@ reported_here d space some most =
     let again : 1 + (space - 1) ≡ space = omega (arith, some) in
     reported_at d.spaces 1 (space - 1) (drive_limits d) (omega (arith, some, most))
     ∙ ap (λ (n : ℕ). record { live = space_live d.spaces n; limit = slice_index (drive_limits d) (space - 1); keys = space_keys d.spaces n }) again
+
+-- ---- the live pages of the first namespaces
+
+pub reported_more : (u : Use) (first i : ℕ) (limits : List ℕ) → i < length limits
+    → live_of_all (take (i + 1) (reported_from u first limits)) ≡ live_of_all (take i (reported_from u first limits)) + space_live u (first + i)
+reported_more u first i [] less = absurd (omega (arith, less))
+reported_more u first zero (most ∷ limits) less =
+    let one = sum_by-cons (λ (x : ℕ). x) (space_live u first) [] in
+    let place : first ≡ first + 0 = omega arith in
+    let same = ap (space_live u) place in
+    omega (arith, one, same)
+reported_more u first (suc i) (most ∷ limits) less =
+    let rest = reported_more u (first + 1) i limits (omega (arith, less)) in
+    let later : List InSpace = reported_from u (first + 1) limits in
+    let size : suc i + 1 ≡ suc (i + 1) = omega arith in
+    let place : first + 1 + i ≡ first + suc i = omega arith in
+    let same = ap (space_live u) place in
+    let longer = sum_by-cons (λ (x : ℕ). x) (space_live u first) (map (λ (s : InSpace). s.live) (take (i + 1) later)) in
+    let shorter = sum_by-cons (λ (x : ℕ). x) (space_live u first) (map (λ (s : InSpace). s.live) (take i later)) in
+    ap (λ (n : ℕ). live_of_all (take n (reported_from u first (most ∷ limits)))) size ∙ omega (arith, rest, same, longer, shorter)
+
+-- as many as a u32 holds
+pub capped_more : (total live n m : ℕ) → total ≡ min n 4294967295 → m ≡ n + live → min (total + live) 4294967295 ≡ min m 4294967295
+capped_more total live n m is more = omega (arith, is, more)

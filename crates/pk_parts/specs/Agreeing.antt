@@ -9,7 +9,6 @@ use Rattle.pk_law_steps.specs.Under.{IsUnder, IsValuePage, places}
 use Rattle.pk_values.specs.Placed.{HoldsValues, IsOutput, ValuesOnFlash}
 use Rattle.pk_gc.specs.declared.course.Phase.TheVariants.{Commits}
 use Rattle.pk_gc.specs.Standing.{ReclaimOnFlash}
-use Rattle.pk_scan.specs.Used.{IsUseOf}
 use Rattle.pk_schedule.specs.Index.{IndexOnFlash, IsSettled, HalfStands}
 use Rattle.pk_scan.specs.Used.{IsUseOf}
 use Rattle.pk_reclaim.specs.Space.{HalfMoves, reclaim_parts}

@@ -162,24 +162,24 @@ module _ (agrees : Option Shape → Flash → Type 0) (shape : Shape) (old : Boa
         → old.read_faults ≤ new.read_faults → Rose old.stop_faults new.stop_faults → Fails shape (mount old d) (mount new e) c Stopped
     fails_so stops going stopped unworn rest looks up stop =
         let went_now = stops shape (mount old d).terms ready.map ready.stands ready.none in inl (
-      refl,
-      record {
-        runs = record { going = going; unworn = unworn };
-        map = ready.map;
-        held = ready_holds;
-        its_limits = mounted_limits shape old d ready.stands.shape_is;
-        went = went_now;
-        stopped = stopped;
-        same_limits =
-            sym (mounted_limits shape new e (ap (λ b. b.shape) rest ∙ ready.stands.shape_is))
-            ∙ went_limits shape old new (StepCut shape (mount old d).terms.limits ready.map c) ready.stands.shape_is went_now
-            ∙ mounted_limits shape old d ready.stands.shape_is;
-        stop = stop;
-        up = up;
-        looks = looks;
-        rest = rest;
-      },
-    )
+          refl,
+          record {
+            runs = record { going = going; unworn = unworn };
+            map = ready.map;
+            held = ready_holds;
+            its_limits = mounted_limits shape old d ready.stands.shape_is;
+            went = went_now;
+            stopped = stopped;
+            same_limits =
+                sym (mounted_limits shape new e (ap (λ b. b.shape) rest ∙ ready.stands.shape_is))
+                ∙ went_limits shape old new (StepCut shape (mount old d).terms.limits ready.map c) ready.stands.shape_is went_now
+                ∙ mounted_limits shape old d ready.stands.shape_is;
+            stop = stop;
+            up = up;
+            looks = looks;
+            rest = rest;
+          },
+        )
 
 -- data at the start of a buffer, n bytes
 pub front_few : (len : ℕ) (into : List ℕ) (most : ℕ) → len ≤ length into → length (take len into) ≤ most → len ≤ most

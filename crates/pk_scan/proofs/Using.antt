@@ -1,9 +1,8 @@
 -- What is used of each namespace, as values are taken.
-use Rattle.std.proofs.Common.{◌≡◌, ℕ, zero, suc, ◌+◌, ◌-◌, ◌<◌, ◌≤◌, Bool, true, false, List, [], ◌∷◌, ◌++◌, length, slice_index, replicate, ◌==◌, if◌then◌else◌, refl, sym, ap, subst, ◌∙◌, arith, eqb→eq, eq-eqb, length-append, nat_le, ◌&&◌}
+use Rattle.std.proofs.Common.{◌≡◌, ℕ, zero, suc, ◌+◌, ◌-◌, ◌<◌, ◌≤◌, Bool, true, false, List, [], ◌∷◌, ◌++◌, length, slice_index, replicate, ◌==◌, if◌then◌else◌, refl, sym, ap, subst, ◌∙◌, arith, eqb→eq, eq-eqb, nat_le, ◌&&◌}
 use Rattle.std.specs.Prelude.{slice_set}
-use Rattle.std.specs.List.{AllByRecursion}
 use Rattle.pk_base.specs.declared.sizes.TheConstants.{MOST_SPACES}
-use Rattle.pk_base.specs.Key.{Key, IsKey, space_of}
+use Rattle.pk_base.specs.Key.{Key, space_of}
 use Rattle.pk_base.specs.Shape.{Shape, charge}
 use Rattle.pk_base.specs.Entry.{Place}
 use Rattle.pk_base.proofs.Logic.{of_true}
@@ -37,17 +36,6 @@ few_keys space [] = omega arith
 few_keys space (e ∷ es) =
     let rest = few_keys space es in
     elim (space_of e.0 == space) as (λ b. (if b then 1 else 0) + keys_of_space space es ≤ suc (length es)) [ true ↦ omega (arith, rest) | false ↦ omega (arith, rest) ]
-
--- all keys are of the only namespace
-pub all_in_one : (es : List (Key × Place)) → AllByRecursion (λ e. IsKey e.0) es → keys_of_space 1 es ≡ length es
-all_in_one [] all = refl
-all_in_one (e ∷ es) all =
-    let rest = all_in_one es all.1 in
-    let least = all.0.space_some in
-    let most = all.0.space_most in
-    let one : space_of e.0 ≡ 1 = omega (arith, least, most) in
-    let test : (space_of e.0 == 1) ≡ true = eq-eqb (space_of e.0) 1 one in
-    rw test (omega (arith, rest))
 
 -- ---- one more value
 

@@ -2,7 +2,7 @@
 use Rattle.std.proofs.Common.{◌≡◌, ◌≢◌, inl, inr, ℕ, zero, suc, ◌+◌, ◌-◌, ◌<◌, ◌≤◌, true, List, [], ◌∷◌, length, drop, refl, sym, ap, subst, ◌∙◌, arith, Some, None, Result, Ok, Err}
 use Rattle.std.specs.Prelude.{nat_eq, ◌==◌, ◌++◌}
 use Rattle.std.specs.List.{AllByRecursion, list_all, starts_with}
-use Rattle.pk_base.specs.Key.{Key, IsKey}
+use Rattle.pk_base.specs.Key.{Key}
 use Rattle.pk_base.specs.Shape.{Shape, charge, buffer, root_pages, pinned}
 use Rattle.pk_base.specs.Entry.{Entry, Place}
 use Rattle.pk_base.specs.EntryChecks.{IsEntry, IsPlace}
@@ -57,7 +57,6 @@ use Rattle.pk_scan.proofs.Opened.{behind_reads}
 use Rattle.pk_scan.proofs.Under.{visible_places, found_refuses, values_refuse, stands_under}
 use Rattle.pk_model.specs.RootLimits.{root_limits}
 use Rattle.pk_scan.specs.Used.{IsUseOf}
-use Rattle.pk_scan.proofs.Using.{all_in_one}
 use Rattle.pk_space.specs.Uses.{Use}
 
 -- ---- the keys that exist
@@ -67,18 +66,10 @@ placed_all shape [] all = tt
 placed_all shape ((key, None) ∷ es) all = placed_all shape es all.1
 placed_all shape ((key, Some place) ∷ es) all = (all.0.1, placed_all shape es all.1)
 
-placed_keys : (shape : Shape) (es : List Entry) → AllByRecursion (IsEntry shape) es → AllByRecursion (λ e. IsKey e.0) (placed es)
-placed_keys shape [] all = tt
-placed_keys shape ((key, None) ∷ es) all = placed_keys shape es all.1
-placed_keys shape ((key, Some place) ∷ es) all = (all.0.0, placed_keys shape es all.1)
-
 entries_are : (shape : Shape) (flash : Flash) (root : Root) (found : Found) → found_under shape (page_at flash) root ≡ Ok found → AllByRecursion (IsEntry shape) (firsts (entries_in_order found []))
 entries_are shape flash root found is =
     counting_all (IsEntry shape) shape (page_at flash) (λ k number index bytes es stands read. journal_are shape number index bytes es read)
     (λ k level index count bytes es stands read. meta_are shape level index count bytes es read) root found [] is tt
-
-pub keys_found : (shape : Shape) (flash : Flash) (root : Root) (found : Found) → found_under shape (page_at flash) root ≡ Ok found → AllByRecursion (λ e. IsKey e.0) (places found [])
-keys_found shape flash root found is = placed_keys shape (firsts (entries_in_order found [])) (entries_are shape flash root found is)
 
 pub places_are : (shape : Shape) (flash : Flash) (root : Root) (found : Found) → found_under shape (page_at flash) root ≡ Ok found → AllByRecursion (λ e. IsPlace shape e.1) (places found [])
 places_are shape flash root found is = placed_all shape (firsts (entries_in_order found [])) (entries_are shape flash root found is)
@@ -197,7 +188,6 @@ module _ {A : Type 0} (shape : Shape) (flash : Flash) (frames : ℕ) (f : Opened
           values_are = values_are;
         };
         uses = uses;
-        keys_are = uses.keys 1 (omega arith, omega arith) ∙ all_in_one (places found []) (keys_found shape flash f.root.root found held.finds);
       }
 
   opened_is : opening_reads shape flash frames ≡ root_pages shape + epoch_reads shape (page_at flash) f.root.root.older + epoch_reads shape

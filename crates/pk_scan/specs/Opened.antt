@@ -16,7 +16,6 @@ use Rattle.pk_law_steps.specs.Under.{IsUnder, IsValuePage, places}
 pub use Rattle.pk_scan.specs.OpeningParts.{HaveBlocks}
 use Rattle.pk_scan.specs.OpeningParts.{IsFoundEpoch}
 use Rattle.pk_live.specs.Lives.{Lives}
-use Rattle.pk_space.specs.Uses.{space_keys}
 use Rattle.pk_scan.specs.Used.{IsUseOf}
 use Rattle.pk_scan.specs.Adopts.{HasOwners}
 use Rattle.pk_scan.specs.declared.contents.Found.{Found}
@@ -54,5 +53,3 @@ pub record FoundOnFlash {A : Type 0} (shape : Shape) (flash : Flash) (frames : â
   pub lists : ListsOnFlash shape flash frames f found map
   pub blocks : BlocksOnFlash shape flash f found
   pub uses : IsUseOf shape f.spaces (places found [])
-  -- there is one namespace
-  pub keys_are : space_keys f.spaces 1 â‰¡ length (places found [])

@@ -24,13 +24,14 @@ struct Held {
     reads: u32,
 }
 
-// Levels 1 and 2 are pinned from 36 frames on, and level 1 with 35; so 35 frames may hold level 3
-// and 36 may not. Level 4 is empty.
+// The key is in run 3, and other runs have keys before it. Levels 1 and 2 are pinned with 36 frames,
+// level 1 with 35, none with 7. So 35 frames have room for levels 2 and 3 beside it, 36 for none, and
+// 7 for level 1. Level 4 is empty.
 const HELD: [Held; 5] = [
     Held {
         frames: "7",
-        leased: 0,
-        reads: 2,
+        leased: 4,
+        reads: 3,
     },
     Held {
         frames: "35",

@@ -74,6 +74,13 @@ task_holds (answer q) from to shape terms start flash posted kept = (kept.0.map_
 task_holds (list key) from to shape terms start flash posted kept = (start, kept.held)
 task_holds (generate begin count) from to shape terms start flash posted kept = (kept.0.map_left, kept.0.held)
 
+-- and its limits are the same
+pub task_limits : (task : Task) (from to : Meter) (shape : Shape) (terms : Terms) (start : Map) (flash : Flash) (posted : List ℕ) → KeptTask task from to shape terms start flash posted
+    → limits_at shape flash ≡ terms.limits
+task_limits (answer q) from to shape terms start flash posted kept = kept.0.same_limits
+task_limits (list key) from to shape terms start flash posted kept = kept.same_limits
+task_limits (generate begin count) from to shape terms start flash posted kept = kept.0.same_limits
+
 -- reads do not touch the input
 pub input_still : (a b : BoardState) → OnlyReading a b → KeepsInput a b
 input_still a b only = record { input = ap (λ (s : BoardState). s.input) only; in_faults = ap (λ (s : BoardState). s.in_faults) only }

@@ -1,5 +1,5 @@
 -- A run of a word on a pair of images, from the loads on.
-use Rattle.std.proofs.Common.{◌≡◌, ◌≢◌, ◌⊎◌, inl, inr, ℕ, ◌+◌, ◌<◌, ◌≤◌, List, [], ◌∷◌, length, map, Bool, if◌then◌else◌, Option, Some, None, IsSome, option_and_then, Result, Ok, Err, refl, sym, ◌∙◌, ap}
+use Rattle.std.proofs.Common.{◌≡◌, ◌≢◌, ◌⊎◌, inl, inr, ℕ, ◌+◌, ◌<◌, ◌≤◌, List, [], ◌∷◌, length, map, Bool, ◌==◌, eqb-true, eq-eqb, if◌then◌else◌, Option, Some, None, IsSome, option_and_then, Result, Ok, Err, refl, sym, ◌∙◌, ap}
 use Rattle.std.proofs.Common.{subst, arith, true, false, nat_le}
 use Rattle.std.proofs.lemmas.Bool.Decides.{nat_tests}
 use Rattle.std.specs.FinMap.{len, entries, len-entries}
@@ -19,7 +19,7 @@ use Rattle.pk_model.specs.Spaces.{terms_at, limits_at, in_space}
 use Rattle.pk_model.specs.Growth.{Goes}
 use Rattle.pk_model.specs.Laws.{MapHeld}
 use Rattle.pk_model.specs.Reading.{reading, Holds, Refuses}
-use Rattle.pk_call.specs.Sight.{Sight}
+use Rattle.pk_call.specs.Sight.{Sight, map_of}
 use Rattle.pk_model.specs.Wear.{root_number, roots, is_worn}
 use Rattle.pk_serve.specs.Complete.{NoneRose}
 use Rattle.pk_call.specs.Drive.{HoldsMap}
@@ -64,6 +64,24 @@ few_keys shape b m is law ready held =
     let size = len-entries (in_space 1 m) in
     let names = names_len (entries (in_space 1 m)) in
     omega (arith, most, pages, few, first, size, names)
+
+-- ---- the limits of two drives
+
+-- what a test of them says of their flashes
+pub limits_tested : (agrees agrees' : Option Shape → Flash → Type 0) (shape : Shape) (one two : BoardState) (frames : ℕ) (d e : Sight) (b : Bool)
+    → ((s : Shape) (f g : Flash) (m n : Map) → agrees (Some s) f → d.stopped ≡ false → map_of s f d ≡ Ok m → agrees' (Some s) g → e.stopped ≡ false → map_of s g e ≡ Ok n
+    → b ≡ (first_limit s f == first_limit s g))
+    → agrees one.shape one.pages → agrees' two.shape two.pages → d.stopped ≡ false → e.stopped ≡ false → ((m : Map) × HoldsMap shape (terms_at shape one.pages frames) one d m)
+    → ((m : Map) × HoldsMap shape (terms_at shape two.pages frames) two e m) → b ≡ (first_limit shape one.pages == first_limit shape two.pages)
+limits_tested agrees agrees' shape one two frames d e b tested agreed agreed' runs runs' stands stands' =
+    tested shape one.pages two.pages stands.0 stands'.0 (subst (λ (s : Option Shape). agrees s one.pages) stands.1.shape_is agreed) runs stands.1.map_is
+    (subst (λ (s : Option Shape). agrees' s two.pages) stands'.1.shape_is agreed') runs' stands'.1.map_is
+
+pub is_one : (x y : ℕ) (b : Bool) → b ≡ (x == y) → b ≡ true → x ≡ y
+is_one x y b test yes = eqb-true x y (sym test ∙ yes)
+
+pub is_other : (x y : ℕ) (b : Bool) → b ≡ (x == y) → b ≡ false → x ≢ y
+is_other x y b test no same = let clash : true ≡ false = sym (eq-eqb x y same) ∙ sym test ∙ no in cc
 
 -- ---- what was done on two images
 
@@ -399,12 +417,12 @@ module _ (task : PairTask) (shape : Shape) (old loaded new old' loaded' new' : B
       memory = λ e. absurd (let is = l.tells in omega (arith, e, is));
       no_drive = λ e. (
         inr (inr (inr (
-              shape,
-              ap (λ (s : BoardState). s.shape) l.first_opened ∙ found.shape_is,
-              ap (λ (s : BoardState). s.shape) l.second_opened ∙ found'.shape_is,
-              λ same. l.differ (ap (first_limit shape) (sym (ap (λ (s : BoardState). s.pages) l.first_opened)) ∙ same
-                ∙ ap (first_limit shape) (ap (λ (s : BoardState). s.pages) l.second_opened)),
-            ))),
+          shape,
+          ap (λ (s : BoardState). s.shape) l.first_opened ∙ found.shape_is,
+          ap (λ (s : BoardState). s.shape) l.second_opened ∙ found'.shape_is,
+          λ same. l.differ (ap (first_limit shape) (sym (ap (λ (s : BoardState). s.pages) l.first_opened)) ∙ same
+              ∙ ap (first_limit shape) (ap (λ (s : BoardState). s.pages) l.second_opened)),
+        ))),
         opened_untouched shape old loaded new found l.first_opened,
         opened_untouched shape old' loaded' new' found' l.second_opened,
       );

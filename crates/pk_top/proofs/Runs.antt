@@ -23,7 +23,7 @@ use Rattle.pk_top.specs.Serves.{ServeRun, ServesFound, behind_opening}
 use Rattle.pk_wordrun.specs.Tasks.{Task, KeptTask}
 use Rattle.pk_top.specs.Asks.{AsksFound, AskRun}
 use Rattle.pk_top.specs.declared.asking.TheConstants.{WORD_FRAMES}
-use Rattle.pk_top.proofs.Asked.{silent, task_holds, same_meter}
+use Rattle.pk_top.proofs.Asked.{silent, task_holds, task_limits, same_meter}
 use Rattle.pk_top.specs.Sessions.{ProgramRun, IsRun, LeavesMap, KeptThrough, RunOn, KeptThroughRuns}
 use Rattle.pk_top.specs.Resting.{Rests}
 use Rattle.pk_top.specs.Words.{Word, make, serve, ask, assemble, show, word_of}
@@ -183,12 +183,14 @@ module _ (shape : Shape) (r : ProgramRun) (is : IsRun shape r) where
 
   -- ---- any word
 
-  -- the map afterwards
+  -- the map afterwards, and the limits
   abbrev Left : Option Word → Map → Type 0
-  Left word m = (next : Map) × LeavesMap word shape r m next × Holds shape r.left next
+  Left word m = (next : Map) × LeavesMap word shape r m next × Holds shape r.left next × (limits_at shape r.left ≡ limits_at shape r.old.pages)
 
   left_resting : (word : Option Word) → ((m : Map) → LeavesMap word shape r m m) → RestsFlash r.old r.new → (m : Map) → Holds shape r.old.pages m → Left word m
-  left_resting word same rests m holds = (m, same m, ap (λ f. reading shape f []) ((sound_resting rests).0 r.left r.posted is.cut) ∙ holds)
+  left_resting word same rests m holds =
+      let still = (sound_resting rests).0 r.left r.posted is.cut in
+      (m, same m, ap (λ f. reading shape f []) still ∙ holds, ap (limits_at shape) still)
 
   left_by : (word : Option Word) → word_of r.words ≡ word → Rests word r.old r.new → (m : Map) → Holds shape r.old.pages m → Left word m
   left_by None of rests m holds = left_resting None (λ m. refl) rests m holds
@@ -197,22 +199,23 @@ module _ (shape : Shape) (r : ProgramRun) (is : IsRun shape r) where
   left_by (Some show) of rests m holds = left_resting (Some show) (λ m. refl) rests m holds
   left_by (Some (serve frames)) of rests m holds =
       let kept = (sound_serving frames (is.serves frames of)).0 m holds r.left r.posted is.cut in
-      (kept.map_left, (kept, refl), kept.held)
+      (kept.map_left, (kept, refl), kept.held, kept.same_limits)
   left_by (Some (ask task)) of rests m holds =
       let kept = asks_cut task (is.asks task of) m holds r.left r.posted is.cut in
       let held = task_holds task (opened shape) (meter r.new) shape (terms_at shape r.old.pages WORD_FRAMES) m r.left r.posted kept in
-      (held.0, kept, held.1)
+      (held.0, kept, held.1, task_limits task (opened shape) (meter r.new) shape (terms_at shape r.old.pages WORD_FRAMES) m r.left r.posted kept)
 
   left : (m : Map) → Holds shape r.old.pages m → Left (word_of r.words) m
   left = left_by (word_of r.words) refl is.rests
 
-kept_through : (shape : Shape) (start : Flash) (runs : List ProgramRun) (end : Flash) → RunOn shape start runs end → (m : Map) → Holds shape start m
-    → (m' : Map) × Holds shape end m' × KeptThrough shape m runs m'
-kept_through shape start [] end same m holds = (m, ap (λ f. reading shape f []) same ∙ holds, refl)
-kept_through shape start (r ∷ runs) end run m holds =
+kept_through : (shape : Shape) (limits : List ℕ) (start : Flash) (runs : List ProgramRun) (end : Flash) → RunOn shape start runs end → (m : Map) → Holds shape start m
+    → limits_at shape start ≡ limits → (m' : Map) × Holds shape end m' × (limits_at shape end ≡ limits) × KeptThrough shape limits m runs m'
+kept_through shape limits start [] end same m holds within = (m, ap (λ f. reading shape f []) same ∙ holds, ap (limits_at shape) same ∙ within, refl)
+kept_through shape limits start (r ∷ runs) end run m holds within =
     let one = left shape r run.0 m (ap (λ f. reading shape f []) run.1 ∙ holds) in
-    let rest = kept_through shape r.left runs end run.2 one.0 one.2 in
-    (rest.0, rest.1, (one.0, one.1, one.2, rest.2))
+    let here : limits_at shape r.left ≡ limits = one.3 ∙ ap (limits_at shape) run.1 ∙ within in
+    let rest = kept_through shape limits r.left runs end run.2 one.0 one.2 here in
+    (rest.0, rest.1, rest.2, (one.0, one.1, one.2, here, rest.3))
 
 pub kept_through_runs : KeptThroughRuns
-kept_through_runs shape limits made runs end is run = kept_through shape made.pages runs end run empty is.holds
+kept_through_runs shape limits made runs end is run = kept_through shape limits made.pages runs end run empty is.holds is.limits_are

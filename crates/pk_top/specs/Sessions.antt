@@ -7,7 +7,7 @@ use Rattle.pk_base.specs.Mark.{Mark}
 use Rattle.pk_base.specs.Map.{Map}
 use Rattle.pk_nand.specs.BoardState.{BoardState}
 use Rattle.pk_nand.specs.Cut.{Cut}
-use Rattle.pk_model.specs.Spaces.{terms_at}
+use Rattle.pk_model.specs.Spaces.{terms_at, limits_at}
 use Rattle.pk_model.specs.Kept.{Kept, rise}
 use Rattle.pk_model.specs.Reading.{Holds}
 use Rattle.pk_top.specs.Makes.{IsMade}
@@ -55,10 +55,11 @@ LeavesMap (Some assemble) shape r m m' = m' ≡ m
 LeavesMap (Some show) shape r m m' = m' ≡ m
 LeavesMap None shape r m m' = m' ≡ m
 
--- from map to map, each of which the flash held at the cut of the run
-abbrev pub KeptThrough : Shape → Map → List ProgramRun → Map → Type 0
-KeptThrough shape m [] m' = m' ≡ m
-KeptThrough shape m (r ∷ runs) m' = (next : Map) × LeavesMap (word_of r.words) shape r m next × Holds shape r.left next × KeptThrough shape next runs m'
+-- from map to map, each of which the flash held at the cut of the run, and the limits of its namespaces are these
+abbrev pub KeptThrough : Shape → List ℕ → Map → List ProgramRun → Map → Type 0
+KeptThrough shape limits m [] m' = m' ≡ m
+KeptThrough shape limits m (r ∷ runs) m' =
+    (next : Map) × LeavesMap (word_of r.words) shape r m next × Holds shape r.left next × (limits_at shape r.left ≡ limits) × KeptThrough shape limits next runs m'
 
 -- from flash to flash
 abbrev pub RunOn : Shape → Flash → List ProgramRun → Flash → Type 0
@@ -66,8 +67,8 @@ RunOn shape start [] end = end ≡ start
 RunOn shape start (r ∷ runs) end = IsRun shape r × (r.old.pages ≡ start) × RunOn shape r.left runs end
 
 -- On a made drive, after any runs of any words, each cut anywhere: each kept what the one before left, from the empty map on, and the end holds the
--- last map.
+-- last map; the limits of the namespaces are always those that the drive was made with.
 abbrev pub KeptThroughRuns : Type 0
 KeptThroughRuns =
     (shape : Shape) (limits : List ℕ) (made : BoardState) (runs : List ProgramRun) (end : Flash) → IsMade shape limits made → RunOn shape made.pages runs end
-    → (m : Map) × Holds shape end m × KeptThrough shape empty runs m
+    → (m : Map) × Holds shape end m × (limits_at shape end ≡ limits) × KeptThrough shape limits empty runs m

@@ -1,5 +1,5 @@
 //! The words that ask a pair of drives, on two images.
-ghost use Rattle.std.specs.Prelude.{◌≡◌, ◌≢◌, ◌⊎◌, None, Some, Ok, false, map, IfOk, IfErr, MatchBool};
+ghost use Rattle.std.specs.Prelude.{◌≡◌, ◌≢◌, ◌⊎◌, ◌==◌, None, Some, Ok, false, map, IfOk, IfErr, MatchBool};
 ghost use Rattle.pk_base.specs.Map.{Map};
 ghost use Rattle.pk_base.specs.Page.{Flash};
 ghost use Rattle.pk_base.specs.Shape.{Shape as Form};
@@ -96,6 +96,18 @@ fn first_limit<D: Engine>(drive: &D) -> u32
     drive.counts(1).limit
 }
 
+/// The limits of the first namespaces of two drives are the same.
+fn has_one_limit<D: Engine, E: Engine>(one: &D, two: &E) -> bool
+    ensures { (shape : Form) → (flash other : Flash) → (m n : Map)
+        → D.agrees one.now (Some shape) flash → (D.sight one.now).stopped ≡ false
+        → map_of shape flash (D.sight one.now) ≡ Ok m
+        → E.agrees two.now (Some shape) other → (E.sight two.now).stopped ≡ false
+        → map_of shape other (E.sight two.now) ≡ Ok n
+        → result ≡ (limit_by shape flash == limit_by shape other) }
+{
+    first_limit(one) == first_limit(two)
+}
+
 /// Opens the drives of both images and does what a word asks of them, if their first namespaces have
 /// one limit.
 fn ask_images<B: Board, C: Board>(
@@ -119,7 +131,7 @@ fn ask_images<B: Board, C: Board>(
     match Drive::open(alloc, first, shape, WORD_FRAMES) {
         Ok(mut one) => match Drive::open(alloc, second, shape, WORD_FRAMES) {
             Ok(mut two) => {
-                if first_limit(&one) != first_limit(&two) {
+                if !has_one_limit(&one, &two) {
                     return Status::NO_DRIVE;
                 }
                 of_word_end(speaker.run(&mut one, first, &mut two, second, task))

@@ -124,5 +124,5 @@ returns-in-Ok-clause-asked_first g c = asked_before g.P.Port.took g.met.P.Port.t
 pub returns-in-Ok-false-clause-asked_first : goal.returns-in-Ok-false-clause-asked_first
 returns-in-Ok-false-clause-asked_first g c = asked_one g.P.Port.took _ _ _ c.list_page.ensures.took
 
-pub list_page-requires-clause-own : goal.list_page-requires-clause-own
-list_page-requires-clause-own g c = own_from (option_copied c.args.last) c.requires.text
+pub list_page-requires : goal.list_page-requires
+list_page-requires g c = record { own = own_from (option_copied c.args.last) c.requires.text }

@@ -132,5 +132,5 @@ returns-in-Ok-clause-asked_second g c = asked_before g.Q.Port.took g.met.Q.Port.
 pub returns-in-Ok-false-clause-asked_second : goal.returns-in-Ok-false-clause-asked_second
 returns-in-Ok-false-clause-asked_second g c = asked_one g.Q.Port.took _ _ _ c.list_page.ensures.took
 
-pub list_page-requires-clause-own : goal.list_page-requires-clause-own
-list_page-requires-clause-own g c = own_from (option_copied c.args.last) c.requires.text
+pub list_page-requires : goal.list_page-requires
+list_page-requires g c = record { own = own_from (option_copied c.args.last) c.requires.text }

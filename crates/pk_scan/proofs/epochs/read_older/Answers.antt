@@ -4,10 +4,17 @@ use Rattle.pk_base.specs.Shape.{Shape}
 use Rattle.pk_base.specs.Page.{page_at}
 use Rattle.pk_base.specs.Refusal.{damaged}
 use Rattle.pk_model.specs.Found.{older_epoch}
+use Rattle.pk_jrn.specs.Epochs.{AllExist}
+use Rattle.pk_scan.proofs.RootFacts.{older_exist}
 use Rattle.pk_scan.proofs.Boards.{stays_reads}
 use Rattle.pk_scan.proofs.Exact.{older_exact, none_exact}
 use Rattle.pk_scan.proofs.EpochsHeld.{older_not_named, older_without}
 use Rattle.pk_scan.proofs.epochs.read_older.Goals as goal
+
+pub replay_in-requires-clause-blocks : goal.replay_in-requires-clause-blocks
+replay_in-requires-clause-blocks g c =
+    subst (λ (s : Shape). AllExist s c.in-Some.pair) (sym c.shape.ensures)
+    (older_exist c.args.root.now.shape c.args.root.now.root c.requires.grammar c.in-Some.pair (sym c.in-Some.is ∙ c.older.ensures))
 
 pub returns-in-None-clause-held : goal.returns-in-None-clause-held
 returns-in-None-clause-held g c =

@@ -1,11 +1,12 @@
 use Rattle.pk_host.proofs.CauseLemmas.{caused_later}
-use Rattle.std.proofs.Common.{◌∙◌, ap, List, [], length, ◌-◌}
-use Rattle.std.specs.List.{slice_get}
+use Rattle.std.proofs.Common.{◌∙◌, sym, ap, subst, List, [], length, ◌-◌}
+use Rattle.std.specs.List.{AllByRecursion, slice_get}
 use Rattle.std.specs.Option.{option_copied}
 use Rattle.pk_base.specs.Key.{Key}
 use Rattle.pk_nvme.specs.Command.{key_or_none}
+use Rattle.pk_host.specs.Calls.{IsOwnKey}
 use Rattle.pk_host.specs.Listing.{listed_by}
-use Rattle.pk_host.proofs.PageLemmas.{more_lists, listing_goes, listing_ends}
+use Rattle.pk_host.proofs.PageLemmas.{more_lists, listing_goes, listing_ends, own_more, own_one}
 use Rattle.pk_host.proofs.host.Host.list_all.Goals as goal
 
 pub returns-in-Err-list_page-clause-took : goal.returns-in-Err-list_page-clause-took
@@ -29,7 +30,13 @@ loop-preserved g c = (
   listing_goes _ _ _ c.loop.all.items c.list_page.new.page _ _ c.loop.invariant.1
       (ap key_or_none c.last.ensures.value ∙ ap (λ (xs : List Key). key_or_none (slice_get xs (length xs - 1))) c.deref.ensures.value) c.in-Ok-true.ensures.pages c.list_page.ensures.leaves
       (c.add.ensures c.if-not-add.false),
+  subst (AllByRecursion IsOwnKey) (sym (c.add.ensures c.if-not-add.false)) (own_more c.loop.all.items c.list_page.new.page c.loop.invariant.2 c.known.ensures),
 )
+
+pub list_page-requires : goal.list_page-requires
+list_page-requires g c = record {
+  own = own_one (option_copied c.last.result) c.loop.all.items _ (c.last.ensures.value ∙ ap (λ (xs : List Key). slice_get xs (length xs - 1)) c.deref.ensures.value) c.loop.invariant.2;
+}
 
 pub returns-in-Err-list_page-clause-causes : goal.returns-in-Err-list_page-clause-causes
 returns-in-Err-list_page-clause-causes g c =

@@ -17,5 +17,5 @@ returns-in-Ok-false-clause-piece g c =
     says_end (g.P.Port.state c.args.port.now) (g.P.Port.state c.list_page.new.port) _ c.in-Ok-false.field-0 _ c.in-Ok-false.field-0-test c.in-Ok-false.ensures.follows c.in-Ok-false.ensures.known
     (ap (λ (t : RoomyList). t.items) c.clear.ensures)
 
-pub list_page-requires-clause-own : goal.list_page-requires-clause-own
-list_page-requires-clause-own g c = own_from _ c.requires
+pub list_page-requires : goal.list_page-requires
+list_page-requires g c = record { own = own_from _ c.requires }
