@@ -237,7 +237,7 @@ pair_shape_fault() { # IMAGE IMAGE
     if [ -z "$fault" ] && [ "$one" != "$two" ]; then
         fault="the drives have different shapes: $1 has $one, $2 has $two"
     fi
-    echo "${fault:-an image is damaged, or its making was broken off: see pinkctl check}"
+    echo "${fault:-the limits of namespace 1 differ, or an image is damaged: see pinkctl check}"
 }
 
 # The input. A file is looked at again from its start; a pipe is gone.

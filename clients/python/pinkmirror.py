@@ -162,7 +162,7 @@ def _pair_ended(status: int, images: Tuple[str, str]) -> DriveEnded:
         if shapes[0] != shapes[1]:
             told = [f"{it} has {tuple(shape or ())}" for it, shape in zip(images, shapes)]
             return DriveEnded(status, "the drives have different shapes: " + ", ".join(told))
-        return DriveEnded(status, "an image is damaged: see pinkctl check")
+        return DriveEnded(status, "the limits of namespace 1 differ, or an image is damaged: see pinkctl check")
     return ended(status, images[0])
 
 

@@ -1,13 +1,14 @@
 //! Images whose tables are missing, wrong or more than one, and words that are refused.
 
 use crate::spared::{
-    BLOCK_PAGES, FIRST_TABLE_BLOCK, GET, LIST, MAKE, board_of, inner, left, made, run_over, said,
-    serve,
+    BLOCK_PAGES, FIRST_TABLE_BLOCK, GET, LIST, MAKE, board_of, inner, left, made, made_by,
+    run_over, said, serve,
 };
 use pk_flash::Flash;
 use pk_nand::PageState;
 use pk_test_scripts::boards;
 use pk_test_scripts::program::SCRIPT;
+use pk_test_scripts::script::{Answer, Ask, Value, records, script_over};
 use pk_top::{Status, run_spared};
 use std::alloc::Global;
 use std::process::Abort;
@@ -114,4 +115,30 @@ fn refused_words(rt: HostRuntime) {
     refused(&rt, alloc, &["spared", "4", "put", "61", "6"]);
     refused(&rt, alloc, &["spared", "4", "make", "512", "16", "4095"]);
     refused(&rt, alloc, &["list"]);
+}
+
+/// A drive with spare blocks and limits of two namespaces: it is asked for in the words of `make`, and answers each namespace apart.
+#[test]
+fn limits_with_spare_blocks(rt: HostRuntime) {
+    let alloc = rt.alloc();
+    refused(
+        &rt,
+        alloc,
+        &["spared", "4", "make", "512", "16", "64", "100", "393"],
+    );
+    refused(&rt, alloc, &["spared", "4", "make", "512", "16", "64", "0"]);
+    let words = ["spared", "4", "make", "512", "16", "64", "100", "392"];
+    let image = made_by(&rt, alloc, &words);
+    let value = Value { first: 1, len: 600 };
+    let asks = [
+        (2u32, Ask::Store(0x61, value)),
+        (1u32, Ask::Retrieve(0x61)),
+        (2u32, Ask::Retrieve(0x61)),
+    ];
+    let input = script_over(alloc, &asks).expect(&rt, "memory");
+    let answers = [Answer::Done, Answer::Missing, Answer::Found(value)];
+    let wanted = records(alloc, &answers).expect(&rt, "memory");
+    let ran = serve(&rt, alloc, &image, &input);
+    assert!(rt; ran.status == Status::DONE && ran.left == 4);
+    assert!(rt; ran.flash.posted() == wanted.as_slice());
 }
