@@ -2,7 +2,7 @@
 use Rattle.std.proofs.Common.{◌≡◌, inl, inr, ℕ, ◌/◌, [], List, refl, sym, ◌∙◌, ap, subst, true, false, Some, Result, Ok, Err}
 use Rattle.std.specs.Prelude.{slice_get, IfOk, IfErr, ◌++◌}
 use Rattle.std.specs.List.{concat}
-use Rattle.pk_base.specs.Shape.{Shape}
+use Rattle.pk_base.specs.Shape.{Shape, IsShape}
 use Rattle.pk_base.specs.Page.{Flash, IsFlash}
 use Rattle.pk_base.specs.Entry.{Entry, Place}
 use Rattle.pk_base.specs.Key.{Key}
