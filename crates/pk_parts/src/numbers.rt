@@ -63,8 +63,9 @@ impl<A: Region> Parts<A> {
         ensures drive { counts_of result ≡ spec.counts_of self.now }
         ensures here { in_space_of result ≡ in_space_at (spec.spaces_of self.now) space }
     {
+        let live = self.spaces.live(space);
         Counts {
-            live: self.spaces.live(space),
+            live,
             limit: self.limit(space),
             keys: self.spaces.keys(space),
             pinned: self.levels.pinned() as u32,
