@@ -16,6 +16,7 @@ use pk_region::Region;
 pub(crate) fn lacks_frames<A: Region>(parts: &Parts<A>) -> bool
     ensures { result ≡ lacks_frames parts.now }
 {
+    parts.levels.known();
     let last = parts.levels.last_level(parts.arena.frames());
     for level in 1..last + 1 {
         if !parts.levels.run(level).is_pinned() {
