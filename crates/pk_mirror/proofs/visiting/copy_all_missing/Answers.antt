@@ -25,7 +25,7 @@ copy_missing-requires-clause-room g c = subst (λ (s : Shape). greatest s ≤ le
 pub loop-i-preserved : goal.loop-i-preserved
 loop-i-preserved g c = visiting_goes IsPart HaveSame to_store STORE g.P.Port.state g.P.Port.took g.Q.Port.state g.Q.Port.took g.met.P.Port.took_both g.met.Q.Port.took_both
     _ _ _ _ _ _ _ _ _ c.loop-i.invariant c.copy_missing.ensures.took_first c.in-Ok.ensures.stored c.copy_missing.ensures.keeps c.in-Ok.ensures.visits
-    (take_more c.args.page.now c.loop-i.i [] (omega (arith, c.loop-i-test.true, c.len-i-end.ensures.count)) ∙ ap (λ (k : Key). take c.loop-i.i c.args.page.now ++ k ∷ []) (sym c.at.ensures))
+    (take_more c.args.page.now c.loop-i.i [] (omega (arith, c.loop-i-test.true, c.len-i-end.ensures.count)) ∙ ap (λ (k : Key). take c.loop-i.i c.args.page.now ++ k ∷ []) (sym c.at.ensures.value))
 
 pub returns-in-Err-clause-keeps : goal.returns-in-Err-clause-keeps
 returns-in-Err-clause-keeps g c = c.copy_missing.ensures.keeps ∙ c.loop-i.invariant.same

@@ -29,7 +29,7 @@ drop_other-requires-clause-room_two g c = subst (λ (s : Shape). greatest s ≤ 
 pub loop-i-preserved : goal.loop-i-preserved
 loop-i-preserved g c = visiting_goes AreAny NoOther to_delete DELETE g.P.Port.state g.P.Port.took g.Q.Port.state g.Q.Port.took g.met.P.Port.took_both g.met.Q.Port.took_both
     _ _ _ _ _ _ _ _ _ c.loop-i.invariant c.drop_other.ensures.took_first c.in-Ok.ensures.deleted c.drop_other.ensures.keeps c.in-Ok.ensures.visits
-    (take_more c.args.page.now c.loop-i.i [] (omega (arith, c.loop-i-test.true, c.len-i-end.ensures.count)) ∙ ap (λ (k : Key). take c.loop-i.i c.args.page.now ++ k ∷ []) (sym c.at.ensures))
+    (take_more c.args.page.now c.loop-i.i [] (omega (arith, c.loop-i-test.true, c.len-i-end.ensures.count)) ∙ ap (λ (k : Key). take c.loop-i.i c.args.page.now ++ k ∷ []) (sym c.at.ensures.value))
 
 pub returns-in-Err-clause-keeps : goal.returns-in-Err-clause-keeps
 returns-in-Err-clause-keeps g c = c.drop_other.ensures.keeps ∙ c.loop-i.invariant.same
