@@ -14,9 +14,10 @@ use std::process::Abort;
 use std::test::*;
 
 // The marks of the worked session: it erases four blocks and programs two pages of a root, two of a value and two of the journal; then it
-// posts each of its two records.
+// posts its first record, its second one, and the data of that.
 const FLASH_MARKS: usize = 10;
-const MARKS: usize = 12;
+
+const MARKS: usize = 13;
 
 fn serve_logged(
     rt: &impl Abort,
@@ -40,12 +41,12 @@ fn status_with(log: usize) -> Status {
     }
 }
 
-// The session ended so with room for this many marks: the record of its Store, of 24 bytes, was posted if there is room for one post, and
-// both were if there is room for two.
+// The session ended so with room for this many marks, and posted as much as there is room for.
 fn ended(rt: &impl Abort, ran: &Ran, log: usize) {
     let posted = match log.saturating_sub(FLASH_MARKS) {
         0 => 0,
         1 => 24,
+        2 => 48,
         _ => RECORDS.len(),
     };
     assert!(rt; ran.status == status_with(log));
