@@ -1,6 +1,6 @@
 //! A session over a smaller drive with spare blocks, in which each call of the inner flash after the opening fails, in each way, alone
-//! and together with each later one. Which calls there are is a list that was worked out by hand, that of a session without a fault; the
-//! counts of the flash have to agree with it.
+//! and together with each later one. Which calls there are is a list, by the rules of a session and of a move; the counts of the flash
+//! have to agree with it.
 
 use crate::spared::{
     Failing, Image, MAKE_SMALL, Ran, left, made_by, one, serve, serve_failing, way,
