@@ -1,5 +1,5 @@
 -- A step of a reclaim, stated for the drive.
-use Rattle.std.proofs.Common.{◌≡◌, inl, inr, ℕ, ◌/◌, [], List, length, refl, sym, ◌∙◌, ap, subst, true, false, Some, Result, Ok, Err}
+use Rattle.std.proofs.Common.{◌≡◌, inl, inr, ℕ, ◌/◌, [], List, refl, sym, ◌∙◌, ap, subst, true, false, Some, Result, Ok, Err}
 use Rattle.std.specs.Prelude.{slice_get, IfOk, IfErr, ◌++◌}
 use Rattle.std.specs.List.{concat}
 use Rattle.pk_base.specs.Shape.{Shape}

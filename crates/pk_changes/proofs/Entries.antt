@@ -1,5 +1,5 @@
 -- Entries that wait for a commit: what the drive represents after them.
-use Rattle.std.proofs.Common.{◌≡◌, inl, inr, ℕ, ◌+◌, ◌-◌, ◌/◌, ◌<◌, ◌≤◌, refl, sym, ap, subst, ◌∙◌, arith, true, cond, T, List, [], ◌∷◌, ◌++◌, length, Option, Some, None, Ok, is_some}
+use Rattle.std.proofs.Common.{◌≡◌, inl, inr, ℕ, ◌+◌, ◌-◌, ◌/◌, ◌^◌, ◌<◌, ◌≤◌, refl, sym, ap, subst, ◌∙◌, arith, true, cond, T, List, [], ◌∷◌, ◌++◌, length, Option, Some, None, Ok}
 use Rattle.std.specs.Prelude.{MatchOption, slice_set}
 use Rattle.std.specs.Ordering as order
 use Rattle.std.specs.Cmp.{tied_itself}
@@ -20,7 +20,7 @@ use Rattle.pk_model.specs.Laws.{AnyByRecursion, IsPageOf, IsStorable}
 use Rattle.std.specs.List.{AllByRecursion}
 use Rattle.pk_base.proofs.EntryLemmas.{key_is_key}
 use Rattle.pk_model.proofs.MapLemmas.{key_total}
-use Rattle.pk_model.proofs.ValueSets.{values_sound, fits_parts}
+use Rattle.pk_model.proofs.ValueSets.{values_sound}
 use Rattle.pk_model.proofs.Stores.{placed-put, reads-put, entries_in_order-push}
 use Rattle.pk_model.proofs.Merges.{placed_sorted}
 use Rattle.pk_model.proofs.Live.{live-pages}
@@ -47,7 +47,9 @@ use Rattle.pk_parts.specs.Moves.{StandsFor}
 use Rattle.pk_changes.specs.Noting.{Puts, Drops, pages_at}
 use Rattle.pk_changes.proofs.Using.{can_leave, use_few, use_of_put, use_of_gone}
 use Rattle.pk_scan.specs.Used.{IsUseOf}
-use Rattle.pk_space.specs.Uses.{Use, IsSpace, CanLeave, space_live, space_keys, used_after}
+use Rattle.pk_space.specs.Uses.{Use, IsSpace, CanLeave, space_live, space_keys, value_count, used_after}
+use Rattle.pk_scan.proofs.Using.{value_count_most}
+use Rattle.pk_base.proofs.ShapeLemmas.{charge_most}
 use Rattle.pk_schedule.proofs.Keeping.{index_pushed}
 use Rattle.pk_parts.proofs.Halves.{whole_like}
 use Rattle.pk_parts.proofs.Reclaiming.{reclaim_stored, reclaim_gone, zero_fewer, replaced_fewer}
@@ -142,6 +144,19 @@ module _ (d : Parts) (flash : Flash) (m : Map) (key : Key) (value : List ℕ) (p
   pub puts_leave : IsSpace (space_of key) → CanLeave d.spaces (space_of key) (pages_at d.log.shape old)
   puts_leave own = can_leave d.log.shape (shape_is d d.log.shape flash p.top p.found p.without m p.with) d.spaces es key own
       (rising d d.log.shape flash p.top p.found p.without m p.with) old p.old_is p.with.uses
+
+  -- what is used then fits its numbers
+  pub puts_fit : IsSpace (space_of key) → (space_live d.spaces (space_of key) - pages_at d.log.shape old + charge d.log.shape (length value) < 2 ^ 32)
+      × (space_keys d.spaces (space_of key) - value_count (pages_at d.log.shape old) + value_count (charge d.log.shape (length value)) < 2 ^ 32)
+  puts_fit own =
+      let is = shape_is d d.log.shape flash p.top p.found p.without m p.with in
+      let small = spaces_small d d.log.shape flash p.top p.found p.without m p.with (space_of key) own in
+      let live = small.0 in
+      let keys = small.1 in
+      let most = charge_most d.log.shape (length value) is p.place.short in
+      let block = is.block_most in
+      let one = value_count_most (charge d.log.shape (length value)) in
+      (omega (arith, live, most, block), omega (arith, keys, one))
 
   places_are : places p.found (d.log.pending ++ e ∷ []) ≡ put key_cmp key place es
   places_are = ap (λ xs. placed (firsts xs)) (entries_in_order-push p.found d.log.pending e)
@@ -291,6 +306,15 @@ module _ (d : Parts) (flash : Flash) (m : Map) (key : Key) (old : Place) (p : Dr
   drops_leave own = can_leave d.log.shape (shape_is d d.log.shape flash p.top p.found p.without m p.with) d.spaces values_before key own
       (rising d d.log.shape flash p.top p.found p.without m p.with) (Some old) p.old_is p.with.uses
 
+  -- what is used then fits its numbers
+  pub drops_fit : IsSpace (space_of key) → (space_live d.spaces (space_of key) - charge d.log.shape old.len + 0 < 2 ^ 32)
+      × (space_keys d.spaces (space_of key) - value_count (charge d.log.shape old.len) + value_count 0 < 2 ^ 32)
+  drops_fit own =
+      let small = spaces_small d d.log.shape flash p.top p.found p.without m p.with (space_of key) own in
+      let live = small.0 in
+      let keys = small.1 in
+      (omega (arith, live), omega (arith, keys))
+
   -- what each namespace uses then
   abbrev used_then : Use
   used_then = used_after d.spaces (space_of key) (charge d.log.shape old.len) 0
@@ -342,11 +366,13 @@ gone_stands_at d flash m key old p log values n noted n_is space_is removed =
     subst (λ (l : LogState). StandsFor (record d { log = l; values = values; spaces = used_after d.spaces (space_of key) (charge d.log.shape old.len) 0 }) d.log.shape flash (remove m key)) (sym noted.pushed_is) there
 
 pub gone_stands : (d : Parts) (shape : Shape) (flash : Flash) (m : Map) (key : Key) (old : Place) → Drops d shape flash m key old
-    → (log : LogState) (values : ValuesState) (n : Span) → Noted d (key, None) log → n ≡ span_of d.log.shape old
+    → (log : LogState) (values : ValuesState) (spaces : Use) (n : Span) → Noted d (key, None) log → n ≡ span_of d.log.shape old
     → values ≡ with_head d.values n.page 0
     → ((h : ValueHeld d.values n) → ValuesOnFlash h.shape values h.pool h.outputs h.flash (without h.key h.es))
-    → StandsFor (record d { log = log; values = values; spaces = used_after d.spaces (space_of key) (charge d.log.shape old.len) 0 }) shape flash (remove m key)
-gone_stands d shape flash m key old p log values n noted n_is space_is removed =
+    → spaces ≡ used_after d.spaces (space_of key) (charge d.log.shape old.len) 0
+    → StandsFor (record d { log = log; values = values; spaces = spaces }) shape flash (remove m key)
+gone_stands d shape flash m key old p log values spaces n noted n_is space_is removed used_is =
     let is : d.log.shape ≡ shape = p.with.shape_is in
-    subst (λ (s : Shape). StandsFor (record d { log = log; values = values; spaces = used_after d.spaces (space_of key) (charge d.log.shape old.len) 0 }) s flash (remove m key)) is
-    (gone_stands_at d flash m key old (subst (λ (s : Shape). Drops d s flash m key old) (sym is) p) log values n noted n_is space_is removed)
+    let own = gone_stands_at d flash m key old (subst (λ (s : Shape). Drops d s flash m key old) (sym is) p) log values n noted n_is space_is removed in
+    subst (λ (s : Shape). StandsFor (record d { log = log; values = values; spaces = spaces }) s flash (remove m key)) is
+    (subst (λ (u : Use). StandsFor (record d { log = log; values = values; spaces = u }) d.log.shape flash (remove m key)) (sym used_is) own)

@@ -1,5 +1,5 @@
 -- A commit of the pending entries keeps the map.
-use Rattle.std.proofs.Common.{◌≡◌, ◌≢◌, ◌⊎◌, inl, inr, ℕ, ◌+◌, ◌-◌, ◌/◌, ◌<◌, ◌≤◌, if◌then◌else◌, arith, Bool, true, false, List, [], ◌++◌, length, reverse, Some, Result, Ok, Err, refl, sym, ap}
+use Rattle.std.proofs.Common.{◌≡◌, ◌≢◌, ◌⊎◌, inl, inr, ℕ, ◌+◌, ◌-◌, ◌/◌, ◌<◌, ◌≤◌, if◌then◌else◌, arith, Bool, true, false, List, [], ◌++◌, reverse, Some, Result, Ok, Err, refl, sym, ap}
 use Rattle.std.proofs.Common.{subst, ◌∙◌, append-nil}
 use Rattle.std.specs.Prelude.{slice_get, IsOk, IfErr, OnOk, OnErr}
 use Rattle.std.specs.List.{flat_map}
@@ -267,6 +267,15 @@ no_more_left log log' old new (inr all) =
     subst (λ (l : LogState). left_of l.epoch ≤ left_of log.epoch) (sym all.taken) (one_less log.epoch.takes_more (epoch_commits log.epoch.shape) log.epoch.used)
 
 -- ---- by what the call answered
+
+-- the shape is unchanged
+pub shape_kept : (r : Result Unit Fault) (log log' : LogState) (old new : BoardState)
+    → OnOk r (CommitsNone log old log' new ⊎ CommitsAll log old log' new) → OnErr r (log' ≡ log) → log'.shape ≡ log.shape
+shape_kept (Ok x) log log' old new made kept = elim made [
+  | inl none ↦ ap (λ (l : LogState). l.shape) none.kept
+  | inr all ↦ ap (λ (l : LogState). l.shape) all.taken
+]
+shape_kept (Err e) log log' old new made kept = ap (λ (l : LogState). l.shape) kept
 
 pub left_ok : (r : Result Unit Fault) (log log' : LogState) (old new : BoardState)
     → OnOk r (CommitsNone log old log' new ⊎ CommitsAll log old log' new) → OnOk r (left_of log'.epoch ≤ left_of log.epoch)

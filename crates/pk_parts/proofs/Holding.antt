@@ -61,7 +61,7 @@ pinned_counted shape k level (r ∷ rs) are within =
       | inl above ↦ omega (arith, above)
       | inr pins ↦
           let all : length r.leases ≡ length r.firsts = are.0.frames pins in
-          let one : cond (is_pinned r) 1 0 ≡ 1 = ap (λ (held : Bool). cond held 1 0) (le_true (length r.firsts) (length r.leases) (omega (arith, all))) in
+          let one : ◌≡◌ {A = ℕ} (cond (is_pinned r) 1 0) 1 = ap (λ (held : Bool). cond {A = ℕ} held 1 0) (le_true (length r.firsts) (length r.leases) (omega (arith, all))) in
           omega (arith, rest, step, one)
     ]
 

@@ -1,5 +1,5 @@
 -- What a drive keeps in memory, and what contracts see of it.
-use Rattle.std.specs.Prelude.{ℕ, ◌-◌, Bool, true, List, [], ◌∷◌, length, map, sum, count_by, Option, Some, None, ◌==◌, ◌&&◌, not, if◌then◌else◌, ◌||◌, false}
+use Rattle.std.specs.Prelude.{ℕ, ◌-◌, Bool, true, List, [], ◌∷◌, length, map, count_by, Option, Some, None, ◌==◌, ◌&&◌, not, if◌then◌else◌, ◌||◌, false}
 use Rattle.pk_base.specs.Shape.{Shape, charge, limit, data_blocks, most_pages}
 use Rattle.pk_plan.specs.declared.owner.Owner.TheVariants.{Values}
 use Rattle.pk_pin.specs.Frames.{Frames, leased_frames}

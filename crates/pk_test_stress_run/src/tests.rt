@@ -26,7 +26,11 @@ impl Opens for Pink {
             return Opened::Failed;
         };
         match Drive::open(alloc, flash, shape, 36) {
-            Ok(drive) => Opened::Keys(drive.counts(1).keys),
+            Ok(drive) => {
+                // so that the first namespace is known to be there
+                let _ = drive.spaces();
+                Opened::Keys(drive.counts(1).keys)
+            }
             Err(OpenError::NotFormatted) => Opened::NotFormatted,
             Err(OpenError::Damaged { page }) => Opened::Damaged(page),
             Err(_) => Opened::Failed,

@@ -1,5 +1,7 @@
-use Rattle.pk_changes.proofs.Entries.{gone_short, drops_held, gone_stands}
-use Rattle.std.proofs.Common.{ap}
+use Rattle.pk_changes.proofs.Entries.{gone_short, drops_held, drops_leave, drops_fit, gone_stands}
+use Rattle.std.proofs.Common.{◌∙◌, ap}
+use Rattle.pk_space.specs.Uses.{used_after}
+use Rattle.pk_values.specs.declared.span.Span.{Span}
 use Rattle.pk_parts.proofs.Staying.{note_stays}
 use Rattle.pk_changes.proofs.Programming.{pushed_more}
 use Rattle.pk_changes.proofs.noting.note_gone.Goals as goal
@@ -8,6 +10,27 @@ pub span_at-before-requires : goal.span_at-before-requires
 span_at-before-requires g c =
     let p = rw (← c.parts.view_is) at c.requires.drops in
     rw (c.shape-shape.ensures, ← c.parts.view_is) (gone_short _ p.0 p.1 c.args.key c.args.old p.2)
+
+pub change-requires-clause-space : goal.change-requires-clause-space
+change-requires-clause-space g c = rw c.space.ensures.value (c.space.ensures.key.space_some, c.space.ensures.key.space_most)
+
+pub change-requires-clause-there : goal.change-requires-clause-there
+change-requires-clause-there g c =
+    let p = rw (← c.parts.view_is) at c.requires.drops in
+    let held = ap (λ (s : Span). s.count) (rw (c.shape-shape.ensures, ← c.parts.view_is) at c.span_at-before.ensures) in
+    rw (c.space.ensures.value, held) (drops_leave _ p.0 p.1 c.args.key c.args.old p.2 (c.space.ensures.key.space_some, c.space.ensures.key.space_most))
+
+pub change-requires-clause-live_fits : goal.change-requires-clause-live_fits
+change-requires-clause-live_fits g c =
+    let p = rw (← c.parts.view_is) at c.requires.drops in
+    let held = ap (λ (s : Span). s.count) (rw (c.shape-shape.ensures, ← c.parts.view_is) at c.span_at-before.ensures) in
+    rw (c.space.ensures.value, held) (drops_fit _ p.0 p.1 c.args.key c.args.old p.2 (c.space.ensures.key.space_some, c.space.ensures.key.space_most)).0
+
+pub change-requires-clause-keys_fit : goal.change-requires-clause-keys_fit
+change-requires-clause-keys_fit g c =
+    let p = rw (← c.parts.view_is) at c.requires.drops in
+    let held = ap (λ (s : Span). s.count) (rw (c.shape-shape.ensures, ← c.parts.view_is) at c.span_at-before.ensures) in
+    rw (c.space.ensures.value, held) (drops_fit _ p.0 p.1 c.args.key c.args.old p.2 (c.space.ensures.key.space_some, c.space.ensures.key.space_most)).1
 
 pub remove-requires : goal.remove-requires
 remove-requires g c =
@@ -19,8 +42,9 @@ pub returns-clause-stands : goal.returns-clause-stands
 returns-clause-stands g c shape flash m drops =
     let p = rw (← c.parts.view_is) at drops in
     let before = rw (c.shape-shape.ensures, ← c.parts.view_is) at c.span_at-before.ensures in
-    gone_stands _ shape flash m c.args.key c.args.old p c.push.new.self c.remove.new.self c.span_at-before.result
-    (record { pushed_is = c.push.ensures.pushed; stands = c.push.ensures.stands; fits_in = c.push.ensures.fits }) before c.remove.ensures.removed c.remove.ensures.placed
+    let used = c.change.ensures ∙ (λ i. used_after c.parts.inside.spaces (c.space.ensures.value i) (before i).count 0) in
+    gone_stands _ shape flash m c.args.key c.args.old p c.push.new.self c.remove.new.self c.change.new.self c.span_at-before.result
+    (record { pushed_is = c.push.ensures.pushed; stands = c.push.ensures.stands; fits_in = c.push.ensures.fits }) before c.remove.ensures.removed c.remove.ensures.placed used
 
 pub returns-clause-moves : goal.returns-clause-moves
 returns-clause-moves g c =

@@ -1,8 +1,7 @@
-use Rattle.pk_changes.proofs.Entries.{old_short, spaces_small, puts_leave, put_moves, put_stands}
-use Rattle.std.proofs.Common.{◌≡◌, ℕ, ◌∙◌, ap, subst, sym, arith}
-use Rattle.pk_base.specs.Shape.{Shape}
-use Rattle.pk_base.specs.Key.{space_of}
-use Rattle.pk_space.specs.Uses.{CanLeave, IsSpace, used_after}
+use Rattle.pk_changes.proofs.Entries.{old_short, puts_leave, puts_fit, put_moves, put_stands}
+use Rattle.std.proofs.Common.{ℕ, ◌∙◌, ap, sym}
+use Rattle.pk_base.specs.Shape.{charge}
+use Rattle.pk_space.specs.Uses.{used_after}
 use Rattle.pk_changes.specs.Noting.{pages_at}
 use Rattle.pk_parts.proofs.Staying.{note_stays}
 use Rattle.pk_changes.proofs.Noted.{put_noted}
@@ -34,6 +33,20 @@ change-requires-clause-there g c =
     let p = rw (← c.parts.view_is) at c.requires.puts in
     let held = rw (c.shape-shape.ensures, ← c.parts.view_is) at c.pages_at.ensures in
     rw (c.space.ensures.value, held) (puts_leave _ p.0 p.1 c.args.key p.2 c.args.page c.args.old p.4 (c.space.ensures.key.space_some, c.space.ensures.key.space_most))
+
+pub change-requires-clause-live_fits : goal.change-requires-clause-live_fits
+change-requires-clause-live_fits g c =
+    let p = rw (← c.parts.view_is) at c.requires.puts in
+    let held = rw (c.shape-shape.ensures, ← c.parts.view_is) at c.pages_at.ensures in
+    let count = (rw (← c.parts.view_is) at c.requires.counted) ∙ ap (charge c.parts.inside.log.shape) (sym p.3) in
+    rw (c.space.ensures.value, held, count) (puts_fit _ p.0 p.1 c.args.key p.2 c.args.page c.args.old p.4 (c.space.ensures.key.space_some, c.space.ensures.key.space_most)).0
+
+pub change-requires-clause-keys_fit : goal.change-requires-clause-keys_fit
+change-requires-clause-keys_fit g c =
+    let p = rw (← c.parts.view_is) at c.requires.puts in
+    let held = rw (c.shape-shape.ensures, ← c.parts.view_is) at c.pages_at.ensures in
+    let count = (rw (← c.parts.view_is) at c.requires.counted) ∙ ap (charge c.parts.inside.log.shape) (sym p.3) in
+    rw (c.space.ensures.value, held, count) (puts_fit _ p.0 p.1 c.args.key p.2 c.args.page c.args.old p.4 (c.space.ensures.key.space_some, c.space.ensures.key.space_most)).1
 
 pub returns-clause-stands : goal.returns-clause-stands
 returns-clause-stands g c shape flash m value is_len puts =

@@ -1,4 +1,5 @@
-use Rattle.pk_parts.proofs.Committing.{commit_step, rest_ok, left_ok, some_programs, all_programs, nothing_done}
+use Rattle.std.proofs.Common.{◌≡◌, ap, arith, length, drop, ◌++◌, length-take, length-append, length-drop}
+use Rattle.pk_parts.proofs.Committing.{shape_kept, commit_step, rest_ok, left_ok, some_programs, all_programs, nothing_done}
 use Rattle.pk_parts.proofs.Sights.{seen_ok}
 use Rattle.pk_parts.proofs.Staying.{commit_stays_ok}
 use Rattle.pk_parts.proofs.parts.Parts.commit_once.Goals as goal
@@ -52,3 +53,17 @@ returns-clause-seen g c =
 pub returns-clause-moves : goal.returns-clause-moves
 returns-clause-moves g c =
     rw (← c.self.view_is) (commit_stays_ok c.commit.result _ c.commit.new.self (g.B.Nand.state c.args.board.now) (g.B.Nand.state c.commit.new.board) c.commit.ensures.ok)
+
+pub invariant_of-self : goal.invariant_of-self
+invariant_of-self g c =
+    let same = shape_kept c.commit.result c.self.inside.log c.commit.new.self (g.B.Nand.state c.args.board.now) (g.B.Nand.state c.commit.new.board) c.commit.ensures.ok c.commit.ensures.kept in
+    let bytes = c.self.inside.page.items in
+    let now = c.commit.new.buf in
+    let size = c.commit.ensures.buffer in
+    let room : length c.deref_mut.result.now ≡ c.self.inside.page.len = c.deref_mut.ensures.len in
+    let items : length c.deref_mut.result.now ≡ length bytes = ap length c.deref_mut.ensures.value in
+    let page = c.self.invariant.0 in
+    let front = length-take c.self.inside.page.len (now ++ drop (length now) bytes) in
+    let whole = length-append now (drop (length now) bytes) in
+    let rest = length-drop (length now) bytes in
+    rw same (omega (arith, size, room, items, page, front, whole, rest), c.self.invariant.1)

@@ -10,7 +10,7 @@ returns-clause-here g c =
     let some : 1 ≤ c.args.space = c.requires.0 in
     let most : c.args.space ≤ 1 = c.requires.1 in
     let only : c.args.space ≡ 1 = omega (arith, some, most) in
-    let live : c.live-live.result ≡ space_live d.spaces c.args.space = c.live-live.ensures ∙ ap (λ (p : Parts). space_live p.spaces c.args.space) c.self.view_is in
-    let limit_is : c.limit.result ≡ limit_of (terms_of d).limits c.args.space = c.limit.ensures in
-    let keys : c.keys.result ≡ space_keys d.spaces c.args.space = c.keys.ensures ∙ ap (λ (p : Parts). space_keys p.spaces c.args.space) c.self.view_is in
+    let live : c.live-live.result ≡ space_live d.spaces 1 = c.live-live.ensures ∙ ap (λ (p : Parts). space_live p.spaces c.args.space) c.self.view_is ∙ ap (space_live d.spaces) only in
+    let limit_is : c.limit.result ≡ limit_of (terms_of d).limits 1 = c.limit.ensures ∙ ap (limit_of (terms_of d).limits) only in
+    let keys : c.keys.result ≡ space_keys d.spaces 1 = c.keys.ensures ∙ ap (λ (p : Parts). space_keys p.spaces c.args.space) c.self.view_is ∙ ap (space_keys d.spaces) only in
     rw only (λ i. record { live = live i; limit = limit_is i; keys = keys i })

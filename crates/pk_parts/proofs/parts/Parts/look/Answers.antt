@@ -1,6 +1,6 @@
-use Rattle.std.proofs.Common.{◌+◌, ◌≤◌, sym, subst}
+use Rattle.std.proofs.Common.{sym, subst}
 use Rattle.std.specs.Prelude.{IfOk, OnOk, OnErr}
-use Rattle.pk_level.specs.Levels.{reads_through}
+use Rattle.pk_level.specs.Levels.{IsLevels, reads_through}
 use Rattle.pk_parts.specs.Parts.{Parts, most_looks}
 use Rattle.pk_parts.specs.Quiet.{Looks, ReadsOnly, ReadsFailing}
 use Rattle.pk_parts.proofs.Searching.{looks_found, named_ok, named_err}
@@ -29,17 +29,19 @@ returns-clause-looks g c =
 
 pub returns-clause-reads : goal.returns-clause-reads
 returns-clause-reads g c =
-    let few = subst (λ (d : Parts). reads_through d.levels.runs ≤ most_looks d) c.self.view_is (looks_counted _ c.known.ensures.levels) in
+    let levels = subst (λ (d : Parts). IsLevels d.levels) c.self.view_is c.known.ensures.levels in
+    let few = looks_counted c.args.self.now levels in
     subst (λ r. OnOk r (ReadsOnly (g.B.Nand.state c.args.board.now) (g.B.Nand.state c.find_entry.new.board) (most_looks c.args.self.now))) (sym c.place_found.ensures)
     (named_ok _ c.find_entry.result
     (looked_reads c.find_entry.result _ _ (reads_through c.args.self.now.levels.runs) (most_looks c.args.self.now) c.requires.count few (rw (← c.self.view_is) c.find_entry.ensures.reads)))
 
 pub returns-clause-failing : goal.returns-clause-failing
 returns-clause-failing g c =
-    let few = subst (λ (d : Parts). reads_through d.levels.runs ≤ most_looks d) c.self.view_is (looks_counted _ c.known.ensures.levels) in
+    let levels = subst (λ (d : Parts). IsLevels d.levels) c.self.view_is c.known.ensures.levels in
+    let few = looks_counted c.args.self.now levels in
     subst (λ r. OnErr r (ReadsFailing (g.B.Nand.state c.args.board.now) (g.B.Nand.state c.find_entry.new.board) (most_looks c.args.self.now))) (sym c.place_found.ensures)
     (named_err _ c.find_entry.result
     (looked_failing c.find_entry.result _ _ (reads_through c.args.self.now.levels.runs) (most_looks c.args.self.now) c.requires.count few (rw (← c.self.view_is) c.find_entry.ensures.err)))
 
 pub returns-clause-few : goal.returns-clause-few
-returns-clause-few g c = subst (λ (d : Parts). most_looks d + d.levels.pinned ≤ 4) c.self.view_is (looks_few _ c.known.ensures.levels)
+returns-clause-few g c = looks_few c.args.self.now (subst (λ (d : Parts). IsLevels d.levels) c.self.view_is c.known.ensures.levels)
