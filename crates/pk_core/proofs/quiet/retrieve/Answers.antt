@@ -1,4 +1,4 @@
-use Rattle.std.proofs.Common.{◌≤◌, ◌∙◌, length, ap, arith, subst, ◌-◌}
+use Rattle.std.proofs.Common.{refl, ◌≤◌, ◌∙◌, length, ap, arith, subst, ◌-◌}
 use Rattle.pk_nand.specs.Calls.{last_count}
 use Rattle.pk_parts.specs.Parts.{most_looks}
 use Rattle.pk_parts.specs.Quiet.{Looks}
@@ -9,7 +9,14 @@ use Rattle.pk_core.proofs.Executing.{executes_quiet, same_but_walk}
 use Rattle.pk_core.proofs.LookedUp.{executes_unread}
 use Rattle.pk_core.proofs.Sights.{only_reads, only_failing}
 use Rattle.pk_core.proofs.Callings.{few_looked, few_failed, looks_less}
+use Rattle.pk_nvme.specs.Opcode.{op_of}
+use Rattle.pk_nvme.specs.declared.opcode.Opcode.TheVariants.{Retrieve}
+use Rattle.pk_core.proofs.Early.{served_space}
 use Rattle.pk_core.proofs.quiet.retrieve.Goals as goal
+
+pub key-key-requires-clause-space : goal.key-key-requires-clause-space
+key-key-requires-clause-space g c =
+    served_space c.args.parts.now (g.B.Nand.state c.args.board.now) c.args.request.now Retrieve (λ n k. refl) (ap op_of c.requires.opcode) c.requires.servable
 
 pub hand_over-requires-clause-value : goal.hand_over-requires-clause-value
 hand_over-requires-clause-value g c =
