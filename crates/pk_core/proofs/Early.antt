@@ -1,16 +1,11 @@
 -- A command that is refused by the checks that read it alone.
-use Rattle.std.proofs.Common.{◌≡◌, ◌≤◌, inl, ℕ, length, le_trans, refl, sym, ap, subst, ◌∙◌, arith, false, List, [], Some}
-use Rattle.pk_base.specs.declared.sizes.TheConstants.{MOST_SPACES}
+use Rattle.std.proofs.Common.{◌≡◌, ◌≤◌, inl, ℕ, length, refl, sym, ap, subst, ◌∙◌, arith, false, List, Some}
 use Rattle.pk_nvme.specs.Command.{Command}
-use Rattle.pk_nvme.specs.Opcode.{op_of}
 use Rattle.pk_nvme.specs.Reply.{refusal}
-use Rattle.pk_nvme.specs.Seen.{command_of}
-use Rattle.pk_nvme.specs.declared.opcode.Opcode.{Opcode}
-use Rattle.pk_nvme.specs.declared.request.Request.{Request}
 use Rattle.pk_nand.specs.BoardState.{BoardState, shape_of as shape_told, shape_or_none}
 use Rattle.pk_nand.specs.Calls.{last_count}
 use Rattle.pk_model.specs.Answer.{early}
-use Rattle.pk_model.proofs.Answering.{NamesSpace, key_spaced, refuses_early}
+use Rattle.pk_model.proofs.Answering.{refuses_early}
 use Rattle.pk_call.specs.Seen.{reply_of}
 use Rattle.pk_call.specs.declared.types.Outcome.{Outcome}
 use Rattle.pk_parts.specs.Parts.{Parts, drive_limits, sight_of}
@@ -18,7 +13,6 @@ use Rattle.pk_parts.specs.Agreeing.{DriveOnFlash}
 use Rattle.pk_parts.proofs.Unchanging.{reads_none}
 use Rattle.pk_core.specs.Done.{Does}
 use Rattle.pk_core.specs.Quiet.{eleven}
-use Rattle.pk_core.specs.Serving.{IsServable}
 use Rattle.pk_core.proofs.Standing.{stands_for, own_limits}
 use Rattle.pk_core.proofs.Statuses.{early_sound}
 use Rattle.pk_core.proofs.Unchanging.{AnswersAll, does_reads}
@@ -41,10 +35,3 @@ module _ (d : Parts) (board : BoardState) (c : Command) (status : ℕ) (agrees :
   refused_done o into few told =
       subst (λ (x : Outcome). Does board board (sight_of d) (sight_of d) c (reply_of x into) x.reads x.stopped) (sym told)
       (does_reads board board (sight_of d) c (refusal status) 0 0 few few (reads_none board few) (omega arith) (early_sound (length (drive_limits d)) d.log.shape c status refused) refused_all)
-
--- a command that is served, if it names a namespace, names one of those that a drive may have
-pub served_space : (d : Parts) (board : BoardState) (r : Request) (k : Opcode) → NamesSpace k → op_of r.opcode ≡ Some k → IsServable d board r
-    → (1 ≤ r.namespace) × (r.namespace ≤ MOST_SPACES)
-served_space d board r k names is s =
-    let spaced = key_spaced (length (drive_limits d)) d.log.shape (command_of r []) k names is s.passed in
-    (spaced.some, le_trans spaced.most s.few_spaces)

@@ -336,8 +336,8 @@ fn check_one(rt: &impl Abort, alloc: Global, full: &Full, every: u32) -> Cuts {
 #[test]
 fn first_on_full(rt: HostRuntime) {
     let cuts = check_one(&rt, rt.alloc(), &WORKED, 3);
-    at_least(&rt, cuts.first, 30, "cuts");
-    at_least(&rt, cuts.second, 500, "cuts after them");
+    at_least(&rt, cuts.first, 70, "cuts");
+    at_least(&rt, cuts.second, 4_000, "cuts after them");
 }
 
 /// The same, and of the cuts of the session after each one, of every mark in some ways, one in

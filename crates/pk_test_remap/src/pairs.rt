@@ -1,6 +1,6 @@
 //! A session over a smaller drive with spare blocks, in which each call of the inner flash after the opening fails, in each way, alone
-//! and together with each later one. Which calls there are is a list that was worked out by hand, that of a session without a fault; the
-//! counts of the flash have to agree with it.
+//! and together with each later one. Which calls there are is a list, by the rules of a session and of a move; the counts of the flash
+//! have to agree with it.
 
 use crate::spared::{
     Failing, Image, MAKE_SMALL, Ran, left, made_by, one, serve, serve_failing, way,
@@ -69,7 +69,7 @@ const ASKS: [Ask; 3] = [
 ];
 
 // Its calls after the opening.
-const CALLS: [Call; 24] = [
+const CALLS: [Call; 27] = [
     // the first Store: its entry and its value, the blocks of an epoch, the other root block and its root, a block for values, the value
     Call::Fetch,
     Call::Fetch,
@@ -89,19 +89,27 @@ const CALLS: [Call; 24] = [
     Call::Program(2),
     Call::Partner,
     Call::Program(3),
-    // the Retrieve, and the end of the input
+    // the Retrieve: its entry, the commit that precedes it, the records of both Stores, the value, the record and its data
     Call::Fetch,
-    Call::Read,
-    Call::Fetch,
-    // the commit, and the three records
     Call::Program(0),
     Call::Partner,
     Call::Program(1),
     Call::Post,
+    Call::Post,
+    Call::Read,
+    Call::Post,
+    Call::Post,
+    // the end of the input
+    Call::Fetch,
 ];
 
-// From this call on a value is written and its entry waits for a commit, which a session makes also if the input fails.
-const PENDING: usize = 12;
+// The places in the list: from the first one on the entry of the first Store waits for the commit, from the second one on that of the second
+// Store, too, until the commit.
+const ONE_WAITS: usize = 12;
+
+const BOTH_WAIT: usize = 17;
+
+const COMMIT: usize = 18;
 
 // Adds the calls that move a block to a spare block: the spare block is erased, the pages before the one that failed are copied, of which
 // the first page of its pair is in memory already, and the page is programmed; the block for the next table is erased, and the table
@@ -120,25 +128,36 @@ fn push_moved(into: &mut Vec<Call>, failed: Call) -> Result<(), AllocError> {
     into.extend_from_slice(&[Call::Erase, Call::Program(0), Call::Program(1)])
 }
 
-// Adds the calls of the list from this place on.
-fn push_rest(into: &mut Vec<Call>, from: usize) -> Result<(), AllocError> {
-    into.extend_from_slice(CALLS.get(from..).unwrap_or(&[]))
+// The calls of the list between these places.
+fn between(from: usize, to: usize) -> &'static [Call] {
+    CALLS.get(from..to).unwrap_or(&[])
 }
 
-// The calls after the one at this place, if it fails alone. After a failed program or erase the block is moved and the session goes on; it
-// goes on, too, if the value that a Retrieve asks for cannot be read. Without the first page of a pair its second page is not programmed, and
-// the drive stops. After a failed fetch the entries that wait are committed, and what was answered is posted.
-fn calls_after(alloc: Global, at: usize, failed: Call) -> Result<Vec<Call>, AllocError> {
-    let mut calls = Vec::new(alloc);
+// Adds the calls after the one at this place, if it fails alone. After a failed program or erase the block is moved and the session goes on;
+// it goes on, too, if the value that a Retrieve asks for cannot be read, whose record has no data then. If the first page of a pair cannot
+// be read, its second page is not programmed, and the drive stops. After a failed fetch the entries that wait are committed, and the
+// records of their Stores are posted.
+fn push_after(into: &mut Vec<Call>, at: usize, failed: Call) -> Result<(), AllocError> {
     match failed {
         Call::Program(_) | Call::Erase => {
-            push_moved(&mut calls, failed)?;
-            push_rest(&mut calls, at.saturating_add(1))?;
+            push_moved(into, failed)?;
+            into.extend_from_slice(between(at.saturating_add(1), CALLS.len()))
         }
-        Call::Read => push_rest(&mut calls, at.saturating_add(1))?,
-        Call::Fetch if at >= PENDING => push_rest(&mut calls, 20)?,
-        Call::Fetch | Call::Partner | Call::Post => {}
+        Call::Read => into.extend_from_slice(&[Call::Post, Call::Fetch]),
+        Call::Fetch if at >= ONE_WAITS && at < BOTH_WAIT => {
+            into.extend_from_slice(between(COMMIT, COMMIT + 4))
+        }
+        Call::Fetch if at >= BOTH_WAIT && at < COMMIT => {
+            into.extend_from_slice(between(COMMIT, COMMIT + 5))
+        }
+        Call::Fetch | Call::Partner | Call::Post => Ok(()),
     }
+}
+
+// These calls.
+fn calls_after(alloc: Global, at: usize, failed: Call) -> Result<Vec<Call>, AllocError> {
+    let mut calls = Vec::new(alloc);
+    push_after(&mut calls, at, failed)?;
     Ok(calls)
 }
 
@@ -228,9 +247,9 @@ fn made_these(rt: &impl Abort, ran: &Ran, calls: &[Call]) {
 
 // All calls of the session in which the one at this place fails alone.
 fn calls_with(alloc: Global, at: usize, failed: Call) -> Result<Vec<Call>, AllocError> {
-    let mut calls = CALLS.get(..at).unwrap_or(&[]).to_vec(alloc)?;
+    let mut calls = between(0, at).to_vec(alloc)?;
     calls.push(failed)?;
-    calls.extend_from_slice(calls_after(alloc, at, failed)?.as_slice())?;
+    push_after(&mut calls, at, failed)?;
     Ok(calls)
 }
 
@@ -312,7 +331,7 @@ fn check_with_later(rt: &impl Abort, alloc: Global, image: &Image, at: usize, fa
 
 // For each program and erase in the list the ways of its failure, times those of the calls that move its block and of the calls after it
 // in the list; for each fetch after the first Store and for the read of a value those of the calls after it.
-const PAIRS: u32 = 2953;
+const PAIRS: u32 = 3263;
 
 /// Each two calls fail, each in each way: a call after the opening, and a call after that one, those that move the first one's block
 /// among them.

@@ -150,11 +150,21 @@ pub fn root_page(
     page
 }
 
+// The root with 32 zero bytes before its list.
+fn with_room(root: &[u8; 512]) -> [u8; 512] {
+    let mut page = *root;
+    for i in 64..104 {
+        page[i + 32] = root[i];
+    }
+    for i in 64..96 {
+        page[i] = 0;
+    }
+    page
+}
+
 /// The root with these limits of namespaces, at most eight, in place of one without limits. It names at most 20 blocks.
 pub fn with_limits(root: &[u8; 512], limits: &[u32]) -> [u8; 512] {
-    let mut page = *root;
-    page[96..136].copy_from_slice(&root[64..104]);
-    page[64..96].copy_from_slice(&[0; 32]);
+    let mut page = with_room(root);
     put_u16(&mut page, 8, 3);
     put_u32(&mut page, 20, limits.len().min(8) as u32);
     for i in 0..limits.len().min(8) {
