@@ -1,6 +1,5 @@
 -- The second program of a pair that is half made, before a change of the map.
 use Rattle.std.proofs.Common.{◌≡◌, ◌⊎◌, inl, inr, ℕ, ◌+◌, ◌≤◌, ◌<◌, refl, sym, ap, subst, ◌∙◌, arith, Bool, true, false, nat_le, List, [], length, Option, Some, Result, Ok, Err}
-use Rattle.pk_model.specs.Spaces.{limits_at}
 use Rattle.std.specs.Prelude.{IsOk, OnOk}
 use Rattle.std.specs.FinMap.{insert, remove}
 use Rattle.std.specs.FinMap.Entries.{find}
