@@ -15,6 +15,7 @@ use Rattle.pk_nvme.specs.Opcode.{op_of}
 use Rattle.pk_nvme.specs.declared.opcode.Opcode.TheVariants.{Store}
 use Rattle.pk_model.proofs.Answering.{key_spaced}
 use Rattle.pk_nvme.specs.Seen.{command_of}
+use Rattle.pk_parts.proofs.Unchanging.{agrees_ready}
 use Rattle.pk_core.proofs.store.store.Goals as goal
 
 pub key-key-requires-clause-space : goal.key-key-requires-clause-space
@@ -22,6 +23,9 @@ key-key-requires-clause-space g c =
     let s = c.requires.servable in
     let spaced = key_spaced (length (drive_limits c.args.parts.now)) c.args.parts.now.log.shape (command_of c.args.request.now []) Store (λ n k. refl) (ap op_of c.requires.opcode) s.passed in
     (spaced.some, omega (arith, spaced.most, s.few_spaces))
+
+pub look-requires-clause-ready : goal.look-requires-clause-ready
+look-requires-clause-ready g c = agrees_ready c.args.parts.now (g.B.Nand.state c.args.board.now) c.requires.servable.agrees
 
 pub store_over-requires-clause-looked_up : goal.store_over-requires-clause-looked_up
 store_over-requires-clause-looked_up g c =
