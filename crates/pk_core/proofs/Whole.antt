@@ -1,6 +1,5 @@
 -- The second program of a pair that is half made, before a change of the map.
 use Rattle.std.proofs.Common.{◌≡◌, ◌⊎◌, inl, inr, ℕ, ◌+◌, ◌≤◌, ◌<◌, refl, sym, ap, subst, ◌∙◌, arith, Bool, true, false, nat_le, List, [], length, Option, Some, Result, Ok, Err}
-use Rattle.pk_model.specs.Spaces.{limits_at}
 use Rattle.std.specs.Prelude.{IsOk, OnOk}
 use Rattle.std.specs.FinMap.{insert, remove}
 use Rattle.std.specs.FinMap.Entries.{find}
@@ -14,6 +13,7 @@ use Rattle.pk_nand.specs.declared.types.Fault.TheVariants.{Reading, Stopped}
 use Rattle.pk_nand.specs.BoardState.{BoardState}
 use Rattle.pk_nand.specs.Calls.{IsReady}
 use Rattle.pk_nand.specs.Effects.{NoFault, OnlyFlash}
+use Rattle.pk_model.specs.Spaces.{limits_at}
 use Rattle.pk_model.specs.Found.{Found}
 use Rattle.pk_model.specs.Reading.{reading}
 use Rattle.pk_model.specs.Growth.{Reaches, Goes}
