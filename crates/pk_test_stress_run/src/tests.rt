@@ -20,17 +20,20 @@ impl Program for Pink {
     }
 }
 
+// How many keys the first namespace of a drive has.
+fn first_keys<D: Engine>(drive: &D) -> u32 {
+    // so that the first namespace is known to be there
+    let _ = drive.spaces();
+    drive.counts(1).keys
+}
+
 impl Opens for Pink {
     fn opened(alloc: Global, flash: &mut Flash) -> Opened {
         let Some(shape) = flash.shape() else {
             return Opened::Failed;
         };
         match Drive::open(alloc, flash, shape, 36) {
-            Ok(drive) => {
-                // so that the first namespace is known to be there
-                let _ = drive.spaces();
-                Opened::Keys(drive.counts(1).keys)
-            }
+            Ok(drive) => Opened::Keys(first_keys(&drive)),
             Err(OpenError::NotFormatted) => Opened::NotFormatted,
             Err(OpenError::Damaged { page }) => Opened::Damaged(page),
             Err(_) => Opened::Failed,
