@@ -12,3 +12,4 @@ mod Pairs
 mod Obeyed
 mod Judging
 mod SparedRuns
+mod Numbers
