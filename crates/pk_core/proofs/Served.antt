@@ -1,7 +1,7 @@
 -- The answers of commands that change the map.
 use Rattle.std.proofs.Common.{◌≡◌, ◌≢◌, inl, inr, ℕ, ◌+◌, ◌-◌, ◌/◌, ◌%◌, ◌<◌, ◌≤◌, refl, sym, ap, subst, ◌∙◌, arith, Bool, true, false, not, ◌&&◌, ◌||◌, ◌==◌, List, [], length, nat_le, is_some}
 use Rattle.std.proofs.Common.{◌∷◌}
-use Rattle.std.proofs.Common.{min, Option, Some, None, Result, Ok, Err, leb-true}
+use Rattle.std.proofs.Common.{min, take, Option, Some, None, Result, Ok, Err, leb-true}
 use Rattle.std.specs.Prelude.{MatchOption}
 use Rattle.std.specs.FinMap.{get, insert, remove, contains_key}
 use Rattle.pk_base.specs.Choices.{or_else}
@@ -48,6 +48,7 @@ use Rattle.pk_parts.specs.Quiet.{ReadsOnly, Looks}
 use Rattle.pk_changes.specs.Changes.{Changes, StaysBetween}
 use Rattle.pk_core.specs.Whole.{MayPutBetween, MayStoreBetween, MayTakeBetween, CanPutBetween, CanTakeBetween, StoresWhole, TakesWhole}
 use Rattle.pk_background.specs.Spacing.{SameMap}
+use Rattle.pk_parts.proofs.OwnLimits.{limits_on}
 use Rattle.pk_parts.proofs.Halves.{between}
 use Rattle.pk_core.specs.Serving.{IsServable, IsCounted, outcome_for}
 use Rattle.pk_changes.specs.Noting.{pages_at}

@@ -13,6 +13,7 @@ use Rattle.pk_nand.specs.declared.types.Fault.TheVariants.{Reading, Stopped}
 use Rattle.pk_nand.specs.BoardState.{BoardState}
 use Rattle.pk_nand.specs.Calls.{IsReady}
 use Rattle.pk_nand.specs.Effects.{NoFault, OnlyFlash}
+use Rattle.pk_model.specs.Spaces.{limits_at}
 use Rattle.pk_model.specs.Found.{Found}
 use Rattle.pk_model.specs.Reading.{reading}
 use Rattle.pk_model.specs.Growth.{Reaches, Goes}

@@ -1,4 +1,6 @@
 //! The calls of a host, with values that the definition is to give.
+ghost use Rattle.std.specs.Prelude.{IfOk};
+ghost use Rattle.pk_host.specs.Calls.{IsOwnKey};
 
 use crate::memory_port::MemoryPort;
 use pk_base::{Key, Shape};
@@ -12,7 +14,10 @@ fn port(alloc: Global) -> Result<MemoryPort, Fail> {
     Ok(MemoryPort::new(alloc, shape)?)
 }
 
-fn key(bytes: &[u8]) -> Result<Key, Fail> {
+// A key of the namespace that a host has.
+fn key(bytes: &[u8]) -> Result<Key, Fail>
+    ensures { IfOk result IsOwnKey }
+{
     Ok(Key::new(bytes).ok_or("a key")?)
 }
 
@@ -22,7 +27,9 @@ fn front(bytes: &[u8], len: usize) -> &[u8] {
 }
 
 // A JSON text of 1,000 bytes is stored, and fetched into a buffer.
-fn holds_text(host: &mut Host, port: &mut MemoryPort, user: &Key) -> bool {
+fn holds_text(host: &mut Host, port: &mut MemoryPort, user: &Key) -> bool
+    requires { IsOwnKey user.now }
+{
     let text = [b'j'; 1000];
     let mut into = [0u8; 4096];
     host.store(port, user, &text, StoreRule::Any) == Ok(())
@@ -31,12 +38,16 @@ fn holds_text(host: &mut Host, port: &mut MemoryPort, user: &Key) -> bool {
 }
 
 // A value of 5,000 bytes is stored.
-fn stores_large(host: &mut Host, port: &mut MemoryPort, blob: &Key) -> bool {
+fn stores_large(host: &mut Host, port: &mut MemoryPort, blob: &Key) -> bool
+    requires { IsOwnKey blob.now }
+{
     host.store(port, blob, &[7u8; 5000], StoreRule::IfAbsent) == Ok(())
 }
 
 // The value of 5,000 bytes is fetched whole.
-fn gives_large(alloc: Global, host: &mut Host, port: &mut MemoryPort, blob: &Key) -> bool {
+fn gives_large(alloc: Global, host: &mut Host, port: &mut MemoryPort, blob: &Key) -> bool
+    requires { IsOwnKey blob.now }
+{
     match host.retrieve_whole(alloc, port, blob) {
         Ok(Some(value)) => value.as_slice() == [7u8; 5000].as_slice(),
         _ => false,
@@ -52,7 +63,9 @@ fn lists(alloc: Global, host: &mut Host, port: &mut MemoryPort, keys: &[Key]) ->
 }
 
 // The calls of a service, each answered as it is to be.
-fn serves(alloc: Global, host: &mut Host, port: &mut MemoryPort, user: Key, blob: Key) -> bool {
+fn serves(alloc: Global, host: &mut Host, port: &mut MemoryPort, user: Key, blob: Key) -> bool
+    requires { IsOwnKey user × IsOwnKey blob }
+{
     holds_text(host, port, &user)
         && stores_large(host, port, &blob)
         && gives_large(alloc, host, port, &blob)
@@ -71,7 +84,9 @@ fn a_service(rt: HostRuntime) -> Result<(), Fail> {
 }
 
 // The calls for a key that is not there.
-fn refuses_absent(host: &mut Host, port: &mut MemoryPort, a: &Key) -> bool {
+fn refuses_absent(host: &mut Host, port: &mut MemoryPort, a: &Key) -> bool
+    requires { IsOwnKey a.now }
+{
     let refused = Err(HostError::Refused {
         status: KEY_DOES_NOT_EXIST,
     });
@@ -82,7 +97,9 @@ fn refuses_absent(host: &mut Host, port: &mut MemoryPort, a: &Key) -> bool {
 }
 
 // The Stores under a key that exists, and of a value that is too long.
-fn refuses_present(host: &mut Host, port: &mut MemoryPort, a: &Key) -> bool {
+fn refuses_present(host: &mut Host, port: &mut MemoryPort, a: &Key) -> bool
+    requires { IsOwnKey a.now }
+{
     let refused = Err(HostError::Refused { status: KEY_EXISTS });
     let too_long = Err(HostError::Refused {
         status: INVALID_VALUE_SIZE,
@@ -93,7 +110,9 @@ fn refuses_present(host: &mut Host, port: &mut MemoryPort, a: &Key) -> bool {
 }
 
 // The calls for the key that exists.
-fn gives_front(host: &mut Host, port: &mut MemoryPort, a: &Key) -> bool {
+fn gives_front(host: &mut Host, port: &mut MemoryPort, a: &Key) -> bool
+    requires { IsOwnKey a.now }
+{
     let mut into = [0u8; 2];
     host.retrieve(port, a, &mut into) == Ok(Some(5))
         && into == *b"he"

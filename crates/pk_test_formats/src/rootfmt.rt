@@ -1,7 +1,7 @@
 //! Root pages by their bytes.
 ghost use Rattle.std.specs.Prelude.{◌≡◌};
 
-use pk_base::Shape;
+use pk_base::{Shape, put_u16, put_u32};
 use pk_rootfmt::{BadRoot, Root, first};
 use std::alloc::Allocator;
 use std::test::*;
@@ -34,8 +34,10 @@ fn limits_page() -> [u8; 512] {
     let mut page = first_page();
     page[8] = 3;
     page[20] = 2;
-    page[64..70].copy_from_slice(&[100, 0, 0, 0, 136, 1]);
-    page[96..100].copy_from_slice(&[2, 0, 3, 0]);
+    put_u32(&mut page, 64, 100);
+    put_u32(&mut page, 68, 392);
+    put_u16(&mut page, 96, 2);
+    put_u16(&mut page, 98, 3);
     page
 }
 

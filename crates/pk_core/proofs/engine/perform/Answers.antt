@@ -1,4 +1,4 @@
-use Rattle.std.proofs.Common.{refl, sym, ap, subst, arith, ℕ, ◌≤◌, [], length}
+use Rattle.std.proofs.Common.{◌≡◌, refl, sym, ap, subst, arith, ℕ, ◌≤◌, [], length}
 use Rattle.pk_parts.specs.Parts.{drive_limits}
 use Rattle.pk_parts.proofs.OwnLimits.{reported_length}
 use Rattle.pk_nvme.specs.Seen.{command_of}
@@ -95,3 +95,10 @@ report-requires-clause-space g c =
     let d = c.args.parts.now in
     let spaced = key_spaced (length (drive_limits d)) d.log.shape (command_of c.args.request.now []) Report (λ n k. refl) (ap op_of c.in-194.is) c.requires.servable.passed in
     (spaced.some, subst (λ (n : ℕ). c.args.request.now.namespace ≤ n) (sym (reported_length d.spaces 1 (drive_limits d))) spaced.most)
+
+pub returns-in-194-clause-report : goal.returns-in-194-clause-report
+returns-in-194-clause-report g c = λ op. record {
+  fine = λ unread. let is : c.report.result.status ≡ 0x88 = unread in let done : c.report.result.status ≡ 0 = c.report.ensures.told.0 in omega (arith, is, done);
+  rests = refl;
+  bytes = c.report.ensures.bytes;
+}

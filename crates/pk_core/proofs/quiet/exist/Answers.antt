@@ -1,6 +1,6 @@
-use Rattle.std.proofs.Common.{ap, ◌≤◌, arith, subst, ◌-◌}
+use Rattle.std.proofs.Common.{ap, ◌≤◌, arith, subst, ◌-◌, length, refl, []}
 use Rattle.pk_nand.specs.Calls.{last_count}
-use Rattle.pk_parts.specs.Parts.{most_looks}
+use Rattle.pk_parts.specs.Parts.{most_looks, drive_limits}
 use Rattle.pk_parts.specs.Quiet.{Looks}
 use Rattle.pk_core.proofs.Unchanging.{exist_found, exist_none}
 use Rattle.pk_nvme.specs.Seen.{command_of}
@@ -9,7 +9,16 @@ use Rattle.pk_core.proofs.Executing.{executes_quiet, same_but_walk}
 use Rattle.pk_core.proofs.LookedUp.{executes_unread}
 use Rattle.pk_core.proofs.Sights.{only_reads, only_failing}
 use Rattle.pk_core.proofs.Callings.{few_looked, few_failed, looks_less}
+use Rattle.pk_nvme.specs.Opcode.{op_of}
+use Rattle.pk_nvme.specs.declared.opcode.Opcode.TheVariants.{Exist}
+use Rattle.pk_model.proofs.Answering.{key_spaced}
 use Rattle.pk_core.proofs.quiet.exist.Goals as goal
+
+pub key-key-requires-clause-space : goal.key-key-requires-clause-space
+key-key-requires-clause-space g c =
+    let s = c.requires.servable in
+    let spaced = key_spaced (length (drive_limits c.args.parts.now)) c.args.parts.now.log.shape (command_of c.args.request.now []) Exist (λ n k. refl) (ap op_of c.requires.opcode) s.passed in
+    (spaced.some, omega (arith, spaced.most, s.few_spaces))
 
 pub returns-in-Ok-Some-clause-executes : goal.returns-in-Ok-Some-clause-executes
 returns-in-Ok-Some-clause-executes g c = λ v into.

@@ -1,6 +1,6 @@
-use Rattle.std.proofs.Common.{◌≤◌, ◌∙◌, length, ap, arith, subst, ◌-◌}
+use Rattle.std.proofs.Common.{◌≤◌, ◌∙◌, length, ap, arith, subst, ◌-◌, refl, []}
 use Rattle.pk_nand.specs.Calls.{last_count}
-use Rattle.pk_parts.specs.Parts.{most_looks}
+use Rattle.pk_parts.specs.Parts.{most_looks, drive_limits}
 use Rattle.pk_parts.specs.Quiet.{Looks}
 use Rattle.pk_core.proofs.Unchanging.{retrieve_found, retrieve_none, unread_value, front_of, front_moved, room_of, value_reads, value_breaks, few_of}
 use Rattle.pk_nvme.specs.Seen.{command_of}
@@ -9,7 +9,16 @@ use Rattle.pk_core.proofs.Executing.{executes_quiet, same_but_walk}
 use Rattle.pk_core.proofs.LookedUp.{executes_unread}
 use Rattle.pk_core.proofs.Sights.{only_reads, only_failing}
 use Rattle.pk_core.proofs.Callings.{few_looked, few_failed, looks_less}
+use Rattle.pk_nvme.specs.Opcode.{op_of}
+use Rattle.pk_nvme.specs.declared.opcode.Opcode.TheVariants.{Retrieve}
+use Rattle.pk_model.proofs.Answering.{key_spaced}
 use Rattle.pk_core.proofs.quiet.retrieve.Goals as goal
+
+pub key-key-requires-clause-space : goal.key-key-requires-clause-space
+key-key-requires-clause-space g c =
+    let s = c.requires.servable in
+    let spaced = key_spaced (length (drive_limits c.args.parts.now)) c.args.parts.now.log.shape (command_of c.args.request.now []) Retrieve (λ n k. refl) (ap op_of c.requires.opcode) s.passed in
+    (spaced.some, omega (arith, spaced.most, s.few_spaces))
 
 pub hand_over-requires-clause-value : goal.hand_over-requires-clause-value
 hand_over-requires-clause-value g c =

@@ -1,4 +1,4 @@
-use Rattle.std.proofs.Common.{ap, arith, false}
+use Rattle.std.proofs.Common.{ap, arith, false, length, refl, []}
 use Rattle.pk_core.proofs.LookedUp.{looked_up, executes_behind, executes_unread}
 use Rattle.pk_core.proofs.Served.{delete_is_other}
 use Rattle.pk_core.proofs.Staying.{stays_from}
@@ -7,9 +7,19 @@ use Rattle.pk_core.proofs.Statuses.{told_refused}
 use Rattle.pk_core.proofs.Programming.{quiet_delete_behind}
 use Rattle.pk_core.proofs.Quieted.{reads_behind, whole_looked}
 use Rattle.pk_core.proofs.Callings.{spends_reads, spends_failed}
-use Rattle.pk_parts.specs.Parts.{Parts}
+use Rattle.pk_parts.specs.Parts.{Parts, drive_limits}
 use Rattle.pk_changes.proofs.StoreCalls.{spends_delete}
+use Rattle.pk_nvme.specs.Opcode.{op_of}
+use Rattle.pk_nvme.specs.declared.opcode.Opcode.TheVariants.{Delete}
+use Rattle.pk_model.proofs.Answering.{key_spaced}
+use Rattle.pk_nvme.specs.Seen.{command_of}
 use Rattle.pk_core.proofs.store.delete.Goals as goal
+
+pub key-key-requires-clause-space : goal.key-key-requires-clause-space
+key-key-requires-clause-space g c =
+    let s = c.requires.servable in
+    let spaced = key_spaced (length (drive_limits c.args.parts.now)) c.args.parts.now.log.shape (command_of c.args.request.now []) Delete (λ n k. refl) (ap op_of c.requires.opcode) s.passed in
+    (spaced.some, omega (arith, spaced.most, s.few_spaces))
 
 pub delete_at-requires-clause-looked_up : goal.delete_at-requires-clause-looked_up
 delete_at-requires-clause-looked_up g c =

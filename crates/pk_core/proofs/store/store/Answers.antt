@@ -1,4 +1,4 @@
-use Rattle.std.proofs.Common.{ap, arith, subst, false}
+use Rattle.std.proofs.Common.{ap, arith, subst, false, length, refl, []}
 use Rattle.pk_core.proofs.LookedUp.{looked_up, executes_behind, executes_unread}
 use Rattle.pk_core.proofs.Served.{store_is_other}
 use Rattle.pk_core.proofs.Staying.{opens_from}
@@ -9,9 +9,23 @@ use Rattle.pk_core.proofs.Programming.{quiet_store_behind}
 use Rattle.pk_core.proofs.Quieted.{reads_behind, whole_looked}
 use Rattle.pk_core.proofs.Stored.{room_looked}
 use Rattle.pk_core.proofs.Callings.{spends_reads, spends_failed}
-use Rattle.pk_parts.specs.Parts.{Parts}
+use Rattle.pk_parts.specs.Parts.{Parts, drive_limits}
 use Rattle.pk_changes.proofs.StoreCalls.{spends_store}
+use Rattle.pk_nvme.specs.Opcode.{op_of}
+use Rattle.pk_nvme.specs.declared.opcode.Opcode.TheVariants.{Store}
+use Rattle.pk_model.proofs.Answering.{key_spaced}
+use Rattle.pk_nvme.specs.Seen.{command_of}
+use Rattle.pk_parts.proofs.Unchanging.{agrees_ready}
 use Rattle.pk_core.proofs.store.store.Goals as goal
+
+pub key-key-requires-clause-space : goal.key-key-requires-clause-space
+key-key-requires-clause-space g c =
+    let s = c.requires.servable in
+    let spaced = key_spaced (length (drive_limits c.args.parts.now)) c.args.parts.now.log.shape (command_of c.args.request.now []) Store (λ n k. refl) (ap op_of c.requires.opcode) s.passed in
+    (spaced.some, omega (arith, spaced.most, s.few_spaces))
+
+pub look-requires-clause-ready : goal.look-requires-clause-ready
+look-requires-clause-ready g c = agrees_ready c.args.parts.now (g.B.Nand.state c.args.board.now) c.requires.servable.agrees
 
 pub store_over-requires-clause-looked_up : goal.store_over-requires-clause-looked_up
 store_over-requires-clause-looked_up g c =
