@@ -78,10 +78,10 @@ limits_tested agrees agrees' shape one two frames d e b tested agreed agreed' ru
     (subst (λ (s : Option Shape). agrees' s two.pages) stands'.1.shape_is agreed') runs' stands'.1.map_is
 
 pub is_one : (x y : ℕ) (b : Bool) → b ≡ (x == y) → b ≡ true → x ≡ y
-is_one x y b test yes = eqb-true x y (sym test ∙ yes)
+is_one x y b test equal = eqb-true x y (sym test ∙ equal)
 
 pub is_other : (x y : ℕ) (b : Bool) → b ≡ (x == y) → b ≡ false → x ≢ y
-is_other x y b test no same = let clash : true ≡ false = sym (eq-eqb x y same) ∙ sym test ∙ no in cc
+is_other x y b test differ same = let clash : true ≡ false = sym (eq-eqb x y same) ∙ sym test ∙ differ in cc
 
 -- ---- what was done on two images
 
@@ -418,10 +418,12 @@ module _ (task : PairTask) (shape : Shape) (old loaded new old' loaded' new' : B
       no_drive = λ e. (
         inr (inr (inr (
           shape,
-          ap (λ (s : BoardState). s.shape) l.first_opened ∙ found.shape_is,
-          ap (λ (s : BoardState). s.shape) l.second_opened ∙ found'.shape_is,
-          λ same. l.differ (ap (first_limit shape) (sym (ap (λ (s : BoardState). s.pages) l.first_opened)) ∙ same
-              ∙ ap (first_limit shape) (ap (λ (s : BoardState). s.pages) l.second_opened)),
+          (
+            ap (λ (s : BoardState). s.shape) l.first_opened ∙ found.shape_is,
+            ap (λ (s : BoardState). s.shape) l.second_opened ∙ found'.shape_is,
+            λ same. l.differ (ap (first_limit shape) (sym (ap (λ (s : BoardState). s.pages) l.first_opened)) ∙ same
+                ∙ ap (first_limit shape) (ap (λ (s : BoardState). s.pages) l.second_opened)),
+          ),
         ))),
         opened_untouched shape old loaded new found l.first_opened,
         opened_untouched shape old' loaded' new' found' l.second_opened,
