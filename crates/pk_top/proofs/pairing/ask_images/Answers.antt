@@ -59,8 +59,8 @@ returns-then-not-has_one_limit g c =
     c.in-Ok-open.ensures.stands c.in-Ok-open-2.ensures.stands c.in-Ok-open.ensures.none c.in-Ok-open-2.ensures.none
     (is_other _ _ c.has_one_limit.result test c.if-not-has_one_limit.true)
 
-pub returns-in-Ok-open-2 : goal.returns-in-Ok-open-2
-returns-in-Ok-open-2 g c =
+pub returns-else-not-has_one_limit : goal.returns-else-not-has_one_limit
+returns-else-not-has_one_limit g c =
     let one = g.B.Nand.state c.open.new.board in
     let two = g.C.Nand.state c.open-in-Ok-open.new.board in
     let test = limits_tested (DriveOnFlashBetween c.in-Ok-open.one) (DriveOnFlashBetween c.in-Ok-open-2.two) c.args.shape one two 36 (sight_of c.in-Ok-open.one) (sight_of c.in-Ok-open-2.two)
