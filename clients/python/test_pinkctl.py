@@ -128,7 +128,7 @@ class Check(OnImage):
     def test_damaged_pages_are_told_with_their_keys(self):
         self.store({b"a": b"1", b"b": bytes(600)})
         it, flash = self.flash()
-        page = flash.map[b"b"].page
+        page = flash.map[1, b"b"].page
         whole = self.bytes()
         for at, part in (
             (self.place(page + 1, 500), "page 2 of the 2 of a value of 600 bytes"),
@@ -138,7 +138,7 @@ class Check(OnImage):
             self.change(at, b"\2")
             found = self.check(status=8)
             self.assertEqual((found["verdict"], found["compared"]), ("refused", "yes"))
-            self.assertEqual(found["fault"]["key"], {"hex": "62", "text": "b"})
+            self.assertEqual(found["fault"]["key"], {"namespace": 1, "hex": "62", "text": "b"})
             self.assertTrue(found["fault"]["part"].startswith(part), found["fault"])
             self.assertIn("pinkctl salvage", self.ctl("check", self.image, status=8).decode())
             self.change(0, whole)
@@ -466,7 +466,7 @@ class Backup(OnImage):
         self.ctl("backup", self.image, self.path("none/copy"), status=11)
         self.store({b"a": b"1"})
         it, flash = self.flash()
-        self.change(self.place(flash.map[b"a"].page, 0), b"\0")
+        self.change(self.place(flash.map[1, b"a"].page, 0), b"\0")
         self.ctl("backup", self.image, copy, status=8)
         self.assertFalse(os.path.exists(copy))
         self.ctl("backup", self.image, copy, "--even-damaged", status=8)
@@ -505,7 +505,7 @@ class Salvage(OnImage):
         self.fill()
         held, whole = self.held(), self.bytes()
         it, flash = self.flash()
-        page = flash.map[b"key100"].page
+        page = flash.map[1, b"key100"].page
         journal = min(flash.newest.pages)
         meta = next(run[0] * 16 for run in flash.root.runs if run)
         for at, least in ((self.place(page, 500), 246), (self.place(page, 5), 245), (self.place(meta, 40), 244)):
