@@ -1,8 +1,7 @@
 -- Spare frames, and the levels that fit into them.
 use Rattle.std.proofs.Common.{◌≡◌, inl, inr, ℕ, zero, suc, ◌+◌, ◌-◌, ◌<◌, ◌≤◌, Bool, true, false, T, if◌then◌else◌, List, [], ◌∷◌, length, drop, get_or, nat_le, refl, sym, ap, subst, ◌∙◌, arith}
 use Rattle.std.proofs.Common.{leb→le, drop-cons, length-drop, add-one}
-use Rattle.std.proofs.lemmas.Bool.{cases_lt}
-use Rattle.std.proofs.lemmas.Bool.Decides.{nat_tests}
+use Rattle.std.{proofs.lemmas.Bool.cases_lt, proofs.lemmas.Bool.Decides.nat_tests}
 use Rattle.pk_base.specs.Shape.{Shape, need, pinned}
 use Rattle.pk_adapt.specs.Adapted.{spare_frames, pages_of_first, last_fitting, adapted, pages_up_to, IsAdapted}
 

@@ -2,20 +2,12 @@
 use Rattle.std.proofs.Common.{◌≡◌, ℕ, zero, suc, ◌+◌, ◌-◌, ◌*◌, ◌%◌, ◌^◌, ◌<◌, ◌≤◌, true, false, List, [], ◌∷◌, ◌++◌, length, take, drop, get_or, refl, sym, ap, ◌∙◌, arith, Option, Some, None, Result}
 use Rattle.std.proofs.Common.{Ok, Err, subst, length-append}
 use Rattle.std.specs.Prelude.{option_map, nat_lt, if◌then◌else◌, is_some, unwrap_or, Bool, ◌&&◌, ◌==◌, bytes_eq, codes}
-use Rattle.std.specs.Char.{is_ascii_digit, digit_value}
-use Rattle.std.specs.List.{list_all}
-use Rattle.std.specs.Result.{result_ok}
-use Rattle.std.specs.Str.Parse.{digits_value}
-use Rattle.std.proofs.lemmas.Bool.{and_parts}
-use Rattle.std.proofs.lemmas.Int.Digits.{digits_value_more}
-use Rattle.std.proofs.lemmas.Str.Parse.{digits_value-take-le}
+use Rattle.std.{specs.Char.is_ascii_digit, specs.Char.digit_value, specs.List.list_all, specs.Result.result_ok, specs.Str.Parse.digits_value, proofs.lemmas.Bool.and_parts}
+use Rattle.std.{proofs.lemmas.Int.Digits.digits_value_more, proofs.lemmas.Str.Parse.digits_value-take-le, proofs.lemmas.Bool.Decides.nat_tests}
 use Rattle.std.proofs.lemmas.List.{append_assoc, append-nil, drop_more, drop_all, take_all}
-use Rattle.std.proofs.lemmas.Bool.Decides.{nat_tests}
-use Rattle.pk_nvme.specs.Bytes.{RoomyList}
-use Rattle.pk_nvme.specs.Text.{bytes_of, some_bytes_of}
+use Rattle.pk_nvme.{specs.Bytes.RoomyList, specs.Text.bytes_of, specs.Text.some_bytes_of}
 use Rattle.hex.specs.Hex.{decode_of, decode_pairs, pair_value, digit_or_error, hex_digit_value, is_hex_digit, ◌>>=◌}
-use Rattle.hex.proofs.HexLemmas.{decode_of-even}
-use Rattle.hex.specs.declared.error.FromHexError.{FromHexError}
+use Rattle.hex.{proofs.HexLemmas.decode_of-even, specs.declared.error.FromHexError.FromHexError}
 
 -- ---- decimal digits
 

@@ -1,16 +1,11 @@
 -- Named lines and their forms.
 use Rattle.std.proofs.Common.{◌≡◌, ℕ, zero, suc, ◌^◌, ◌<◌, ◌≤◌, Bool, true, false, cond, List, [], ◌∷◌, length, refl, sym, ap, subst, arith, inl, inr, ◌⊎◌, Option, Some, None}
 use Rattle.std.specs.Prelude.{nat_lt, nat_le, ◌==◌, ◌&&◌, codes, bytes_eq, option_map, option_and_then}
-use Rattle.std.specs.Str.Parse.{digits_value}
-use Rattle.std.proofs.lemmas.Bool.{and_parts}
-use Rattle.std.proofs.lemmas.Bool.Decides.{nat_tests}
-use Rattle.pk_base.specs.Fields.{AreBytes}
-use Rattle.pk_base.specs.Key.{Key, IsKey, bytes_of as bytes_in, space_of}
+use Rattle.std.{specs.Str.Parse.digits_value, proofs.lemmas.Bool.and_parts, proofs.lemmas.Bool.Decides.nat_tests}
+use Rattle.pk_base.{specs.Fields.AreBytes, specs.Key.Key, specs.Key.IsKey, specs.Key.bytes_of as bytes_in, specs.Key.space_of}
 use Rattle.pk_nvme.specs.Text.{is_number, number_of, number_text, hex_text, bytes_text, some_bytes_of, bytes_of}
-use Rattle.pk_asm.specs.Words.{key_of}
+use Rattle.pk_asm.{specs.Words.key_of, specs.Printed.form_words, specs.Printed.from_text, specs.Printed.option_words, specs.declared.form.Form.Form}
 use Rattle.pk_asm.specs.Line.{retrieve_of, delete_of, exist_of, from_of, list_form, flush_of, report_of, tick_of, plain_of, options_of, store_with, store_of, named_of}
-use Rattle.pk_asm.specs.Printed.{form_words, from_text, option_words}
-use Rattle.pk_asm.specs.declared.form.Form.{Form}
 use Rattle.pk_asm.specs.declared.form.Form.TheVariants.{Store, Retrieve, Delete, Exist, ListFrom, Flush, Report, Tick}
 use Rattle.pk_asm.proofs.TextLemmas.{some_bytes_of-is, number_of-text, key_of-text, bytes_of-text, from_of-text, is_free, AreFree, free_hex, free_bytes, free_from, free_number}
 

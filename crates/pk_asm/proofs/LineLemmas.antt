@@ -1,11 +1,8 @@
 -- What lines say.
 use Rattle.std.proofs.Common.{◌≡◌, ℕ, ◌≤◌, false, List, ◌∷◌, length, get_or, refl, sym, ap, ◌∙◌, arith, Option, Some, None}
-use Rattle.std.specs.Prelude.{option_map, nat_lt, ◌==◌, ◌||◌, codes, bytes_eq}
-use Rattle.std.proofs.lemmas.Bool.Decides.{nat_tests}
+use Rattle.std.{specs.Prelude.option_map, specs.Prelude.nat_lt, specs.Prelude.◌==◌, specs.Prelude.◌||◌, specs.Prelude.codes, specs.Prelude.bytes_eq, proofs.lemmas.Bool.Decides.nat_tests}
 use Rattle.pk_nvme.specs.Bytes.{RoomyList}
-use Rattle.pk_asm.specs.Words.{words}
-use Rattle.pk_asm.specs.Form.{form_entry}
-use Rattle.pk_asm.specs.declared.form.Form.{Form}
+use Rattle.pk_asm.{specs.Words.words, specs.Form.form_entry, specs.declared.form.Form.Form}
 use Rattle.pk_asm.specs.Line.{named_of, says, entry_said, entry, entry_in, line_bytes, brought}
 
 -- a line that is no comment, and not too long

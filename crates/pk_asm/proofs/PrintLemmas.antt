@@ -1,17 +1,10 @@
 -- Words that are written one after another.
 use Rattle.std.proofs.Common.{◌≡◌, ℕ, ◌+◌, ◌*◌, ◌/◌, ◌%◌, ◌<◌, ◌≤◌, true, false, List, [], ◌∷◌, ◌++◌, length, take, drop, get_or, map, refl, sym, ap, ◌∙◌, arith, length-append}
-use Rattle.std.specs.Prelude.{nat_le}
-use Rattle.std.specs.Borrow.{Bor}
-use Rattle.std.proofs.lemmas.Bool.Decides.{nat_tests}
+use Rattle.std.{specs.Prelude.nat_le, specs.Borrow.Bor, proofs.lemmas.Bool.Decides.nat_tests, proofs.lemmas.List.Concat.flat_map-append}
 use Rattle.std.proofs.lemmas.List.{append_assoc, append-nil, take_more, take_all, map-append, take-append-drop, length-take-le}
-use Rattle.std.proofs.lemmas.List.Concat.{flat_map-append}
-use Rattle.hex.specs.Hex.{encode_with, lower_digits}
-use Rattle.hex.proofs.HexLemmas.{length-encode_with}
-use Rattle.pk_nvme.specs.Bytes.{RoomyList}
-use Rattle.pk_nvme.specs.Text.{hex_text}
-use Rattle.pk_asm.specs.Printed.{behind_blanks}
-use Rattle.pk_asm.specs.PrintedWord.{word_text, tail_text}
-use Rattle.pk_asm.specs.declared.writer.Word.{Word}
+use Rattle.hex.{specs.Hex.encode_with, specs.Hex.lower_digits, proofs.HexLemmas.length-encode_with}
+use Rattle.pk_nvme.{specs.Bytes.RoomyList, specs.Text.hex_text}
+use Rattle.pk_asm.{specs.Printed.behind_blanks, specs.PrintedWord.word_text, specs.PrintedWord.tail_text, specs.declared.writer.Word.Word}
 use Rattle.pk_asm.specs.declared.writer.Word.TheVariants.{Text, Hex}
 
 -- a list of bytes after which a text was written

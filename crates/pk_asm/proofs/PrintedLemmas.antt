@@ -1,21 +1,15 @@
 -- What is printed, and that it is assembled to the same.
 use Rattle.std.proofs.Common.{◌≡◌, ℕ, suc, ◌^◌, ◌<◌, ◌≤◌, Bool, true, false, cond, List, [], ◌∷◌, ◌++◌, length, get_or, refl, sym, ap, ◌∙◌, subst, arith, Option, Some, None}
-use Rattle.std.specs.Prelude.{nat_eq, ◌==◌, ◌||◌, codes, bytes_eq, option_map}
-use Rattle.std.proofs.lemmas.Bool.{and_parts}
+use Rattle.std.{specs.Prelude.nat_eq, specs.Prelude.◌==◌, specs.Prelude.◌||◌, specs.Prelude.codes, specs.Prelude.bytes_eq, specs.Prelude.option_map, proofs.lemmas.Bool.and_parts}
 use Rattle.std.proofs.lemmas.Bool.Decides.{nat_tests}
 use Rattle.pk_base.specs.Fields.{AreBytes}
-use Rattle.pk_nvme.specs.Command.{command}
-use Rattle.pk_nvme.specs.Text.{hex_text, bytes_text}
-use Rattle.pk_asm.specs.Words.{words}
-use Rattle.pk_asm.specs.Form.{form_entry}
-use Rattle.pk_asm.specs.Line.{says, entry_said, raw_of, entry}
+use Rattle.pk_nvme.{specs.Command.command, specs.Text.hex_text, specs.Text.bytes_text}
+use Rattle.pk_asm.{specs.Words.words, specs.Form.form_entry, specs.Line.says, specs.Line.entry_said, specs.Line.raw_of, specs.Line.entry, specs.declared.form.Form.Form}
 use Rattle.pk_asm.specs.Printed.{behind_blanks, line_of, form_line, raw_line, candidate, that_gives, form_that_gives, line_for, printed, IsSaid, Prints}
-use Rattle.pk_asm.specs.declared.form.Form.{Form}
 use Rattle.pk_asm.specs.declared.form.Form.TheVariants.{Store, Retrieve, Delete, Exist, ListFrom, Flush, Report, Tick}
-use Rattle.pk_asm.proofs.LineLemmas.{says_entry, said_named}
+use Rattle.pk_asm.{proofs.LineLemmas.says_entry, proofs.LineLemmas.said_named, proofs.ReadLemmas.candidate_of, proofs.ReadLemmas.candidate_is}
 use Rattle.pk_asm.proofs.TextLemmas.{words-line_of, hex_entry-text, bytes_of-text, free_hex, free_bytes}
 use Rattle.pk_asm.proofs.FormLemmas.{IsForm, named_is, form_name, form_operands, form_words-parts, name_free, operands_free, form_said}
-use Rattle.pk_asm.proofs.ReadLemmas.{candidate_of, candidate_is}
 
 -- ---- equal lists of bytes
 

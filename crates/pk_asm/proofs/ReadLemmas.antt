@@ -1,19 +1,14 @@
 -- The fields of an entry that a form gives, read again.
 use Rattle.std.proofs.Common.{◌≡◌, ℕ, zero, suc, ◌+◌, ◌-◌, ◌%◌, ◌^◌, ◌<◌, ◌≤◌, Bool, true, false, cond, List, [], ◌∷◌, ◌++◌, length, take, drop, refl, sym, ap, ◌∙◌, subst, arith, inl, inr, Option}
 use Rattle.std.proofs.Common.{Some, None, length-append, length-drop}
-use Rattle.std.specs.Prelude.{nat_le, ◌==◌, ◌&&◌, not, option_map}
-use Rattle.std.proofs.lemmas.Bool.{and_parts}
-use Rattle.std.proofs.lemmas.Bool.Decides.{nat_tests}
+use Rattle.std.{specs.Prelude.nat_le, specs.Prelude.◌==◌, specs.Prelude.◌&&◌, specs.Prelude.not, specs.Prelude.option_map, proofs.lemmas.Bool.and_parts, proofs.lemmas.Bool.Decides.nat_tests}
 use Rattle.std.proofs.lemmas.List.{take_at, take_all, take-append-drop, length-take-le, get_or-drop}
-use Rattle.pk_base.specs.Fields.{AreBytes, padded, zeros, u16, u32}
-use Rattle.pk_base.specs.Key.{Key, IsKey, bytes_of, space_of}
+use Rattle.pk_base.{specs.Fields.AreBytes, specs.Fields.padded, specs.Fields.zeros, specs.Fields.u16, specs.Fields.u32, specs.Key.Key, specs.Key.IsKey, specs.Key.bytes_of, specs.Key.space_of}
 use Rattle.pk_base.proofs.Tables.{spelled_stand, stands_byte, stands_number, length-padded, number_fits, ◌⊕◌}
 use Rattle.pk_nvme.specs.Command.{Command, command}
-use Rattle.pk_asm.specs.Form.{entry_with, form_entry}
+use Rattle.pk_asm.{specs.Form.entry_with, specs.Form.form_entry, specs.declared.form.Form.Form, proofs.FormLemmas.IsByteKey, proofs.FormLemmas.IsForm, proofs.FormLemmas.picked, proofs.FormLemmas.held}
 use Rattle.pk_asm.specs.Printed.{candidate, key_at, store_candidate, retrieve_candidate, delete_candidate, exist_candidate, list_candidate}
-use Rattle.pk_asm.specs.declared.form.Form.{Form}
 use Rattle.pk_asm.specs.declared.form.Form.TheVariants.{Store, Retrieve, Delete, Exist, ListFrom, Flush, Report, Tick}
-use Rattle.pk_asm.proofs.FormLemmas.{IsByteKey, IsForm, picked, held}
 use Rattle.pk_asm.proofs.TextLemmas.{in_first}
 
 -- what a command says of its form

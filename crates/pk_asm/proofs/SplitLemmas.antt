@@ -1,10 +1,7 @@
 -- Lines and their words.
 use Rattle.std.proofs.Common.{◌≡◌, ℕ, suc, ◌+◌, ◌-◌, ◌<◌, ◌≤◌, Bool, true, false, cond, List, [], ◌∷◌, length, take, drop, refl, sym, ap, ◌∙◌, arith, Some, None, length-drop, subst}
-use Rattle.std.specs.Prelude.{nat_lt, ◌==◌, not}
-use Rattle.std.specs.List.{slice_split, onto_first, position, position_or_len, AllByRecursion}
-use Rattle.std.proofs.lemmas.Bool.Decides.{nat_tests}
-use Rattle.std.proofs.lemmas.List.{take_all}
-use Rattle.std.proofs.lemmas.List.Splits.{slice_split_first}
+use Rattle.std.{specs.Prelude.nat_lt, specs.Prelude.◌==◌, specs.Prelude.not, specs.List.slice_split, specs.List.onto_first, specs.List.position, specs.List.position_or_len, specs.List.AllByRecursion}
+use Rattle.std.{proofs.lemmas.Bool.Decides.nat_tests, proofs.lemmas.List.take_all, proofs.lemmas.List.Splits.slice_split_first}
 use Rattle.pk_asm.specs.Words.{words}
 
 abbrev is_blank : ℕ → Bool

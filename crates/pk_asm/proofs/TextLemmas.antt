@@ -2,25 +2,14 @@
 use Rattle.std.proofs.Common.{◌≡◌, ℕ, zero, suc, ◌*◌, ◌/◌, ◌%◌, ◌^◌, ◌<◌, ◌≤◌, Bool, true, false, cond, List, [], ◌∷◌, ◌++◌, length, get_or, refl, sym, ap, ◌∙◌, arith, inl, inr, Option, Some, None}
 use Rattle.std.proofs.Common.{Result, Ok, Err}
 use Rattle.std.specs.Prelude.{nat_lt, nat_le, nat_eq, ◌==◌, ◌&&◌, ◌||◌, not, codes, bytes_eq, decimal}
-use Rattle.std.specs.Char.{is_ascii_digit}
-use Rattle.std.specs.List.{list_all}
-use Rattle.std.specs.Result.{result_ok}
-use Rattle.std.specs.Str.Parse.{AllDigits, digits_value}
-use Rattle.std.proofs.lemmas.Bool.{and_parts, cases_eq}
-use Rattle.std.proofs.lemmas.List.{append-nil}
-use Rattle.pk_asm.proofs.DigitLemmas.{digit_bounds}
-use Rattle.std.proofs.lemmas.Bool.Decides.{nat_tests}
-use Rattle.std.proofs.lemmas.Str.Parse.{digit_from_value}
+use Rattle.std.{specs.Char.is_ascii_digit, specs.List.list_all, specs.Result.result_ok, specs.Str.Parse.AllDigits, specs.Str.Parse.digits_value, proofs.lemmas.List.append-nil}
+use Rattle.std.{proofs.lemmas.Bool.and_parts, proofs.lemmas.Bool.cases_eq, proofs.lemmas.Bool.Decides.nat_tests, proofs.lemmas.Str.Parse.digit_from_value}
 use Rattle.std.proofs.lemmas.Fmt.{decimal_is_IsNumeral, decimal_digit, first_decimal}
-use Rattle.hex.specs.Hex.{encode_with, lower_digits, decode_of}
-use Rattle.hex.specs.declared.error.FromHexError.{FromHexError}
+use Rattle.pk_asm.{proofs.DigitLemmas.digit_bounds, specs.Words.words, specs.Words.key_of, specs.Words.hex_entry, specs.Line.from_of, specs.Printed.line_of, specs.Printed.from_text}
+use Rattle.hex.{specs.Hex.encode_with, specs.Hex.lower_digits, specs.Hex.decode_of, specs.declared.error.FromHexError.FromHexError}
 use Rattle.hex.proofs.HexLemmas.{length-encode_with, decode_of-encode_lower, decode_of-ok}
-use Rattle.pk_base.specs.Fields.{AreBytes}
-use Rattle.pk_base.specs.Key.{Key, IsKey, bytes_of as bytes_in, space_of}
+use Rattle.pk_base.{specs.Fields.AreBytes, specs.Key.Key, specs.Key.IsKey, specs.Key.bytes_of as bytes_in, specs.Key.space_of}
 use Rattle.pk_nvme.specs.Text.{is_number, number_of, number_text, hex_text, bytes_text, some_bytes_of, bytes_of}
-use Rattle.pk_asm.specs.Words.{words, key_of, hex_entry}
-use Rattle.pk_asm.specs.Line.{from_of}
-use Rattle.pk_asm.specs.Printed.{line_of, from_text}
 
 -- ---- numbers
 

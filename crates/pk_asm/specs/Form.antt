@@ -1,12 +1,8 @@
 -- What a named line asks for, and the entry that it gives.
 use Rattle.std.specs.Prelude.{ℕ, ◌%◌, ◌^◌, List, [], length}
-use Rattle.pk_nvme.specs.declared.limits.TheConstants.{NAMESPACE}
+use Rattle.pk_nvme.{specs.declared.limits.TheConstants.NAMESPACE, specs.Command.key_or_none, specs.Seen.entry_of}
 use Rattle.pk_nvme.specs.declared.opcode.TheConstants.{FLUSH, STORE, RETRIEVE, LIST, DELETE, EXIST, TICK, REPORT}
-use Rattle.pk_base.specs.declared.sizes.TheConstants.{KEY_BYTES}
-use Rattle.pk_base.specs.Fields.{padded}
-use Rattle.pk_base.specs.Key.{bytes_of}
-use Rattle.pk_nvme.specs.Command.{key_or_none}
-use Rattle.pk_nvme.specs.Seen.{entry_of}
+use Rattle.pk_base.{specs.declared.sizes.TheConstants.KEY_BYTES, specs.Fields.padded, specs.Key.bytes_of}
 use Rattle.pk_asm.specs.declared.form.Form.{Form}
 use Rattle.pk_asm.specs.declared.form.Form.TheVariants.{Store, Retrieve, Delete, Exist, ListFrom, Flush, Report, Tick}
 

@@ -1,11 +1,7 @@
 -- What a line of a text script says.
 use Rattle.std.specs.Prelude.{ℕ, ◌==◌, ◌||◌, nat_lt, if◌then◌else◌, List, [], ◌∷◌, length, slice_index, Option, Some, None, option_map, option_and_then, codes, bytes_eq}
-use Rattle.pk_nvme.specs.declared.options.TheConstants.{IF_EXISTS, IF_ABSENT, BOTH}
-use Rattle.pk_nvme.specs.Text.{number_of, bytes_of}
-use Rattle.pk_asm.specs.Words.{words, key_of, hex_entry}
-use Rattle.pk_asm.specs.Form.{form_entry}
-use Rattle.pk_asm.specs.declared.sizes.TheConstants.{MOST_LINE_BYTES}
-use Rattle.pk_asm.specs.declared.form.Form.{Form}
+use Rattle.pk_nvme.{specs.declared.options.TheConstants.IF_EXISTS, specs.declared.options.TheConstants.IF_ABSENT, specs.declared.options.TheConstants.BOTH, specs.Text.number_of, specs.Text.bytes_of}
+use Rattle.pk_asm.{specs.Words.words, specs.Words.key_of, specs.Words.hex_entry, specs.Form.form_entry, specs.declared.sizes.TheConstants.MOST_LINE_BYTES, specs.declared.form.Form.Form}
 use Rattle.pk_asm.specs.declared.form.Form.TheVariants.{Store, Retrieve, Delete, Exist, ListFrom, Flush, Report, Tick}
 
 infixl 10 ◌>>=◌

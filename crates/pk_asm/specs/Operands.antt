@@ -1,8 +1,6 @@
 -- The operands of a line as the program holds them.
-use Rattle.std.specs.Prelude.{ℕ, List, [], ◌∷◌, Option, Some, None}
-use Rattle.std.specs.Borrow.{Bor}
-use Rattle.pk_asm.specs.Words.{words}
-use Rattle.pk_asm.specs.declared.operands.Operands.{Operands}
+use Rattle.std.{specs.Prelude.ℕ, specs.Prelude.List, specs.Prelude.[], specs.Prelude.◌∷◌, specs.Prelude.Option, specs.Prelude.Some, specs.Prelude.None, specs.Borrow.Bor}
+use Rattle.pk_asm.{specs.Words.words, specs.declared.operands.Operands.Operands}
 use Rattle.pk_asm.specs.declared.operands.Operands.TheVariants.{Nothing, One, Two, Three, Many}
 
 -- the words after the first, if something follows it

@@ -1,19 +1,12 @@
 -- The line that is printed for an entry and its bytes.
 use Rattle.std.specs.Prelude.{◌≡◌, ℕ, ◌+◌, ◌≤◌, ◌<◌, ◌^◌, Bool, ◌==◌, ◌&&◌, not, nat_le, if◌then◌else◌, List, [], ◌∷◌, ◌++◌, length, take, Option, Some, None, option_map, codes, bytes_eq}
 use Rattle.std.specs.List.{flat_map}
-use Rattle.pk_base.specs.declared.sizes.TheConstants.{KEY_BYTES}
-use Rattle.pk_base.specs.Key.{Key, bytes_of}
-use Rattle.pk_nvme.specs.declared.limits.TheConstants.{NAMESPACE}
+use Rattle.pk_base.{specs.declared.sizes.TheConstants.KEY_BYTES, specs.Key.Key, specs.Key.bytes_of}
+use Rattle.pk_nvme.{specs.declared.limits.TheConstants.NAMESPACE, specs.Bytes.RoomyList, specs.Command.Command, specs.Command.command}
 use Rattle.pk_nvme.specs.declared.opcode.TheConstants.{FLUSH, STORE, RETRIEVE, LIST, DELETE, EXIST, TICK, REPORT}
 use Rattle.pk_nvme.specs.declared.options.TheConstants.{IF_EXISTS, IF_ABSENT, BOTH}
-use Rattle.pk_nvme.specs.Bytes.{RoomyList}
-use Rattle.pk_nvme.specs.Command.{Command, command}
 use Rattle.pk_nvme.specs.Text.{number_text, hex_text, bytes_text}
-use Rattle.pk_asm.specs.Form.{form_entry}
-use Rattle.pk_asm.specs.Words.{blank}
-use Rattle.pk_asm.specs.Line.{says, named_of, entry}
-use Rattle.pk_asm.specs.declared.sizes.TheConstants.{MOST_LINE_BYTES}
-use Rattle.pk_asm.specs.declared.form.Form.{Form}
+use Rattle.pk_asm.{specs.Form.form_entry, specs.Words.blank, specs.Line.says, specs.Line.named_of, specs.Line.entry, specs.declared.sizes.TheConstants.MOST_LINE_BYTES, specs.declared.form.Form.Form}
 use Rattle.pk_asm.specs.declared.form.Form.TheVariants.{Store, Retrieve, Delete, Exist, ListFrom, Flush, Report, Tick}
 
 -- ---- how words and lines are spelled

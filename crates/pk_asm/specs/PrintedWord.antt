@@ -1,8 +1,7 @@
 -- The words of a printed line as the program holds them.
 use Rattle.std.specs.Prelude.{ℕ, List, map, decimal}
 use Rattle.pk_nvme.specs.Text.{hex_text}
-use Rattle.pk_asm.specs.Printed.{behind_blanks}
-use Rattle.pk_asm.specs.declared.writer.Word.{Word}
+use Rattle.pk_asm.{specs.Printed.behind_blanks, specs.declared.writer.Word.Word}
 use Rattle.pk_asm.specs.declared.writer.Word.TheVariants.{Text, Hex, Number}
 
 abbrev pub word_text : Word → List ℕ

@@ -1,11 +1,8 @@
 -- The words of a line of a text script.
 use Rattle.std.specs.Prelude.{ℕ, ◌*◌, ◌==◌, nat_le, if◌then◌else◌, List, ◌∷◌, length, Option, None, option_map}
 use Rattle.std.specs.List.{slice_split}
-use Rattle.pk_base.specs.declared.sizes.TheConstants.{KEY_BYTES}
-use Rattle.pk_base.specs.Key.{Key}
-use Rattle.pk_nvme.specs.declared.limits.TheConstants.{NAMESPACE}
-use Rattle.pk_nvme.specs.declared.sizes.TheConstants.{SUBMISSION_BYTES}
-use Rattle.pk_nvme.specs.Text.{some_bytes_of}
+use Rattle.pk_base.{specs.declared.sizes.TheConstants.KEY_BYTES, specs.Key.Key}
+use Rattle.pk_nvme.{specs.declared.limits.TheConstants.NAMESPACE, specs.declared.sizes.TheConstants.SUBMISSION_BYTES, specs.Text.some_bytes_of}
 
 -- what is between two words
 abbrev pub blank : ℕ

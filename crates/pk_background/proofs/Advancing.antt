@@ -1,35 +1,21 @@
 -- A background step of the jobs, by the drive and its board.
 use Rattle.std.proofs.Common.{◌≡◌, ◌⊎◌, inl, inr, ℕ, refl, sym, ap, subst, ◌∙◌, arith, Bool, true, false, List, [], ◌∷◌, length, Some}
-use Rattle.std.specs.Prelude.{◌&&◌, ◌||◌, ◌==◌, not, map, slice_get}
-use Rattle.std.proofs.lemmas.Bool.{eq-eqb, eqb-true}
-use Rattle.pk_base.specs.Shape.{Shape}
-use Rattle.pk_base.specs.Firsts.{firsts}
-use Rattle.pk_base.specs.Page.{Flash}
-use Rattle.pk_base.specs.Merge.{next_merge}
+use Rattle.std.{specs.Prelude.◌&&◌, specs.Prelude.◌||◌, specs.Prelude.◌==◌, specs.Prelude.not, specs.Prelude.map, specs.Prelude.slice_get, proofs.lemmas.Bool.eq-eqb, proofs.lemmas.Bool.eqb-true}
+use Rattle.pk_base.{specs.Shape.Shape, specs.Firsts.firsts, specs.Page.Flash, specs.Merge.next_merge, proofs.Logic.not_both}
 use Rattle.pk_rootfmt.specs.Root.{Root}
-use Rattle.pk_nand.specs.BoardState.{BoardState}
-use Rattle.pk_nand.specs.Calls.{IsReady}
+use Rattle.pk_nand.{specs.BoardState.BoardState, specs.Calls.IsReady}
 use Rattle.pk_law_work.proofs.Targets.{next_told}
-use Rattle.pk_pool.specs.Blocks.{PoolOnFlash, IsShared, IsOwned}
-use Rattle.pk_pool.specs.Taking.{ErasesOne, ErasesNone, FailsToErase}
+use Rattle.pk_pool.{specs.Blocks.PoolOnFlash, specs.Blocks.IsShared, specs.Blocks.IsOwned, specs.Taking.ErasesOne, specs.Taking.ErasesNone, specs.Taking.FailsToErase}
 use Rattle.pk_compact.specs.FreezeSteps.{taken_by}
 use Rattle.pk_model.specs.Found.{Found}
-use Rattle.pk_call.specs.Sight.{IsIdle}
-use Rattle.pk_call.specs.declared.types.Ticked.TheVariants.{Worked, Idle, Fault}
-use Rattle.pk_schedule.specs.declared.phase.Phase.{Phase}
+use Rattle.pk_call.{specs.Sight.IsIdle, specs.declared.types.Ticked.TheVariants.Worked, specs.declared.types.Ticked.TheVariants.Idle, specs.declared.types.Ticked.TheVariants.Fault}
+use Rattle.pk_schedule.{specs.declared.phase.Phase.Phase, specs.Index.Index, specs.Index.MergeStands, specs.Index.merging, specs.Steps.has_no_merge, specs.Steps.is_between}
 use Rattle.pk_schedule.specs.declared.phase.Phase.TheVariants.{Idle as NoMerge, Running, Ready}
-use Rattle.pk_schedule.specs.Index.{Index, MergeStands, merging}
-use Rattle.pk_schedule.specs.Steps.{has_no_merge, is_between}
 use Rattle.pk_gc.specs.Stepping.{runs_in}
-use Rattle.pk_parts.specs.Parts.{Parts, index_of, sight_of, is_half, is_reclaim_due}
-use Rattle.pk_parts.specs.Agreeing.{DriveOnFlashWith, DriveOnFlash, IsWhole}
-use Rattle.pk_background.specs.Filling.{lacks_frames}
-use Rattle.pk_background.specs.Ticking.{MayTick, Advances, WantsReclaim, wants_reclaim}
-use Rattle.pk_parts.proofs.Halves.{whole_of}
-use Rattle.pk_parts.proofs.Unchanging.{own_whole}
-use Rattle.pk_parts.proofs.Staying.{stays_same, stays_frees, step_stays}
+use Rattle.pk_parts.{specs.Parts.Parts, specs.Parts.index_of, specs.Parts.sight_of, specs.Parts.is_half, specs.Parts.is_reclaim_due, proofs.Halves.whole_of, proofs.Unchanging.own_whole}
+use Rattle.pk_parts.{specs.Agreeing.DriveOnFlashWith, specs.Agreeing.DriveOnFlash, specs.Agreeing.IsWhole, proofs.Staying.stays_same, proofs.Staying.stays_frees, proofs.Staying.step_stays}
+use Rattle.pk_background.{specs.Filling.lacks_frames, specs.Ticking.MayTick, specs.Ticking.Advances, specs.Ticking.WantsReclaim, specs.Ticking.wants_reclaim}
 use Rattle.pk_background.proofs.Ticking.{ticks_nothing, ticks_failed, step_agrees, step_ticks, step_lowers, kept_drive, busy_spare, idle_fine, stopped_idle, stopped_worked, worked_idle}
-use Rattle.pk_base.proofs.Logic.{not_both}
 
 -- ---- answers
 

@@ -1,36 +1,19 @@
 -- What is read of a flash is not in a block without an owner, and the blocks of the journal and of runs are as before if no page of theirs differs.
-use Rattle.std.proofs.Common.{◌≡◌, ◌⊎◌, inl, inr, ℕ, zero, suc, ◌+◌, ◌*◌, ◌/◌, ◌%◌, ◌<◌, ◌≤◌, sym, ap, subst, ◌∙◌, arith, List, [], ◌++◌, Some}
-use Rattle.std.proofs.Common.{slice_get, div-lt_iff_lt-mul}
-use Rattle.std.specs.List.{concat}
-use Rattle.std.proofs.lemmas.Bool.{cases_eq}
-use Rattle.std.proofs.lemmas.Nat.{div-add-mod'}
-use Rattle.pk_base.specs.Shape.{Shape, IsShape}
-use Rattle.pk_base.specs.Page.{Flash, page_at, erased, whole}
-use Rattle.pk_base.specs.Map.{Map}
-use Rattle.pk_base.proofs.ShapeLemmas.{block_pages_positive}
-use Rattle.pk_rootfmt.specs.Root.{Root, named}
-use Rattle.pk_rootfmt.specs.Newest.{newest_root}
-use Rattle.pk_plan.specs.declared.owner.Owner.{Owner}
-use Rattle.pk_plan.specs.declared.owner.Owner.TheVariants.{Journal, Meta, Values}
-use Rattle.std.specs.Prelude.{◌-◌, not}
+use Rattle.std.proofs.Common.{◌≡◌, ◌⊎◌, inl, inr, ℕ, zero, suc, ◌+◌, ◌*◌, ◌/◌, ◌%◌, ◌<◌, ◌≤◌, sym, ap, subst, ◌∙◌, arith, List, [], ◌++◌, Some, slice_get, div-lt_iff_lt-mul}
+use Rattle.std.{specs.List.concat, proofs.lemmas.Bool.cases_eq, proofs.lemmas.Nat.div-add-mod', specs.Prelude.◌-◌, specs.Prelude.not}
+use Rattle.pk_base.{specs.Shape.Shape, specs.Shape.IsShape, specs.Page.Flash, specs.Page.page_at, specs.Page.erased, specs.Page.whole, specs.Map.Map, proofs.ShapeLemmas.block_pages_positive}
+use Rattle.pk_rootfmt.{specs.Root.Root, specs.Root.named, specs.Newest.newest_root}
+use Rattle.pk_plan.{specs.declared.owner.Owner.Owner, specs.declared.owner.Owner.TheVariants.Journal, specs.declared.owner.Owner.TheVariants.Meta, specs.declared.owner.Owner.TheVariants.Values}
 use Rattle.pk_nand.specs.BoardState.{BoardState, shape_or_none}
-use Rattle.pk_pool.specs.declared.state.BlockState.{BlockState}
+use Rattle.pk_pool.{specs.declared.state.BlockState.BlockState, proofs.States.get-set_other, proofs.Sharing.count-set, proofs.Fitting.block_of}
 use Rattle.pk_pool.specs.declared.state.BlockState.TheVariants.{Free, Ready, Owned}
 use Rattle.pk_pool.specs.Blocks.{Blocks, PoolOnFlash, IsShared, IsSpare, is_owned_by, used_by, with_state}
-use Rattle.pk_pool.proofs.States.{get-set_other}
-use Rattle.pk_pool.proofs.Sharing.{count-set}
-use Rattle.pk_pool.proofs.Fitting.{block_of}
-use Rattle.pk_model.specs.Found.{Found}
-use Rattle.pk_model.specs.Laws.{AnyByRecursion}
-use Rattle.pk_law_steps.specs.Under.{IsNamed, IsValuePage, places}
-use Rattle.pk_law_steps.proofs.Untouched.{value_page_whole, not_erased}
-use Rattle.pk_model.specs.Wear.{number_of, root_number, roots}
+use Rattle.pk_model.{specs.Found.Found, specs.Laws.AnyByRecursion, specs.Wear.number_of, specs.Wear.root_number, specs.Wear.roots}
+use Rattle.pk_law_steps.{specs.Under.IsNamed, specs.Under.IsValuePage, specs.Under.places, proofs.Untouched.value_page_whole, proofs.Untouched.not_erased}
 use Rattle.pk_values.specs.Placed.{HoldsValues}
-use Rattle.pk_parts.specs.Parts.{Parts}
-use Rattle.pk_parts.specs.Agreeing.{DriveOnFlashWith}
+use Rattle.pk_parts.{specs.Parts.Parts, specs.Agreeing.DriveOnFlashWith}
 use Rattle.pk_schedule.proofs.Keeping.{IsBeside, any_split}
-use Rattle.pk_background.proofs.Unread.{IsReadBy, SameRead, KeepsOwners}
-use Rattle.pk_background.proofs.Stills.{IsStill, SameStill}
+use Rattle.pk_background.{proofs.Unread.IsReadBy, proofs.Unread.SameRead, proofs.Unread.KeepsOwners, proofs.Stills.IsStill, proofs.Stills.SameStill}
 
 -- ---- blocks and their owners
 

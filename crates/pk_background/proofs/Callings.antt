@@ -1,13 +1,10 @@
 -- How many flash operations consecutive calls make, and how many roots they install.
 use Rattle.std.proofs.Common.{◌≡◌, ◌≢◌, ℕ, zero, suc, ◌+◌, ◌≤◌, refl, sym, ap, subst, ◌∙◌, arith, List, [], ◌∷◌}
-use Rattle.pk_nand.specs.BoardState.{BoardState}
-use Rattle.pk_nand.specs.Calls.{counted}
-use Rattle.pk_nand.specs.Counts.{counted_by}
+use Rattle.pk_nand.{specs.BoardState.BoardState, specs.Calls.counted, specs.Counts.counted_by}
 use Rattle.pk_nand.specs.Effects.{AtMostOneCall, OneProgram, made_no_call, made_read, made_program, made_erase}
 use Rattle.pk_model.specs.Wear.{roots}
 use Rattle.pk_law_work.specs.Calls.{commit_calls}
-use Rattle.pk_call.specs.Calling.{FewCalls}
-use Rattle.pk_call.specs.Commit.{ProgramsOfCommit}
+use Rattle.pk_call.{specs.Calling.FewCalls, specs.Commit.ProgramsOfCommit}
 use Rattle.pk_background.specs.Costs.{Spends}
 
 -- ---- counts

@@ -1,23 +1,14 @@
 -- A step that leaves a pair half made, and its second program: together they keep the map.
 use Rattle.std.proofs.Common.{◌≡◌, inr, ℕ, List, [], ◌++◌, Some, sym, ap, ◌∙◌}
-use Rattle.pk_base.specs.Shape.{Shape}
-use Rattle.pk_base.specs.Page.{Flash}
-use Rattle.pk_base.specs.Map.{Map}
-use Rattle.pk_base.specs.Mark.{all_posted}
-use Rattle.pk_nand.specs.BoardState.{BoardState}
-use Rattle.pk_nand.specs.Calls.{IsReady}
-use Rattle.pk_model.specs.Reading.{reading}
-use Rattle.pk_model.specs.Growth.{Goes}
-use Rattle.pk_model.specs.Crashes.{CrashFinds, background, commit}
+use Rattle.pk_base.{specs.Shape.Shape, specs.Page.Flash, specs.Map.Map, specs.Mark.all_posted}
+use Rattle.pk_nand.{specs.BoardState.BoardState, specs.Calls.IsReady}
+use Rattle.pk_model.{specs.Reading.reading, specs.Growth.Goes, specs.Crashes.CrashFinds, specs.Crashes.background, specs.Crashes.commit, specs.Found.Found}
 use Rattle.pk_model.proofs.Growing.{Reaches-then, Goes-then, at_end}
-use Rattle.pk_model.specs.Found.{Found}
 use Rattle.pk_law_steps.specs.Under.{places}
 use Rattle.pk_log.specs.State.{LogState}
-use Rattle.pk_parts.specs.Parts.{Parts}
-use Rattle.pk_parts.specs.Moves.{Keeps, KeepsAll, KeepsBetween, KeepsAllBetween, BreaksAll}
-use Rattle.pk_background.specs.Pairing.{Finished, FinishesHalf, FailsToFinish}
-use Rattle.pk_parts.proofs.Standing.{reads_as}
+use Rattle.pk_parts.{specs.Parts.Parts, specs.Moves.Keeps, specs.Moves.KeepsAll, specs.Moves.KeepsBetween, specs.Moves.KeepsAllBetween, specs.Moves.BreaksAll, proofs.Standing.reads_as}
 use Rattle.pk_parts.proofs.Keeping.{board_has}
+use Rattle.pk_background.specs.Pairing.{Finished, FinishesHalf, FailsToFinish}
 
 -- ---- a step that leaves a pair half made, and its second program
 

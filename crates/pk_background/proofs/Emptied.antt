@@ -1,42 +1,24 @@
 -- Merges one after another, and the steps of a freeze, inside a command.
 use Rattle.std.proofs.Common.{◌≡◌, ℕ, ◌+◌, ◌-◌, ◌<◌, ◌≤◌, refl, sym, ap, subst, ◌∙◌, arith, Bool, true, false, ◌&&◌, ◌==◌, if◌then◌else◌, T, List, [], ◌∷◌, length, eqb→eq, Result, Ok, Err}
-use Rattle.pk_base.specs.Entry.{Entry}
-use Rattle.pk_base.specs.Key.{Key}
-use Rattle.pk_base.specs.Shape.{Shape, buffer, epoch_commits}
-use Rattle.pk_base.proofs.ShapeLemmas.{block_pages_positive}
+use Rattle.pk_base.{specs.Entry.Entry, specs.Key.Key, specs.Shape.Shape, specs.Shape.buffer, specs.Shape.epoch_commits, proofs.ShapeLemmas.block_pages_positive, specs.Map.Map}
 use Rattle.pk_buf.specs.Table.{Table}
 use Rattle.pk_jrn.specs.Epochs.{left_of}
-use Rattle.pk_log.specs.State.{LogState, needs_freeze}
-use Rattle.pk_log.specs.Logs.{LogOnFlash}
-use Rattle.pk_law_work.specs.Backlog.{is_tight}
-use Rattle.pk_schedule.specs.Index.{Index}
-use Rattle.pk_nand.specs.declared.types.Fault.{Fault}
-use Rattle.pk_nand.specs.BoardState.{BoardState}
-use Rattle.pk_nand.specs.Calls.{IsReady}
-use Rattle.pk_model.specs.Wear.{roots}
-use Rattle.pk_model.proofs.Steps.{RootsUpTo-le, Step-broken}
-use Rattle.pk_law_work.specs.Rest.{whole_freeze}
-use Rattle.pk_law_work.specs.Work.{emptying, repeating}
-use Rattle.pk_law_work.specs.Calls.{room_calls, room_roots, commit_calls}
+use Rattle.pk_log.{specs.State.LogState, specs.State.needs_freeze, specs.Logs.LogOnFlash}
+use Rattle.pk_law_work.{specs.Backlog.is_tight, specs.Rest.whole_freeze, specs.Work.emptying, specs.Work.repeating, specs.Calls.room_calls, specs.Calls.room_roots, specs.Calls.commit_calls}
 use Rattle.pk_law_work.proofs.Within.{due_most, merging_most}
-use Rattle.pk_schedule.specs.declared.phase.Stepped.{Stepped}
-use Rattle.pk_schedule.specs.declared.phase.Stepped.TheVariants.{Worked, Idle}
-use Rattle.pk_schedule.specs.Steps.{FreezeMoves, backlog_of, has_no_merge, is_between}
+use Rattle.pk_schedule.{specs.Index.Index, specs.declared.phase.Stepped.Stepped, specs.declared.phase.Stepped.TheVariants.Worked, specs.declared.phase.Stepped.TheVariants.Idle}
+use Rattle.pk_schedule.{specs.Steps.FreezeMoves, specs.Steps.backlog_of, specs.Steps.has_no_merge, specs.Steps.is_between, proofs.Backlogs.index_backlog, proofs.Backlogs.installs_most}
+use Rattle.pk_nand.{specs.declared.types.Fault.Fault, specs.BoardState.BoardState, specs.Calls.IsReady}
+use Rattle.pk_model.{specs.Wear.roots, proofs.Steps.RootsUpTo-le, proofs.Steps.Step-broken}
 use Rattle.pk_call.specs.Calling.{FewCalls}
-use Rattle.pk_background.specs.Costs.{Spends}
-use Rattle.pk_parts.specs.Parts.{Parts, frames_of, index_of}
-use Rattle.pk_base.specs.Map.{Map}
-use Rattle.pk_parts.specs.Moves.{StandsFor, KeepsAll, BreaksAll, MayStep, StepKeeps, LeavesValues}
+use Rattle.pk_background.{specs.Costs.Spends, proofs.Rooming.stands_after, proofs.Freezing.no_need, proofs.Freezing.left_some, proofs.Freezing.frozen_is_room}
 use Rattle.pk_background.specs.Emptying.{StepOrRead, KeepsOrReads, MergesWhole, FreezesWhole, BeginsEpoch, HasRoom, merges_left, merges_due, freeze_left_of, MayEmpty}
-use Rattle.pk_parts.specs.Staying.{Stays}
-use Rattle.pk_parts.proofs.Keeping.{KeepsAll-none, KeepsAll-then, BreaksAll-then}
-use Rattle.pk_background.proofs.Rooming.{stands_after}
-use Rattle.pk_parts.proofs.Staying.{stays_same, stays_then}
 use Rattle.pk_background.proofs.Steps.{none_step, keeps_later, may_after, leaves_none, leaves_twice}
-use Rattle.pk_background.proofs.Freezing.{no_need, left_some, frozen_is_room}
-use Rattle.pk_schedule.proofs.Backlogs.{index_backlog, installs_most}
 use Rattle.pk_background.proofs.Callings.{few_none, few_within, few_then, spends_within, spends_then}
 use Rattle.pk_background.proofs.ReadSteps.{Passes, passes_none, step_passes, reading_passes, reads_nothing, reading_failed, reading_then, reading_end}
+use Rattle.pk_parts.{specs.Parts.Parts, specs.Parts.frames_of, specs.Parts.index_of, specs.Staying.Stays, proofs.Keeping.KeepsAll-none, proofs.Keeping.KeepsAll-then, proofs.Keeping.BreaksAll-then}
+use Rattle.pk_parts.specs.Moves.{StandsFor, KeepsAll, BreaksAll, MayStep, StepKeeps, LeavesValues}
+use Rattle.pk_parts.proofs.Staying.{stays_same, stays_then}
 
 -- ---- steps one after another
 

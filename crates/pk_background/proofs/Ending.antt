@@ -1,43 +1,25 @@
 -- The second program of the commit of a reclaim's moves, stated for the drive.
 use Rattle.std.proofs.Common.{◌≡◌, inl, inr, ℕ, ◌-◌, ◌<◌, refl, sym, ap, subst, ◌∙◌, arith, true, length, Result, Ok, Err}
-use Rattle.pk_base.specs.Shape.{Shape}
-use Rattle.pk_base.specs.Page.{Flash}
-use Rattle.pk_base.specs.Map.{Map}
+use Rattle.pk_base.{specs.Shape.Shape, specs.Page.Flash, specs.Map.Map}
 use Rattle.pk_plan.specs.declared.owner.Owner.TheVariants.{Values}
 use Rattle.pk_rootfmt.specs.Root.{Root}
-use Rattle.pk_nand.specs.declared.types.Fault.{Fault}
-use Rattle.pk_nand.specs.declared.types.Fault.TheVariants.{Reading, Stopped}
-use Rattle.pk_nand.specs.BoardState.{BoardState}
-use Rattle.pk_nand.specs.Calls.{IsReady}
+use Rattle.pk_nand.{specs.declared.types.Fault.Fault, specs.declared.types.Fault.TheVariants.Reading, specs.declared.types.Fault.TheVariants.Stopped, specs.BoardState.BoardState, specs.Calls.IsReady}
 use Rattle.pk_nand.specs.Effects.{NoFault, OneProgram, OnlyFlash, Stops}
 use Rattle.pk_pool.specs.Blocks.{Blocks, used_by}
-use Rattle.pk_model.specs.Found.{Found}
-use Rattle.pk_model.specs.Growth.{Grows, Goes}
-use Rattle.pk_model.specs.Crashes.{CrashFinds, background}
-use Rattle.pk_model.specs.Wear.{roots}
-use Rattle.pk_gc.specs.declared.course.Course.{Course}
-use Rattle.pk_gc.specs.declared.course.Phase.{Phase}
-use Rattle.pk_gc.specs.declared.course.Phase.TheVariants.{Copies, Commits}
-use Rattle.pk_gc.specs.declared.reclaimed.Reclaimed.{Reclaimed}
+use Rattle.pk_model.{specs.Found.Found, specs.Growth.Grows, specs.Growth.Goes, specs.Crashes.CrashFinds, specs.Crashes.background, specs.Wear.roots}
+use Rattle.pk_gc.{specs.declared.course.Course.Course, specs.declared.course.Phase.Phase, specs.declared.course.Phase.TheVariants.Copies, specs.declared.course.Phase.TheVariants.Commits}
+use Rattle.pk_gc.{specs.declared.reclaimed.Reclaimed.Reclaimed, specs.Standing.held_blocks, specs.Stepping.runs_in}
 use Rattle.pk_gc.specs.declared.reclaimed.Reclaimed.TheVariants.{Worked, NeedsFreeze, Ended}
-use Rattle.pk_gc.specs.Standing.{held_blocks}
-use Rattle.pk_gc.specs.Stepping.{runs_in}
 use Rattle.pk_values.specs.State.{ValuesState}
 use Rattle.pk_log.specs.State.{LogState}
 use Rattle.pk_reclaim.specs.Space.{ReclaimParts, HalfIn, HasRoom as HasSpace, MayReclaim}
-use Rattle.pk_reclaim.specs.Steps as steps
 use Rattle.pk_reclaim.specs.Steps.{MakesWhole, PairIn, RoomIn, RoomBehind, RepeatsIn, StillIn, KeepsLog, with_newest}
-use Rattle.pk_parts.specs.Parts.{Parts, commits_in, settled_parts, block_if_open, sight_of}
-use Rattle.pk_parts.specs.Agreeing.{DriveOnFlashWith, IsHalfCommit}
-use Rattle.pk_parts.specs.Moves.{StandsBetween, MayCommit}
-use Rattle.pk_background.specs.Pairing.{Finished, FinishesCommit, FinishesCommitOr}
-use Rattle.pk_background.specs.Reclaiming.{RunsOn, space_of}
-use Rattle.pk_parts.specs.Staying.{Stays}
-use Rattle.pk_background.proofs.Finishing.{maps_same}
-use Rattle.pk_parts.proofs.Halves.{commit_of, with_whole}
+use Rattle.pk_reclaim.specs.Steps as steps
+use Rattle.pk_parts.{specs.Parts.Parts, specs.Parts.commits_in, specs.Parts.settled_parts, specs.Parts.block_if_open, specs.Parts.sight_of, specs.Moves.StandsBetween, specs.Moves.MayCommit}
+use Rattle.pk_parts.{specs.Agreeing.DriveOnFlashWith, specs.Agreeing.IsHalfCommit, specs.Staying.Stays, proofs.Halves.commit_of, proofs.Halves.with_whole, proofs.Standing.found_between}
+use Rattle.pk_background.{specs.Pairing.Finished, specs.Pairing.FinishesCommit, specs.Pairing.FinishesCommitOr, specs.Reclaiming.RunsOn, specs.Reclaiming.space_of, proofs.Finishing.maps_same}
 use Rattle.pk_background.proofs.Reclaimed.{over_space, space_stands, drive_moved, settles_then, leaves_index}
 use Rattle.pk_background.proofs.ReclaimWork.{worked_less}
-use Rattle.pk_parts.proofs.Standing.{found_between}
 
 -- The commit is half made: the drive matches on its own shape, for the map of the flash.
 pub record CommitHere (d : Parts) (flash : Flash) (m : Map) : Type 0 where

@@ -1,51 +1,29 @@
 -- A background step that reads a page into a frame.
-use Rattle.std.proofs.Common.{◌≡◌, inl, inr, ℕ, zero, suc, ◌+◌, ◌-◌, ◌<◌, ◌≤◌, refl, sym, ap, subst, ◌∙◌, arith, Bool, true, false, if◌then◌else◌, nat_le, List, [], ◌∷◌, ◌++◌, length, length-set, map, sum, slice_get, slice_set, Option, Some, Ok}
-use Rattle.std.specs.Prelude.{not, slice_index_or, ◌==◌}
-use Rattle.std.specs.List.{AllByRecursion}
-use Rattle.std.proofs.lemmas.Bool.{cases_lt, eqb-true, eq-eqb}
+use Rattle.std.proofs.Common.{◌≡◌, inl, inr, ℕ, zero, suc, ◌+◌, ◌-◌, ◌<◌, ◌≤◌, refl, sym, ap, subst, ◌∙◌, arith, Bool, true, false, if◌then◌else◌, nat_le, List, [], ◌∷◌, ◌++◌, length, length-set, map}
+use Rattle.std.proofs.Common.{sum, slice_get, slice_set, Option, Some, Ok}
+use Rattle.std.{specs.Prelude.not, specs.Prelude.slice_index_or, specs.Prelude.◌==◌, specs.List.AllByRecursion, proofs.lemmas.Bool.cases_lt, proofs.lemmas.Bool.eqb-true, proofs.lemmas.Bool.eq-eqb}
 use Rattle.std.proofs.lemmas.Option.{slice_get-get_or}
-use Rattle.pk_base.specs.Shape.{Shape, cap, caps}
-use Rattle.pk_base.specs.Page.{Flash, page_at}
-use Rattle.pk_base.specs.Entry.{Entry}
+use Rattle.pk_base.{specs.Shape.Shape, specs.Shape.cap, specs.Shape.caps, specs.Page.Flash, specs.Page.page_at, specs.Entry.Entry, proofs.Logic.not_both}
 use Rattle.pk_rootfmt.specs.Root.{Root}
-use Rattle.pk_nand.specs.BoardState.{BoardState}
-use Rattle.pk_nand.specs.Calls.{IsReady}
-use Rattle.pk_nand.specs.Effects.{AtMostOneCall, OnlyFlash, OnlyReading, made_read}
-use Rattle.pk_nand.specs.Operations.{ReadFailed, after_read}
-use Rattle.pk_nand.proofs.Reaching.{Reached-start}
+use Rattle.pk_nand.{specs.BoardState.BoardState, specs.Calls.IsReady, specs.Effects.AtMostOneCall, specs.Effects.OnlyFlash, specs.Effects.OnlyReading, specs.Effects.made_read}
+use Rattle.pk_nand.{specs.Operations.ReadFailed, specs.Operations.after_read, proofs.Reaching.Reached-start}
 use Rattle.pk_pin.specs.Frames.{Frames, filled, leased}
 use Rattle.pk_run.specs.Kept.{Kept, IsKept, empty, is_pinned}
 use Rattle.pk_level.specs.Levels.{Levels, IsLevels, IsOfLevel, AreOfLevels, HaveBlocks, RunsOnFlash, run_of, with_run}
 use Rattle.pk_level.specs.Arenas.{FillsOne, HasArena, last_level, unfilled, unfilled_from}
 use Rattle.pk_level.proofs.Filling.{framed_blocks, framed_counts, got_of}
-use Rattle.pk_model.specs.Found.{Found}
-use Rattle.pk_model.specs.Crashes.{CrashFinds, background}
-use Rattle.pk_model.specs.Reading.{reading}
-use Rattle.pk_model.specs.Wear.{roots}
-use Rattle.pk_law_work.specs.Backlog.{Backlog}
-use Rattle.pk_law_work.specs.Work.{work}
-use Rattle.pk_law_work.proofs.Lowering.{fills}
-use Rattle.pk_schedule.specs.declared.phase.Phase.{Phase}
+use Rattle.pk_model.{specs.Found.Found, specs.Crashes.CrashFinds, specs.Crashes.background, specs.Reading.reading, specs.Wear.roots}
+use Rattle.pk_law_work.{specs.Backlog.Backlog, specs.Work.work, proofs.Lowering.fills}
+use Rattle.pk_schedule.{specs.declared.phase.Phase.Phase, specs.Index.Index, specs.Index.IndexOnFlash, specs.Index.MergeStands, specs.Index.merging, specs.Index.output, proofs.Backlogs.four}
 use Rattle.pk_schedule.specs.declared.phase.Phase.TheVariants.{Idle as NoMerge, Running, Ready}
-use Rattle.pk_schedule.specs.Index.{Index, IndexOnFlash, MergeStands, merging, output}
-use Rattle.pk_schedule.specs.Steps.{backlog_of as backlog_of_index, has_no_merge, is_between, merge_left}
-use Rattle.pk_schedule.proofs.Backlogs.{four}
-use Rattle.pk_schedule.proofs.Keeping.{idle_leases}
+use Rattle.pk_schedule.{specs.Steps.backlog_of as backlog_of_index, specs.Steps.has_no_merge, specs.Steps.is_between, specs.Steps.merge_left, proofs.Keeping.idle_leases}
 use Rattle.pk_call.specs.declared.types.Ticked.TheVariants.{Worked, Fault}
-use Rattle.pk_parts.specs.Parts.{Parts, backlog_of, frames_of, index_of, is_half, sight_of}
-use Rattle.pk_parts.specs.Agreeing.{DriveOnFlashWith}
-use Rattle.pk_parts.specs.Moves.{StandsFor}
-use Rattle.pk_parts.specs.Staying.{Stays}
-use Rattle.pk_parts.proofs.Halves.{between, whole_like}
-use Rattle.pk_parts.proofs.Holding.{filled_held, held_filled, last_few, last_seen}
-use Rattle.pk_parts.proofs.Standing.{reads_as}
-use Rattle.pk_parts.proofs.Staying.{stays_frees, stays_same}
-use Rattle.pk_parts.proofs.Unchanging.{agrees_ready}
-use Rattle.pk_background.specs.Filling.{FillsSpare, lacks_frames}
-use Rattle.pk_background.specs.Ticking.{MayTick, Advances}
+use Rattle.pk_parts.{specs.Parts.Parts, specs.Parts.backlog_of, specs.Parts.frames_of, specs.Parts.index_of, specs.Parts.is_half, specs.Parts.sight_of, specs.Agreeing.DriveOnFlashWith}
+use Rattle.pk_parts.{specs.Moves.StandsFor, specs.Staying.Stays, proofs.Halves.between, proofs.Halves.whole_like, proofs.Standing.reads_as, proofs.Staying.stays_frees, proofs.Staying.stays_same}
+use Rattle.pk_parts.{proofs.Holding.filled_held, proofs.Holding.held_filled, proofs.Holding.last_few, proofs.Holding.last_seen, proofs.Unchanging.agrees_ready}
+use Rattle.pk_background.{specs.Filling.FillsSpare, specs.Filling.lacks_frames, specs.Ticking.MayTick, specs.Ticking.Advances}
 use Rattle.pk_background.proofs.Ticking.{between_merges, busy_unfilled, no_merge_is, yes_no}
 use Rattle.pk_background.proofs.TickSteps.{its_whole, made_advances, read_grows, unread_advances}
-use Rattle.pk_base.proofs.Logic.{not_both}
 
 -- ---- whether a page lacks a frame
 

@@ -1,46 +1,26 @@
 -- The second program of the newest root, stated for the drive.
 use Rattle.std.proofs.Common.{◌≡◌, inl, inr, ℕ, ◌-◌, ◌/◌, ◌≤◌, refl, sym, ap, subst, ◌∙◌, true, List, [], length, Result, Ok, Err}
 use Rattle.std.specs.Prelude.{OnOk, OnErr, IfErr}
-use Rattle.pk_base.specs.Shape.{Shape}
-use Rattle.pk_base.specs.Page.{Flash}
-use Rattle.pk_base.specs.Entry.{Entry}
-use Rattle.pk_base.specs.Map.{Map}
-use Rattle.pk_base.specs.Refusal.{Refusal}
+use Rattle.pk_base.{specs.Shape.Shape, specs.Page.Flash, specs.Entry.Entry, specs.Map.Map, specs.Refusal.Refusal}
 use Rattle.pk_plan.specs.declared.owner.Owner.TheVariants.{Values}
 use Rattle.pk_rootfmt.specs.Root.{Root}
 use Rattle.pk_root.specs.Installing.{repeats_next}
-use Rattle.pk_nand.specs.declared.types.Fault.{Fault}
-use Rattle.pk_nand.specs.declared.types.Fault.TheVariants.{Stopped}
-use Rattle.pk_nand.specs.BoardState.{BoardState}
-use Rattle.pk_nand.specs.Calls.{IsReady}
+use Rattle.pk_nand.{specs.declared.types.Fault.Fault, specs.declared.types.Fault.TheVariants.Stopped, specs.BoardState.BoardState, specs.Calls.IsReady, proofs.Writing.shape_is}
 use Rattle.pk_nand.specs.Effects.{OneProgram, Works, Stops}
-use Rattle.pk_nand.proofs.Writing.{shape_is}
 use Rattle.pk_pool.specs.Blocks.{Blocks, used_by, freed}
-use Rattle.pk_model.specs.Found.{Found}
-use Rattle.pk_model.specs.Growth.{Goes}
-use Rattle.pk_model.specs.Crashes.{CrashFinds, background}
-use Rattle.pk_model.specs.Wear.{root_number, roots}
-use Rattle.pk_law_steps.specs.Under.{IsUnder, places}
-use Rattle.pk_law_steps.proofs.Untouched.{under_reads}
+use Rattle.pk_model.{specs.Found.Found, specs.Growth.Goes, specs.Crashes.CrashFinds, specs.Crashes.background, specs.Wear.root_number, specs.Wear.roots}
+use Rattle.pk_law_steps.{specs.Under.IsUnder, specs.Under.places, proofs.Untouched.under_reads}
 use Rattle.pk_scan.specs.Used.{IsUseOf}
-use Rattle.pk_values.specs.Placed.{ValuesOnFlash}
-use Rattle.pk_values.proofs.Unchanged.{ValuesOnFlash-kept}
+use Rattle.pk_values.{specs.Placed.ValuesOnFlash, proofs.Unchanged.ValuesOnFlash-kept}
 use Rattle.pk_gc.specs.Standing.{ReclaimOnFlash}
 use Rattle.pk_log.specs.State.{LogState}
 use Rattle.pk_level.specs.Levels.{Levels}
 use Rattle.pk_pin.specs.Frames.{Frames}
-use Rattle.pk_schedule.specs.Index.{Index, index}
-use Rattle.pk_schedule.specs.Steps.{KeepsActive, MaySettle, IndexSettles, Settles, SettleBreaks}
-use Rattle.pk_parts.specs.Parts.{Parts, frames_of, index_of, outputs_of, settled_parts}
-use Rattle.pk_parts.specs.Agreeing.{DriveOnFlashWith, IsWhole, IsHalfRoot}
-use Rattle.pk_parts.specs.Moves.{StandsBetween, MayCommit}
-use Rattle.pk_background.specs.Pairing.{Finished, FinishesRoot, FinishesRootOr}
-use Rattle.pk_parts.specs.Staying.{Stays}
-use Rattle.pk_parts.proofs.Halves.{root_of}
-use Rattle.pk_parts.proofs.Reclaiming.{reclaim_elsewhere}
-use Rattle.pk_background.proofs.Remaining.{merge_less}
-use Rattle.pk_parts.proofs.Standing.{found_between}
-use Rattle.pk_parts.proofs.Unchanging.{same_ok}
+use Rattle.pk_schedule.{specs.Index.Index, specs.Index.index, specs.Steps.KeepsActive, specs.Steps.MaySettle, specs.Steps.IndexSettles, specs.Steps.Settles, specs.Steps.SettleBreaks}
+use Rattle.pk_parts.{specs.Parts.Parts, specs.Parts.frames_of, specs.Parts.index_of, specs.Parts.outputs_of, specs.Parts.settled_parts, specs.Moves.StandsBetween, specs.Moves.MayCommit}
+use Rattle.pk_parts.{specs.Agreeing.DriveOnFlashWith, specs.Agreeing.IsWhole, specs.Agreeing.IsHalfRoot, specs.Staying.Stays, proofs.Halves.root_of, proofs.Reclaiming.reclaim_elsewhere}
+use Rattle.pk_parts.{proofs.Standing.found_between, proofs.Unchanging.same_ok}
+use Rattle.pk_background.{specs.Pairing.Finished, specs.Pairing.FinishesRoot, specs.Pairing.FinishesRootOr, proofs.Remaining.merge_less}
 
 -- ---- with nothing pending the flash has the map of the drive
 

@@ -1,13 +1,10 @@
 -- A log with an empty buffer and a fresh epoch has room for any key.
 use Rattle.std.proofs.Common.{◌≡◌, ℕ, ◌<◌, Bool, true, false, ◌&&◌, ◌==◌, [], length, arith, refl}
 use Rattle.std.proofs.lemmas.Bool.Decides.{nat_tests}
-use Rattle.pk_base.specs.Key.{Key}
-use Rattle.pk_base.specs.Shape.{Shape, IsShape, buffer, epoch_commits}
-use Rattle.pk_base.proofs.ShapeLemmas.{block_pages_positive}
+use Rattle.pk_base.{specs.Key.Key, specs.Shape.Shape, specs.Shape.IsShape, specs.Shape.buffer, specs.Shape.epoch_commits, proofs.ShapeLemmas.block_pages_positive, proofs.ZeroLemmas.some_is_not_zero}
 use Rattle.pk_law_work.specs.Backlog.{is_tight}
 use Rattle.pk_jrn.specs.Epochs.{left_of}
 use Rattle.pk_log.specs.State.{LogState, needs_freeze}
-use Rattle.pk_base.proofs.ZeroLemmas.{some_is_not_zero}
 
 not_same : (n : ℕ) → 0 < n → (0 == n) ≡ false
 not_same n more = grind (arith, nat_tests)

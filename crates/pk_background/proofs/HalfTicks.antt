@@ -1,18 +1,12 @@
 -- A background step that makes the second program of a pair, by the drive and its board.
 use Rattle.std.proofs.Common.{◌≡◌, inl, refl, ap, ◌∙◌, arith, true}
-use Rattle.pk_nand.specs.BoardState.{BoardState}
-use Rattle.pk_nand.specs.Effects.{AtMostOneCall, OneProgram, made_program}
+use Rattle.pk_nand.{specs.BoardState.BoardState, specs.Effects.AtMostOneCall, specs.Effects.OneProgram, specs.Effects.made_program}
 use Rattle.pk_pool.specs.Blocks.{IsShared}
 use Rattle.pk_log.specs.State.{LogState}
 use Rattle.pk_call.specs.declared.types.Ticked.TheVariants.{Worked, Fault}
-use Rattle.pk_parts.specs.Parts.{Parts, frames_of, is_half}
-use Rattle.pk_background.specs.Pairing.{MayFinishHalf, FinishesHalf, FailsToFinish}
-use Rattle.pk_background.specs.Ticking.{MayTick, Advances}
-use Rattle.pk_parts.proofs.Halves.{with_settled, is_whole}
-use Rattle.pk_parts.proofs.Staying.{stays_frees}
+use Rattle.pk_parts.{specs.Parts.Parts, specs.Parts.frames_of, specs.Parts.is_half, proofs.Halves.with_settled, proofs.Halves.is_whole, proofs.Staying.stays_frees, proofs.Unchanging.agrees_ready}
+use Rattle.pk_background.{specs.Pairing.MayFinishHalf, specs.Pairing.FinishesHalf, specs.Pairing.FailsToFinish, specs.Ticking.MayTick, specs.Ticking.Advances, proofs.Ticking.busy_half}
 use Rattle.pk_background.proofs.TickSteps.{its_stand, made_advances, stop_advances}
-use Rattle.pk_background.proofs.Ticking.{busy_half}
-use Rattle.pk_parts.proofs.Unchanging.{agrees_ready}
 
 -- one program is one flash operation
 program_calls : (old new : BoardState) → OneProgram old new → AtMostOneCall old new

@@ -1,14 +1,9 @@
 -- What was done by steps of which one failed, when the drive is stopped if it has to be.
 use Rattle.std.proofs.Common.{◌≡◌, ℕ, sym, ap, subst, ◌∙◌, Err}
 use Rattle.pk_base.specs.Shape.{Shape}
-use Rattle.pk_nand.specs.declared.types.Fault.{Fault}
-use Rattle.pk_nand.specs.declared.types.Fault.TheVariants.{Reading, Stopped}
-use Rattle.pk_nand.specs.BoardState.{BoardState}
-use Rattle.pk_parts.specs.Parts.{Parts}
-use Rattle.pk_background.specs.Emptying.{Came, StepOrRead, OnRunning}
-use Rattle.pk_background.specs.Pairing.{FinishesOr}
-use Rattle.pk_parts.specs.Stopping.{failed_by}
-use Rattle.pk_parts.proofs.Stopping.{breaks_off}
+use Rattle.pk_nand.{specs.declared.types.Fault.Fault, specs.declared.types.Fault.TheVariants.Reading, specs.declared.types.Fault.TheVariants.Stopped, specs.BoardState.BoardState}
+use Rattle.pk_parts.{specs.Parts.Parts, specs.Stopping.failed_by, proofs.Stopping.breaks_off}
+use Rattle.pk_background.{specs.Emptying.Came, specs.Emptying.StepOrRead, specs.Emptying.OnRunning, specs.Pairing.FinishesOr}
 
 module _ (f r : Fault) (d e : Parts) (same : r ≡ f) (rest : e ≡ failed_by d f) where
   -- what holds of a drive that runs on

@@ -1,24 +1,17 @@
 -- A step of the jobs moves the index of a drive, and leaves its values where they are.
 use Rattle.std.proofs.Common.{◌≡◌, inl, inr, ℕ, ◌/◌, ◌<◌, sym, ap, subst, ◌∙◌, false, List, [], length}
-use Rattle.pk_base.specs.Entry.{Entry, Place}
-use Rattle.pk_base.specs.Key.{Key}
-use Rattle.pk_base.specs.Page.{Flash}
-use Rattle.pk_base.specs.Map.{Map}
+use Rattle.pk_base.{specs.Entry.Entry, specs.Entry.Place, specs.Key.Key, specs.Page.Flash, specs.Map.Map}
 use Rattle.pk_rootfmt.specs.Root.{Root}
-use Rattle.pk_nand.specs.BoardState.{BoardState}
-use Rattle.pk_nand.specs.Calls.{IsReady}
+use Rattle.pk_nand.{specs.BoardState.BoardState, specs.Calls.IsReady}
 use Rattle.pk_model.specs.Found.{Found}
 use Rattle.pk_law_steps.specs.Under.{IsUnder, IsValuePage, places}
 use Rattle.pk_scan.specs.Used.{IsUseOf}
-use Rattle.pk_values.specs.Placed.{ValuesOnFlash}
-use Rattle.pk_values.proofs.Unchanged.{ValuesOnFlash-kept}
+use Rattle.pk_values.{specs.Placed.ValuesOnFlash, proofs.Unchanged.ValuesOnFlash-kept}
 use Rattle.pk_pool.specs.Blocks.{Blocks, freed}
-use Rattle.pk_schedule.specs.Index.{Index, IndexOnFlash, IsSettled, settled}
-use Rattle.pk_schedule.specs.Steps.{MayWork, IndexMoves}
+use Rattle.pk_schedule.{specs.Index.Index, specs.Index.IndexOnFlash, specs.Index.IsSettled, specs.Index.settled, specs.Steps.MayWork, specs.Steps.IndexMoves}
 use Rattle.pk_gc.specs.Standing.{ReclaimOnFlash}
-use Rattle.pk_parts.specs.Parts.{Parts, frames_of, index_of, outputs_of, settled_parts}
+use Rattle.pk_parts.{specs.Parts.Parts, specs.Parts.frames_of, specs.Parts.index_of, specs.Parts.outputs_of, specs.Parts.settled_parts, proofs.Reclaiming.reclaim_elsewhere}
 use Rattle.pk_parts.specs.Agreeing.{DriveOnFlashWith, IsWhole, IsHalfAtMost}
-use Rattle.pk_parts.proofs.Reclaiming.{reclaim_elsewhere}
 
 -- the drive with another index
 abbrev pub with_index : Parts → Index → Parts

@@ -1,54 +1,32 @@
 -- Steps of merges and of a freeze inside a command: each keeps the map.
 use Rattle.std.proofs.Common.{◌≡◌, ◌⊎◌, inl, inr, ℕ, zero, suc, ◌+◌, ◌-◌, ◌<◌, ◌≤◌, refl, sym, ap, subst, ◌∙◌, arith, Bool, true, false, List, [], length, Option, Some, None, Result, Ok, Err}
 use Rattle.std.specs.Prelude.{IfSome, OnOk, OnErr}
-use Rattle.pk_base.specs.Shape.{Shape}
-use Rattle.pk_base.specs.Page.{Flash, page_at}
-use Rattle.pk_base.specs.Map.{Map}
-use Rattle.pk_nand.specs.declared.types.Fault.{Fault}
-use Rattle.pk_nand.specs.declared.types.Fault.TheVariants.{Reading, Stopped}
-use Rattle.pk_nand.specs.BoardState.{BoardState}
-use Rattle.pk_nand.specs.Calls.{IsReady, Rose, last_count}
+use Rattle.pk_base.{specs.Shape.Shape, specs.Page.Flash, specs.Page.page_at, specs.Map.Map}
+use Rattle.pk_nand.{specs.declared.types.Fault.Fault, specs.declared.types.Fault.TheVariants.Reading, specs.declared.types.Fault.TheVariants.Stopped, specs.BoardState.BoardState}
+use Rattle.pk_nand.{specs.Calls.IsReady, specs.Calls.Rose, specs.Calls.last_count, proofs.Reaching.Reached-start, proofs.Writing.shape_is}
 use Rattle.pk_nand.specs.Effects.{AtMostOneCall, NoFault, OnlyFlash, OnlyReading, Works, Stops, made_no_call, made_read, made_program, made_erase}
-use Rattle.pk_nand.proofs.Reaching.{Reached-start}
-use Rattle.pk_nand.proofs.Writing.{shape_is}
-use Rattle.pk_rootfmt.specs.Root.{Root}
-use Rattle.pk_rootfmt.specs.Newest.{newest_root}
-use Rattle.pk_model.specs.Found.{Found}
-use Rattle.pk_model.specs.Reading.{reading}
-use Rattle.pk_model.specs.Growth.{Grows, Goes}
-use Rattle.pk_model.specs.Crashes.{CrashFinds, background, commit}
-use Rattle.pk_model.specs.Wear.{root_number, roots}
-use Rattle.pk_model.proofs.Growing.{weaken, weaken_went}
-use Rattle.pk_law_steps.specs.Under.{places}
-use Rattle.pk_law_steps.proofs.Untouched.{under_reads}
-use Rattle.pk_root.specs.declared.next.Next.{Next}
-use Rattle.pk_root.specs.declared.next.Next.TheVariants.{Erase, Program, Again}
+use Rattle.pk_rootfmt.{specs.Root.Root, specs.Newest.newest_root}
+use Rattle.pk_model.{specs.Found.Found, specs.Reading.reading, specs.Growth.Grows, specs.Growth.Goes, specs.Crashes.CrashFinds, specs.Crashes.background, specs.Crashes.commit}
+use Rattle.pk_model.{specs.Wear.root_number, specs.Wear.roots, proofs.Growing.weaken, proofs.Growing.weaken_went}
+use Rattle.pk_law_steps.{specs.Under.places, proofs.Untouched.under_reads}
+use Rattle.pk_root.{specs.declared.next.Next.Next, specs.declared.next.Next.TheVariants.Erase, specs.declared.next.Next.TheVariants.Program, specs.declared.next.Next.TheVariants.Again}
 use Rattle.pk_root.specs.Installing.{repeats_next}
 use Rattle.pk_plan.specs.declared.owner.Owner.TheVariants.{Values}
 use Rattle.pk_pool.specs.Blocks.{used_by}
 use Rattle.pk_compact.specs.FreezeSteps.{install_steps}
-use Rattle.pk_schedule.specs.declared.phase.Phase.{Phase}
-use Rattle.pk_schedule.specs.declared.phase.Phase.TheVariants.{Idle as Between, Running, Ready}
-use Rattle.pk_schedule.specs.declared.phase.Stepped.{Stepped}
-use Rattle.pk_schedule.specs.declared.phase.Stepped.TheVariants.{Worked, Idle}
+use Rattle.pk_schedule.{specs.declared.phase.Phase.Phase, specs.declared.phase.Stepped.Stepped, specs.declared.phase.Stepped.TheVariants.Worked, specs.declared.phase.Stepped.TheVariants.Idle}
+use Rattle.pk_schedule.{specs.declared.phase.Phase.TheVariants.Idle as Between, specs.declared.phase.Phase.TheVariants.Running, specs.declared.phase.Phase.TheVariants.Ready, proofs.Backlogs.some_due}
 use Rattle.pk_schedule.specs.Index.{Index, IndexOnFlash, settled}
 use Rattle.pk_schedule.specs.Steps.{MayWork, MayFreeze, IndexMoves, Moves, Unmoved, StandsStill, Breaks, KeepsActive, FreezeMoves, Freezes, FreezeBreaks, Less, LessIsLeft, backlog_of, merge_left}
 use Rattle.pk_schedule.specs.Steps.{has_no_merge, is_between}
 use Rattle.pk_log.specs.State.{LogState}
 use Rattle.pk_jrn.specs.Epochs.{JournalEpoch}
-use Rattle.pk_law_work.specs.Backlog.{due_level}
-use Rattle.pk_law_work.specs.Work.{merging_left, merging_from}
-use Rattle.pk_schedule.proofs.Backlogs.{some_due}
-use Rattle.pk_parts.specs.Parts.{Parts, frames_of, index_of, outputs_of}
-use Rattle.pk_parts.specs.Agreeing.{DriveOnFlashWith}
+use Rattle.pk_law_work.{specs.Backlog.due_level, specs.Work.merging_left, specs.Work.merging_from}
+use Rattle.pk_parts.{specs.Parts.Parts, specs.Parts.frames_of, specs.Parts.index_of, specs.Parts.outputs_of, specs.Agreeing.DriveOnFlashWith, specs.Staying.Stays, proofs.Standing.same_found}
 use Rattle.pk_parts.specs.Moves.{StandsFor, Keeps, KeepsAll, KeepsBetween, KeepsAllBetween, BreaksAll, LeavesValues}
+use Rattle.pk_parts.{proofs.Halves.counted_index, proofs.Halves.whole_like, proofs.Keeping.KeepsAll-none, proofs.Keeping.keeps_between, proofs.Staying.stays_same}
 use Rattle.pk_background.specs.Reclaiming.{ReclaimHolds, HoldsAll, FailsAll}
 use Rattle.pk_background.specs.Emptying.{Came, ReadsUpTo, OnRunning, MayEmpty, MergesOnce, FreezesOnce, merges_left, merges_due}
-use Rattle.pk_parts.specs.Staying.{Stays}
-use Rattle.pk_parts.proofs.Standing.{same_found}
-use Rattle.pk_parts.proofs.Halves.{counted_index, whole_like}
-use Rattle.pk_parts.proofs.Keeping.{KeepsAll-none, keeps_between}
-use Rattle.pk_parts.proofs.Staying.{stays_same}
 use Rattle.pk_background.proofs.Indexing.{with_index, may_work as may_work_with, moved_with, moved_course}
 
 -- ---- what a step asks

@@ -1,34 +1,21 @@
 -- What one step of a merge or of a freeze does, and what a Tick promises of it.
 use Rattle.std.proofs.Common.{◌≡◌, refl, sym, ap, subst, ◌∙◌, arith, true, false, length, Result, Ok, Err}
 use Rattle.std.specs.Prelude.{IfOk, IfErr, ◌&&◌, ◌==◌}
-use Rattle.pk_base.specs.Page.{Flash}
-use Rattle.pk_nand.specs.declared.types.Fault.{Fault}
-use Rattle.pk_nand.specs.declared.types.Fault.TheVariants.{Reading, Stopped}
-use Rattle.pk_nand.specs.BoardState.{BoardState}
+use Rattle.pk_base.{specs.Page.Flash, proofs.Logic.not_both}
+use Rattle.pk_nand.{specs.declared.types.Fault.Fault, specs.declared.types.Fault.TheVariants.Reading, specs.declared.types.Fault.TheVariants.Stopped, specs.BoardState.BoardState, specs.Calls.IsReady}
 use Rattle.pk_model.specs.Wear.{roots}
 use Rattle.pk_law_work.specs.Work.{work}
 use Rattle.pk_call.specs.declared.types.Ticked.TheVariants.{Worked as Goes, Fault as Fails}
-use Rattle.pk_schedule.specs.declared.phase.Stepped.{Stepped}
-use Rattle.pk_schedule.specs.declared.phase.Stepped.TheVariants.{Worked, Idle}
-use Rattle.pk_schedule.specs.Index.{Index}
+use Rattle.pk_schedule.{specs.declared.phase.Stepped.Stepped, specs.declared.phase.Stepped.TheVariants.Worked, specs.declared.phase.Stepped.TheVariants.Idle, specs.Index.Index}
 use Rattle.pk_schedule.specs.Steps.{Moves, Breaks, Unmoved, backlog_of as backlog_of_index, has_no_merge, is_between}
-use Rattle.pk_parts.specs.Parts.{Parts, frames_of, index_of, sight_of, backlog_of, may_freeze, is_half}
-use Rattle.pk_parts.specs.Moves.{StandsFor}
-use Rattle.pk_background.specs.Emptying.{MayEmpty, MergesOnce, FreezesOnce}
-use Rattle.pk_background.specs.Reclaiming.{FailsAll}
-use Rattle.pk_background.specs.Merging.{DoesMerge, FailsMerge, Merges, CannotMerge, FreezesOn}
-use Rattle.pk_background.specs.Ticking.{MayTick, Advances, WantsFreeze}
-use Rattle.pk_background.proofs.Indexing.{with_index}
-use Rattle.pk_parts.proofs.Unchanging.{agrees_ready}
-use Rattle.pk_parts.proofs.Staying.{stays_frees}
+use Rattle.pk_parts.{specs.Parts.Parts, specs.Parts.frames_of, specs.Parts.index_of, specs.Parts.sight_of, specs.Parts.backlog_of, specs.Parts.may_freeze, specs.Parts.is_half, specs.Moves.StandsFor}
+use Rattle.pk_parts.{proofs.Unchanging.agrees_ready, proofs.Staying.stays_frees}
+use Rattle.pk_background.{specs.Emptying.MayEmpty, specs.Emptying.MergesOnce, specs.Emptying.FreezesOnce, specs.Reclaiming.FailsAll, proofs.Indexing.with_index, proofs.Advancing.busy_merge}
+use Rattle.pk_background.{specs.Merging.DoesMerge, specs.Merging.FailsMerge, specs.Merging.Merges, specs.Merging.CannotMerge, specs.Merging.FreezesOn, proofs.Ticking.busy_wanted}
+use Rattle.pk_background.{specs.Ticking.MayTick, specs.Ticking.Advances, specs.Ticking.WantsFreeze, proofs.Remaining.merge_less, proofs.Remaining.freeze_less, proofs.Remaining.freeze_wanted}
 use Rattle.pk_background.proofs.Inside.{MergeStep, FreezeDone, number_is, may_work, moved_holds, moved_many, whole_epoch, freeze_epoch, broken_fails, still_keeps}
-use Rattle.pk_background.proofs.Remaining.{merge_less, freeze_less, freeze_wanted}
-use Rattle.pk_background.proofs.Advancing.{busy_merge}
-use Rattle.pk_background.proofs.Ticking.{busy_wanted}
-use Rattle.pk_pool.specs.Blocks.{IsShared}
-use Rattle.pk_nand.specs.Calls.{IsReady}
 use Rattle.pk_background.proofs.TickSteps.{its_whole, whole_holds, whole_fails, read_grows, made_advances, unread_advances, stop_advances}
-use Rattle.pk_base.proofs.Logic.{not_both}
+use Rattle.pk_pool.specs.Blocks.{IsShared}
 
 -- ---- made by a Tick or by a command
 

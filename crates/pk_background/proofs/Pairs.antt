@@ -1,7 +1,6 @@
 -- The second program of a pair, by what its step answered.
 use Rattle.std.proofs.Common.{◌≡◌, refl, true, false, Result, Ok, Err}
-use Rattle.pk_nand.specs.declared.types.Fault.{Fault}
-use Rattle.pk_nand.specs.BoardState.{BoardState}
+use Rattle.pk_nand.{specs.declared.types.Fault.Fault, specs.BoardState.BoardState}
 use Rattle.pk_root.specs.Installing.{repeats_next}
 use Rattle.pk_parts.specs.Parts.{Parts, commits_in}
 use Rattle.pk_background.specs.Pairing.{FinishesOr, FinishesRootOr, SettlesOr, FinishesCommitOr, CommitsOr}

@@ -2,16 +2,10 @@
 use Rattle.std.proofs.Common.{◌≡◌, ℕ, ◌+◌, ◌≤◌, refl, ◌∙◌, arith, Result, Ok, Err}
 use Rattle.std.specs.Prelude.{IfErr, OnOk}
 use Rattle.pk_base.specs.Shape.{Shape}
-use Rattle.pk_nand.specs.declared.types.Fault.{Fault}
-use Rattle.pk_nand.specs.declared.types.Fault.TheVariants.{Reading, Stopped}
-use Rattle.pk_nand.specs.BoardState.{BoardState}
-use Rattle.pk_nand.specs.Calls.{IsReady}
-use Rattle.pk_nand.specs.Effects.{OnlyFlash, NoFault}
-use Rattle.pk_model.specs.Wear.{roots}
-use Rattle.pk_model.specs.Steps.{Step}
-use Rattle.pk_model.proofs.Steps.{RootsUpTo-le}
+use Rattle.pk_nand.{specs.declared.types.Fault.Fault, specs.declared.types.Fault.TheVariants.Reading, specs.declared.types.Fault.TheVariants.Stopped, specs.BoardState.BoardState, specs.Calls.IsReady}
+use Rattle.pk_nand.{specs.Effects.OnlyFlash, specs.Effects.NoFault, proofs.Effects.only_then, proofs.Effects.rose_from}
+use Rattle.pk_model.{specs.Wear.roots, specs.Steps.Step, proofs.Steps.RootsUpTo-le}
 use Rattle.pk_background.specs.Emptying.{Unread, Halts, Came, ReadsUpTo, StepOrRead, OnRunning}
-use Rattle.pk_nand.proofs.Effects.{only_then, rose_from}
 
 -- ---- the board
 

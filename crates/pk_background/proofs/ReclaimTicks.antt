@@ -1,39 +1,22 @@
 -- A background step of a reclaim, by the drive and its board.
 use Rattle.std.proofs.Common.{◌≡◌, ◌⊎◌, inl, inr, ℕ, ◌+◌, ◌-◌, ◌<◌, ◌≤◌, refl, sym, ap, subst, ◌∙◌, arith, Bool, true, false, [], length}
-use Rattle.std.specs.Prelude.{◌&&◌, ◌==◌}
-use Rattle.std.proofs.lemmas.Bool.{eqb-true}
-use Rattle.pk_base.specs.Shape.{data_blocks}
-use Rattle.pk_base.specs.Page.{Flash}
-use Rattle.pk_base.specs.Map.{Map}
+use Rattle.std.{specs.Prelude.◌&&◌, specs.Prelude.◌==◌, proofs.lemmas.Bool.eqb-true}
+use Rattle.pk_base.{specs.Shape.data_blocks, specs.Page.Flash, specs.Map.Map, proofs.Logic.not_both}
 use Rattle.pk_plan.specs.declared.owner.Owner.TheVariants.{Values}
-use Rattle.pk_pool.specs.Blocks.{used_by}
-use Rattle.pk_nand.specs.BoardState.{BoardState}
-use Rattle.pk_nand.specs.Calls.{IsReady}
-use Rattle.pk_nand.specs.Effects.{AtMostOneCall, NoFault, OnlyFlash, Stops}
-use Rattle.pk_model.specs.Growth.{Grows}
-use Rattle.pk_model.specs.Wear.{roots}
-use Rattle.pk_call.specs.declared.types.Ticked.{Ticked}
-use Rattle.pk_call.specs.declared.types.Ticked.TheVariants.{Worked, Fault}
-use Rattle.pk_gc.specs.declared.reclaimed.Reclaimed.{Reclaimed}
-use Rattle.pk_gc.specs.declared.reclaimed.Reclaimed.TheVariants.{Worked as GoesOn, Ended}
-use Rattle.pk_gc.specs.declared.course.Phase.{Phase}
+use Rattle.pk_pool.specs.Blocks.{used_by, IsShared}
+use Rattle.pk_nand.{specs.BoardState.BoardState, specs.Calls.IsReady, specs.Effects.AtMostOneCall, specs.Effects.NoFault, specs.Effects.OnlyFlash, specs.Effects.Stops}
+use Rattle.pk_model.{specs.Growth.Grows, specs.Wear.roots}
+use Rattle.pk_call.{specs.declared.types.Ticked.Ticked, specs.declared.types.Ticked.TheVariants.Worked, specs.declared.types.Ticked.TheVariants.Fault, specs.Sight.IsIdle}
+use Rattle.pk_gc.{specs.declared.reclaimed.Reclaimed.Reclaimed, specs.declared.reclaimed.Reclaimed.TheVariants.Worked as GoesOn, specs.declared.reclaimed.Reclaimed.TheVariants.Ended}
+use Rattle.pk_gc.{specs.declared.course.Phase.Phase, specs.Standing.held_blocks, specs.Stepping.runs_in}
 use Rattle.pk_gc.specs.declared.course.Phase.TheVariants.{Idle, Copies, Commits, GivesBack}
-use Rattle.pk_gc.specs.Standing.{held_blocks}
-use Rattle.pk_gc.specs.Stepping.{runs_in}
 use Rattle.pk_schedule.specs.Steps.{has_no_merge}
 use Rattle.pk_parts.specs.Parts.{Parts, counts_of, index_of, sight_of, is_reclaim_due, may_freeze, has_moves, is_half}
-use Rattle.pk_parts.specs.Moves.{StandsFor}
+use Rattle.pk_parts.{specs.Moves.StandsFor, proofs.Unchanging.agrees_ready}
 use Rattle.pk_background.specs.Reclaiming.{MayReclaim, ReclaimHolds, Lessens, DoesReclaim, Waits, CannotRead, FailsAll, is_tight_for}
-use Rattle.pk_background.specs.Ticking.{MayTick, Advances, WantsReclaim, WantsFreeze}
-use Rattle.pk_parts.proofs.Unchanging.{agrees_ready}
-use Rattle.pk_background.proofs.SpaceSteps.{leaves_stay, unread_stays}
-use Rattle.pk_background.proofs.Stored.{blocks_between, blocks_at}
-use Rattle.pk_background.proofs.Ticking.{busy_reclaim}
-use Rattle.pk_background.proofs.ReclaimWork.{worked_less, ended_less}
+use Rattle.pk_background.{specs.Ticking.MayTick, specs.Ticking.Advances, specs.Ticking.WantsReclaim, specs.Ticking.WantsFreeze, proofs.SpaceSteps.leaves_stay, proofs.SpaceSteps.unread_stays}
+use Rattle.pk_background.{proofs.Stored.blocks_between, proofs.Stored.blocks_at, proofs.Ticking.busy_reclaim, proofs.ReclaimWork.worked_less, proofs.ReclaimWork.ended_less}
 use Rattle.pk_background.proofs.TickSteps.{its_whole, whole_fails, made_advances, unread_advances, stop_advances}
-use Rattle.pk_call.specs.Sight.{IsIdle}
-use Rattle.pk_pool.specs.Blocks.{IsShared}
-use Rattle.pk_base.proofs.Logic.{not_both}
 
 true_false : true ≡ false → ⊥
 true_false e = cc

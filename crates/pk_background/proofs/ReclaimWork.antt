@@ -1,30 +1,19 @@
 -- A step of a reclaim lowers the remaining work.
 use Rattle.std.proofs.Common.{◌≡◌, ◌⊎◌, inl, inr, ℕ, ◌+◌, ◌-◌, ◌<◌, Bool, true, false, List, length, refl, sym, ap, subst, ◌∙◌, arith, nat_le}
-use Rattle.std.specs.Prelude.{◌&&◌, ◌==◌, not}
-use Rattle.std.proofs.lemmas.Bool.{le-leb, eqb-true}
-use Rattle.pk_base.specs.Shape.{data_blocks, most_pages}
-use Rattle.pk_base.specs.Entry.{Entry}
+use Rattle.std.{specs.Prelude.◌&&◌, specs.Prelude.◌==◌, specs.Prelude.not, proofs.lemmas.Bool.le-leb, proofs.lemmas.Bool.eqb-true}
+use Rattle.pk_base.{specs.Shape.data_blocks, specs.Shape.most_pages, specs.Entry.Entry}
 use Rattle.pk_plan.specs.declared.owner.Owner.TheVariants.{Values}
-use Rattle.pk_pool.specs.Blocks.{Blocks, used_by}
-use Rattle.pk_pool.specs.Unready.{unready}
-use Rattle.pk_law_work.specs.Rest.{whole_reclaim, Lowers}
-use Rattle.pk_law_work.specs.Work.{reclaiming, reclaiming_from}
-use Rattle.pk_law_work.proofs.Lowering.{reclaims}
-use Rattle.pk_gc.specs.declared.course.Phase.{Phase}
+use Rattle.pk_pool.{specs.Blocks.Blocks, specs.Blocks.used_by, specs.Unready.unready}
+use Rattle.pk_law_work.{specs.Rest.whole_reclaim, specs.Rest.Lowers, specs.Work.reclaiming, specs.Work.reclaiming_from, proofs.Lowering.reclaims}
+use Rattle.pk_gc.{specs.declared.course.Phase.Phase, specs.Standing.held_blocks, specs.Stepping.runs_in}
 use Rattle.pk_gc.specs.declared.course.Phase.TheVariants.{Idle, Copies, Commits, GivesBack}
-use Rattle.pk_gc.specs.Standing.{held_blocks}
-use Rattle.pk_gc.specs.Stepping.{runs_in}
 use Rattle.pk_log.specs.State.{LogState}
 use Rattle.pk_values.specs.State.{fits_open}
-use Rattle.pk_schedule.specs.declared.phase.Phase.{Phase as MergePhase}
+use Rattle.pk_schedule.{specs.declared.phase.Phase.Phase as MergePhase, specs.Index.Index, specs.Steps.merge_left}
 use Rattle.pk_schedule.specs.declared.phase.Phase.TheVariants.{Idle as NoMerge, Running, Ready}
-use Rattle.pk_schedule.specs.Index.{Index}
-use Rattle.pk_schedule.specs.Steps.{merge_left}
 use Rattle.pk_parts.specs.Parts.{Parts, index_of, sight_of, counts_of, backlog_of, is_reclaim_due, reclaim_left, has_moves, may_freeze}
-use Rattle.pk_reclaim.specs.Space.{HasRoom as HasSpace}
-use Rattle.pk_reclaim.specs.Steps.{RoomBehind}
-use Rattle.pk_background.specs.Reclaiming.{LeavesIndex, RunsOn, is_tight_for, space_of}
-use Rattle.pk_background.proofs.Spacing.{FallsTo}
+use Rattle.pk_reclaim.{specs.Space.HasRoom as HasSpace, specs.Steps.RoomBehind}
+use Rattle.pk_background.{specs.Reclaiming.LeavesIndex, specs.Reclaiming.RunsOn, specs.Reclaiming.is_tight_for, specs.Reclaiming.space_of, proofs.Spacing.FallsTo}
 
 false_true : false ≡ true → ⊥
 false_true e = cc

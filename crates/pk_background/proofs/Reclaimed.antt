@@ -1,51 +1,29 @@
 -- A step of a reclaim, stated for the drive.
 use Rattle.std.proofs.Common.{◌≡◌, inl, inr, ℕ, ◌/◌, [], List, refl, sym, ◌∙◌, ap, subst, true, false, Some, Result, Ok, Err}
-use Rattle.std.specs.Prelude.{slice_get, IfOk, IfErr, ◌++◌}
-use Rattle.std.specs.List.{concat}
-use Rattle.pk_base.specs.Shape.{Shape, IsShape}
-use Rattle.pk_base.specs.Page.{Flash, IsFlash}
-use Rattle.pk_base.specs.Entry.{Entry, Place}
-use Rattle.pk_base.specs.Key.{Key}
-use Rattle.pk_base.specs.Map.{Map}
+use Rattle.std.{specs.Prelude.slice_get, specs.Prelude.IfOk, specs.Prelude.IfErr, specs.Prelude.◌++◌, specs.List.concat}
+use Rattle.pk_base.{specs.Shape.Shape, specs.Shape.IsShape, specs.Page.Flash, specs.Page.IsFlash, specs.Entry.Entry, specs.Entry.Place, specs.Key.Key, specs.Map.Map}
 use Rattle.pk_rootfmt.specs.Root.{Root}
 use Rattle.pk_plan.specs.declared.owner.Owner.TheVariants.{Journal, Meta}
-use Rattle.pk_pool.specs.declared.state.BlockState.TheVariants.{Owned}
+use Rattle.pk_pool.{specs.declared.state.BlockState.TheVariants.Owned, specs.Blocks.Blocks, specs.Blocks.NoneLeaves, specs.Blocks.PoolOnFlash}
 use Rattle.pk_root.specs.Installing.{repeats_next}
-use Rattle.pk_pool.specs.Blocks.{Blocks, NoneLeaves, PoolOnFlash}
-use Rattle.pk_nand.specs.BoardState.{BoardState}
-use Rattle.pk_nand.specs.declared.types.Fault.{Fault}
-use Rattle.pk_nand.specs.declared.types.Fault.TheVariants.{Reading, Stopped}
-use Rattle.pk_nand.specs.Effects.{Stops}
+use Rattle.pk_nand.{specs.BoardState.BoardState, specs.declared.types.Fault.Fault, specs.declared.types.Fault.TheVariants.Reading, specs.declared.types.Fault.TheVariants.Stopped, specs.Effects.Stops}
 use Rattle.pk_nand.specs.Calls.{IsReady}
-use Rattle.pk_model.specs.Found.{Found}
-use Rattle.pk_model.specs.Laws.{AnyByRecursion}
-use Rattle.pk_model.specs.Growth.{Reaches, Goes}
-use Rattle.pk_model.specs.Crashes.{CrashFinds, background}
-use Rattle.pk_model.proofs.SamePages.{any_front}
+use Rattle.pk_model.{specs.Found.Found, specs.Laws.AnyByRecursion, specs.Growth.Reaches, specs.Growth.Goes, specs.Crashes.CrashFinds, specs.Crashes.background, proofs.SamePages.any_front}
 use Rattle.pk_law_steps.specs.Under.{IsUnder, places}
-use Rattle.pk_gc.specs.Stepping.{runs_in}
-use Rattle.pk_gc.specs.Standing.{held_blocks, ReclaimOnFlash}
-use Rattle.pk_gc.specs.declared.course.Phase.{Phase}
+use Rattle.pk_gc.{specs.Stepping.runs_in, specs.Standing.held_blocks, specs.Standing.ReclaimOnFlash, specs.declared.course.Phase.Phase, specs.declared.reclaimed.Reclaimed.Reclaimed}
 use Rattle.pk_gc.specs.declared.course.Phase.TheVariants.{Idle, Copies, Commits, GivesBack}
-use Rattle.pk_gc.specs.declared.reclaimed.Reclaimed.{Reclaimed}
 use Rattle.pk_gc.specs.declared.reclaimed.Reclaimed.TheVariants.{Worked, NeedsFreeze, Ended}
 use Rattle.pk_scan.specs.Used.{IsUseOf}
-use Rattle.pk_parts.proofs.Using.{use_elsewhere}
+use Rattle.pk_parts.{proofs.Using.use_elsewhere, specs.Parts.Parts, specs.Parts.frames_of, specs.Parts.index_of, specs.Parts.outputs_of, specs.Parts.commits_in, specs.Moves.StandsFor}
+use Rattle.pk_parts.{specs.Agreeing.DriveOnFlashWith, specs.Agreeing.IsWhole, specs.Agreeing.IsHalfAtMost, proofs.Halves.with_settled, proofs.Halves.whole_like, proofs.Halves.half_in}
 use Rattle.pk_values.specs.Placed.{ValuesOnFlash}
 use Rattle.pk_merge.specs.Elsewhere.{IsElsewhere}
 use Rattle.pk_compact.specs.FreezeSteps.{IsTaken, taken_by}
-use Rattle.pk_log.specs.State.{LogState}
-use Rattle.pk_log.specs.Logs.{LogOnFlash}
-use Rattle.pk_schedule.specs.Index.{Index, IndexOnFlash, IsSettled}
-use Rattle.pk_schedule.proofs.Keeping.{KeepsTaken, index_then, member_all}
+use Rattle.pk_log.{specs.State.LogState, specs.Logs.LogOnFlash}
+use Rattle.pk_schedule.{specs.Index.Index, specs.Index.IndexOnFlash, specs.Index.IsSettled, proofs.Keeping.KeepsTaken, proofs.Keeping.index_then, proofs.Keeping.member_all}
 use Rattle.pk_reclaim.specs.Space as spaces
-use Rattle.pk_reclaim.specs.Space.{ReclaimParts, SpaceOnFlash, HalfIn}
+use Rattle.pk_reclaim.{specs.Space.ReclaimParts, specs.Space.SpaceOnFlash, specs.Space.HalfIn, specs.Steps.SpaceMoves, specs.Steps.KeepsLog, specs.Steps.KeepsOthers, specs.Steps.with_newest}
 use Rattle.pk_reclaim.specs.Steps as steps
-use Rattle.pk_reclaim.specs.Steps.{SpaceMoves, KeepsLog, KeepsOthers, with_newest}
-use Rattle.pk_parts.specs.Parts.{Parts, frames_of, index_of, outputs_of, commits_in}
-use Rattle.pk_parts.specs.Agreeing.{DriveOnFlashWith, IsWhole, IsHalfAtMost}
-use Rattle.pk_parts.specs.Moves.{StandsFor}
-use Rattle.pk_parts.proofs.Halves.{with_settled, whole_like, half_in}
 use Rattle.pk_background.specs.Reclaiming.{MayReclaim, HoldsAll, FailsAll, LeavesIndex, Lessens, RunsOn, DoesReclaim, CannotRead, FailsReclaim, space_of}
 
 -- ---- the space of a drive

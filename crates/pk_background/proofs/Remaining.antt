@@ -2,31 +2,23 @@
 use Rattle.std.proofs.Common.{◌≡◌, ◌⊎◌, inl, inr, ℕ, ◌+◌, ◌-◌, ◌<◌, ◌≤◌, refl, sym, ap, subst, ◌∙◌, arith, Bool, true, false, cond, length, Option, Some, None}
 use Rattle.std.specs.Prelude.{◌==◌, ◌&&◌, ◌||◌, if◌then◌else◌, nat_lt, is_none, map}
 use Rattle.std.proofs.lemmas.Bool.Decides.{nat_tests}
-use Rattle.pk_base.specs.Shape.{Shape, IsShape, buffer, dense, epoch_commits}
+use Rattle.pk_base.{specs.Shape.Shape, specs.Shape.IsShape, specs.Shape.buffer, specs.Shape.dense, specs.Shape.epoch_commits, proofs.ZeroLemmas.some_is_not_zero}
 use Rattle.pk_plan.specs.declared.owner.Owner.TheVariants.{Values as for_values}
-use Rattle.pk_pool.specs.Blocks.{used_by}
-use Rattle.pk_pool.specs.Unready.{unready}
+use Rattle.pk_pool.{specs.Blocks.used_by, specs.Unready.unready}
 use Rattle.pk_jrn.specs.Epochs.{left_of as pages_left}
-use Rattle.pk_law_work.specs.Backlog.{Backlog, is_tight, due_level}
-use Rattle.pk_law_work.specs.Rest.{Lowers, left_of, whole_freeze}
+use Rattle.pk_law_work.{specs.Backlog.Backlog, specs.Backlog.is_tight, specs.Backlog.due_level, specs.Rest.Lowers, specs.Rest.left_of, specs.Rest.whole_freeze}
 use Rattle.pk_law_work.specs.Work.{work, after_freeze, merging, merging_from, filling, filling_from, freezing_from, reclaiming, reclaiming_from}
 use Rattle.pk_law_work.proofs.Lowering.{freeze_moves, freeze_ends}
-use Rattle.pk_root.specs.declared.next.Next.{Next}
-use Rattle.pk_root.specs.declared.next.Next.TheVariants.{Erase, Program, Again}
+use Rattle.pk_root.{specs.declared.next.Next.Next, specs.declared.next.Next.TheVariants.Erase, specs.declared.next.Next.TheVariants.Program, specs.declared.next.Next.TheVariants.Again}
 use Rattle.pk_root.specs.Installing.{repeats_next}
-use Rattle.pk_compact.specs.declared.freezing.FreezeJob.{FreezeJob}
-use Rattle.pk_compact.specs.FreezeSteps.{taken_by, freeze_left, install_steps}
+use Rattle.pk_compact.{specs.declared.freezing.FreezeJob.FreezeJob, specs.FreezeSteps.taken_by, specs.FreezeSteps.freeze_left, specs.FreezeSteps.install_steps}
 use Rattle.pk_log.specs.State.{LogState}
 use Rattle.pk_level.specs.Arenas.{unfilled}
-use Rattle.pk_schedule.specs.declared.phase.Phase.{Phase}
-use Rattle.pk_schedule.specs.declared.phase.Phase.TheVariants.{Idle, Running, Ready}
+use Rattle.pk_schedule.{specs.declared.phase.Phase.Phase, specs.declared.phase.Phase.TheVariants.Idle, specs.declared.phase.Phase.TheVariants.Running, specs.declared.phase.Phase.TheVariants.Ready}
 use Rattle.pk_schedule.specs.Index.{Index}
 use Rattle.pk_schedule.specs.Steps.{FreezeMoves, Freezes, KeepsActive, backlog_of as backlog_of_index, merge_left, freeze_rest_of, has_no_merge, is_between}
 use Rattle.pk_parts.specs.Parts.{Parts, index_of, sight_of, backlog_of, is_reclaim_due, reclaim_left, has_moves, may_freeze}
-use Rattle.pk_background.specs.Ticking.{WantsFreeze}
-use Rattle.pk_background.proofs.Ticking.{no_merge_is, due_so}
-use Rattle.pk_background.proofs.Indexing.{with_index}
-use Rattle.pk_base.proofs.ZeroLemmas.{some_is_not_zero}
+use Rattle.pk_background.{specs.Ticking.WantsFreeze, proofs.Ticking.no_merge_is, proofs.Ticking.due_so, proofs.Indexing.with_index}
 
 false_true : false ≡ true → ⊥
 false_true e = cc

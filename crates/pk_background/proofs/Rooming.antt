@@ -1,12 +1,10 @@
 -- What a step that keeps the map leaves for the next.
 use Rattle.std.proofs.Common.{◌≡◌, ◌+◌, ◌<◌, sym, ap, subst, arith}
-use Rattle.pk_base.specs.Map.{Map}
-use Rattle.pk_base.specs.Shape.{Shape}
+use Rattle.pk_base.{specs.Map.Map, specs.Shape.Shape}
 use Rattle.pk_nand.specs.BoardState.{BoardState}
 use Rattle.pk_model.specs.Wear.{roots}
 use Rattle.pk_law_work.specs.Calls.{room_calls}
-use Rattle.pk_parts.specs.Parts.{Parts}
-use Rattle.pk_parts.specs.Moves.{StandsFor, KeepsAll}
+use Rattle.pk_parts.{specs.Parts.Parts, specs.Moves.StandsFor, specs.Moves.KeepsAll}
 
 -- the numbers of roots suffice after a step that installs none
 pub still_numbers : (a b : Parts) (old new : BoardState) → b.log.shape ≡ a.log.shape → roots new ≡ roots old

@@ -1,28 +1,14 @@
 -- Steps one after another, each of which keeps the map, but not the places of its values.
 use Rattle.std.proofs.Common.{◌≡◌, inl, inr, ℕ, ◌+◌, ◌≤◌, List, [], ◌++◌, Some, Result, Ok, Err, false, refl, sym, ap, subst, ◌∙◌, arith}
-use Rattle.pk_base.specs.Shape.{Shape}
-use Rattle.pk_base.specs.Page.{Flash}
-use Rattle.pk_base.specs.Map.{Map}
-use Rattle.pk_base.specs.Mark.{all_posted}
-use Rattle.pk_nand.specs.declared.types.Fault.{Fault}
-use Rattle.pk_nand.specs.BoardState.{BoardState}
-use Rattle.pk_nand.specs.Calls.{IsReady}
-use Rattle.pk_nand.specs.Crash.{ReachedBy}
-use Rattle.pk_nand.proofs.Reaching.{Reached-start}
-use Rattle.pk_model.specs.Reading.{reading}
-use Rattle.pk_model.specs.Growth.{Goes}
-use Rattle.pk_model.specs.Crashes.{CrashFinds, background, commit}
+use Rattle.pk_base.{specs.Shape.Shape, specs.Page.Flash, specs.Map.Map, specs.Mark.all_posted}
+use Rattle.pk_nand.{specs.declared.types.Fault.Fault, specs.BoardState.BoardState, specs.Calls.IsReady, specs.Crash.ReachedBy, proofs.Reaching.Reached-start}
+use Rattle.pk_model.{specs.Reading.reading, specs.Growth.Goes, specs.Crashes.CrashFinds, specs.Crashes.background, specs.Crashes.commit}
 use Rattle.pk_model.proofs.Growing.{Reaches-then, Goes-then, at_end, weaken, weaken_went}
 use Rattle.pk_log.specs.State.{LogState}
-use Rattle.pk_parts.specs.Parts.{Parts, is_half}
-use Rattle.pk_parts.specs.Moves.{StandsFor, MayStep, Keeps, KeepsAll, BreaksAll}
-use Rattle.pk_background.specs.Emptying.{StepOrRead, KeepsOrReads}
-use Rattle.pk_background.specs.Reclaiming.{HoldsAll, FailsAll, CannotRead}
-use Rattle.pk_background.specs.Pairing.{FinishesHalf, FailsToFinish}
-use Rattle.pk_background.specs.Spacing.{SameMap, SameMapAll, MovesOrReads, StaysSame}
-use Rattle.pk_parts.proofs.Keeping.{cut_of_both, board_has}
-use Rattle.pk_parts.proofs.Halves.{stands as whole_stands}
-use Rattle.pk_parts.proofs.Standing.{reads_as, reads_between}
+use Rattle.pk_parts.{specs.Parts.Parts, specs.Parts.is_half, specs.Moves.StandsFor, specs.Moves.MayStep, specs.Moves.Keeps, specs.Moves.KeepsAll, specs.Moves.BreaksAll}
+use Rattle.pk_parts.{proofs.Keeping.cut_of_both, proofs.Keeping.board_has, proofs.Halves.stands as whole_stands, proofs.Standing.reads_as, proofs.Standing.reads_between}
+use Rattle.pk_background.{specs.Emptying.StepOrRead, specs.Emptying.KeepsOrReads, specs.Reclaiming.HoldsAll, specs.Reclaiming.FailsAll, specs.Reclaiming.CannotRead}
+use Rattle.pk_background.{specs.Pairing.FinishesHalf, specs.Pairing.FailsToFinish, specs.Spacing.SameMap, specs.Spacing.SameMapAll, specs.Spacing.MovesOrReads, specs.Spacing.StaysSame}
 use Rattle.pk_background.proofs.ReadSteps.{Passes, passes_none, reading_passes, reading_then, reading_failed, reading_end}
 
 -- a step that leaves the values where they are

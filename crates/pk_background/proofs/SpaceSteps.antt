@@ -4,42 +4,27 @@ use Rattle.std.specs.Prelude.{◌&&◌, ◌||◌, IsOk, OnOk}
 use Rattle.pk_base.specs.Shape.{Shape, data_blocks, most_pages}
 use Rattle.pk_plan.specs.declared.owner.Owner.TheVariants.{Values}
 use Rattle.pk_pool.specs.Blocks.{used_by}
-use Rattle.pk_nand.specs.declared.types.Fault.{Fault}
-use Rattle.pk_nand.specs.declared.types.Fault.TheVariants.{Reading, Stopped}
-use Rattle.pk_nand.specs.BoardState.{BoardState}
-use Rattle.pk_nand.specs.Calls.{IsReady, last_count}
-use Rattle.pk_nand.specs.Effects.{AtMostOneCall, NoFault, OnlyFlash}
+use Rattle.pk_nand.{specs.declared.types.Fault.Fault, specs.declared.types.Fault.TheVariants.Reading, specs.declared.types.Fault.TheVariants.Stopped, specs.BoardState.BoardState}
+use Rattle.pk_nand.{specs.Calls.IsReady, specs.Calls.last_count, specs.Effects.AtMostOneCall, specs.Effects.NoFault, specs.Effects.OnlyFlash, proofs.Effects.only_then}
 use Rattle.pk_model.specs.Wear.{roots}
-use Rattle.pk_law_work.specs.Rest.{whole_freeze, whole_reclaim}
-use Rattle.pk_law_work.specs.Work.{emptying}
-use Rattle.pk_law_work.specs.Calls.{room_calls, room_roots}
-use Rattle.pk_gc.specs.declared.course.Phase.{Phase}
+use Rattle.pk_law_work.{specs.Rest.whole_freeze, specs.Rest.whole_reclaim, specs.Work.emptying, specs.Calls.room_calls, specs.Calls.room_roots}
+use Rattle.pk_gc.{specs.declared.course.Phase.Phase, specs.declared.course.Course.Course, specs.declared.reclaimed.Reclaimed.Reclaimed, specs.State.steps_left, specs.Standing.held_blocks}
 use Rattle.pk_gc.specs.declared.course.Phase.TheVariants.{Idle, Copies, Commits, GivesBack}
-use Rattle.pk_gc.specs.declared.course.Course.{Course}
-use Rattle.pk_gc.specs.declared.reclaimed.Reclaimed.{Reclaimed}
 use Rattle.pk_gc.specs.declared.reclaimed.Reclaimed.TheVariants.{Worked, NeedsFreeze, Ended}
-use Rattle.pk_gc.specs.State.{steps_left}
-use Rattle.pk_gc.specs.Standing.{held_blocks}
 use Rattle.pk_gc.specs.Stepping.{runs_in}
-use Rattle.pk_background.specs.Costs.{Spends}
-use Rattle.pk_root.specs.Installing.{repeats_next}
-use Rattle.pk_log.specs.State.{LogState}
-use Rattle.pk_parts.specs.Parts.{Parts, frames_of, commits_in, is_half}
-use Rattle.pk_parts.specs.Moves.{StandsFor, StandsBetween, MayStep, MayCommit, LeavesValues}
-use Rattle.pk_background.specs.Pairing.{FailsToFinish, FinishesCommit, FinishesCommitOr, CommitsOr}
-use Rattle.pk_background.specs.Emptying.{KeepsOrReads, OnRunning, HasRoom, ReadsUpTo}
-use Rattle.pk_parts.specs.Staying.{Stays}
+use Rattle.pk_background.{specs.Costs.Spends, specs.Pairing.FailsToFinish, specs.Pairing.FinishesCommit, specs.Pairing.FinishesCommitOr, specs.Pairing.CommitsOr, proofs.Inside.one_call}
+use Rattle.pk_background.{specs.Emptying.KeepsOrReads, specs.Emptying.OnRunning, specs.Emptying.HasRoom, specs.Emptying.ReadsUpTo, proofs.Whole.none_then, proofs.Whole.halts_then}
 use Rattle.pk_background.specs.Reclaiming.{MayReclaim, Lessens, LeavesIndex, RunsOn, DoesReclaim, Waits, CannotRead, FailsReclaim, is_tight_for}
 use Rattle.pk_background.specs.Spacing.{MovesOrReads, StaysSame, where_so, needs, has_moves, space_left, space_roots, Awaits, MaySpace, SpacesOnce}
-use Rattle.pk_call.specs.Calling.{FewCalls}
-use Rattle.pk_parts.proofs.Halves.{not_made}
 use Rattle.pk_background.proofs.Callings.{few_none, few_one, few_program, few_within, few_then, spends_still, spends_within}
-use Rattle.pk_background.proofs.Inside.{one_call}
 use Rattle.pk_background.proofs.SameMaps.{same_held, same_finished, breaks_finished, same_unread, breaks_failed, moves_kept, moves_later, moves_within, moves_none, may_moved, passes_moved, stays_none}
 use Rattle.pk_background.proofs.SameMaps.{stays_both}
-use Rattle.pk_background.proofs.Whole.{none_then, halts_then}
 use Rattle.pk_background.proofs.Spacing.{left_at, roots_at, AwaitsAt, works_less, works_roots, ends_less, ends_roots}
-use Rattle.pk_nand.proofs.Effects.{only_then}
+use Rattle.pk_root.specs.Installing.{repeats_next}
+use Rattle.pk_log.specs.State.{LogState}
+use Rattle.pk_parts.{specs.Parts.Parts, specs.Parts.frames_of, specs.Parts.commits_in, specs.Parts.is_half, specs.Staying.Stays, proofs.Halves.not_made}
+use Rattle.pk_parts.specs.Moves.{StandsFor, StandsBetween, MayStep, MayCommit, LeavesValues}
+use Rattle.pk_call.specs.Calling.{FewCalls}
 
 true_false : true ≡ false → ⊥
 true_false e = cc

@@ -1,23 +1,16 @@
 -- What remains of the reclaims inside a Store, and how one of their steps lowers it.
 use Rattle.std.proofs.Common.{◌≡◌, ◌⊎◌, inl, inr, ℕ, ◌+◌, ◌-◌, ◌≤◌, Bool, true, false, refl, sym, ap, subst, ◌∙◌, arith, nat_le}
-use Rattle.std.specs.Prelude.{◌&&◌, not}
-use Rattle.std.proofs.lemmas.Bool.{le-leb}
+use Rattle.std.{specs.Prelude.◌&&◌, specs.Prelude.not, specs.Prelude.unwrap_or, proofs.lemmas.Bool.le-leb}
 use Rattle.pk_base.specs.Shape.{Shape, data_blocks, most_pages}
 use Rattle.pk_plan.specs.declared.owner.Owner.TheVariants.{Values}
-use Rattle.pk_pool.specs.Blocks.{used_by}
-use Rattle.pk_pool.specs.Unready.{unready}
-use Rattle.pk_law_work.specs.Rest.{whole_reclaim, left_of, Lowers}
-use Rattle.pk_law_work.specs.Calls.{room_calls, room_roots}
-use Rattle.std.specs.Prelude.{unwrap_or}
-use Rattle.pk_gc.specs.declared.course.Phase.{Phase}
+use Rattle.pk_pool.{specs.Blocks.used_by, specs.Unready.unready}
+use Rattle.pk_law_work.{specs.Rest.whole_reclaim, specs.Rest.left_of, specs.Rest.Lowers, specs.Calls.room_calls, specs.Calls.room_roots}
+use Rattle.pk_gc.{specs.declared.course.Phase.Phase, specs.State.left_in, specs.Stepping.runs_in}
 use Rattle.pk_gc.specs.declared.course.Phase.TheVariants.{Idle, Copies, Commits, GivesBack}
-use Rattle.pk_gc.specs.State.{left_in}
-use Rattle.pk_gc.specs.Stepping.{runs_in}
 use Rattle.pk_log.specs.State.{LogState}
 use Rattle.pk_values.specs.State.{fits_open, needs_reclaim}
 use Rattle.pk_parts.specs.Parts.{Parts}
-use Rattle.pk_reclaim.specs.Space.{HasRoom as HasSpace}
-use Rattle.pk_reclaim.specs.Steps.{RoomBehind}
+use Rattle.pk_reclaim.{specs.Space.HasRoom as HasSpace, specs.Steps.RoomBehind}
 use Rattle.pk_background.specs.Reclaiming.{RunsOn, is_tight_for, space_of}
 use Rattle.pk_background.specs.Spacing.{where_so, needs, steps_for, has_moves}
 

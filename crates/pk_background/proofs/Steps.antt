@@ -1,14 +1,9 @@
 -- Steps inside a command: one after another, and what one that was interrupted leaves.
 use Rattle.std.proofs.Common.{◌≡◌, ℕ, ◌+◌, ◌≤◌, refl, sym, ap, subst, ◌∙◌, Result, Ok}
 use Rattle.pk_base.specs.Shape.{Shape}
-use Rattle.pk_nand.specs.declared.types.Fault.{Fault}
-use Rattle.pk_nand.specs.BoardState.{BoardState}
-use Rattle.pk_nand.specs.Calls.{IsReady}
-use Rattle.pk_nand.specs.Effects.{Works}
-use Rattle.pk_model.specs.Steps.{RootsUpTo, Step}
-use Rattle.pk_model.proofs.Steps.{Step-none, Step-then}
-use Rattle.pk_parts.specs.Parts.{Parts}
-use Rattle.pk_parts.specs.Moves.{KeepsAll, BreaksAll, MayStep, StepKeeps, OnlyCommits, LeavesValues}
+use Rattle.pk_nand.{specs.declared.types.Fault.Fault, specs.BoardState.BoardState, specs.Calls.IsReady, specs.Effects.Works}
+use Rattle.pk_model.{specs.Steps.RootsUpTo, specs.Steps.Step, proofs.Steps.Step-none, proofs.Steps.Step-then}
+use Rattle.pk_parts.{specs.Parts.Parts, specs.Moves.KeepsAll, specs.Moves.BreaksAll, specs.Moves.MayStep, specs.Moves.StepKeeps, specs.Moves.OnlyCommits, specs.Moves.LeavesValues}
 use Rattle.pk_parts.proofs.Keeping.{KeepsAll-none, KeepsAll-then, BreaksAll-then}
 use Rattle.pk_background.proofs.Rooming.{stands_after}
 

@@ -1,26 +1,16 @@
 -- Calls of the flash that change no page that is read, or kept.
 use Rattle.std.proofs.Common.{◌≡◌, ◌⊎◌, inl, inr, ℕ, zero, suc, ◌+◌, ◌/◌, ◌%◌, ◌<◌, ◌≤◌, refl, sym, ap, ◌∙◌, arith, List, [], ◌++◌, length, Some}
-use Rattle.pk_base.specs.Shape.{Shape, charge}
-use Rattle.pk_base.specs.Key.{Key}
-use Rattle.pk_base.specs.Page.{Flash, page_at}
-use Rattle.pk_base.specs.Entry.{Entry}
+use Rattle.pk_base.{specs.Shape.Shape, specs.Shape.charge, specs.Key.Key, specs.Page.Flash, specs.Page.page_at, specs.Entry.Entry}
 use Rattle.pk_base.specs.Mark.{program, erase, after, all_posted}
 use Rattle.pk_segfmt.specs.Stored.{page_of}
 use Rattle.pk_rootfmt.specs.Root.{Root}
-use Rattle.pk_nand.specs.BoardState.{BoardState}
-use Rattle.pk_nand.specs.Cut.{Interrupted, Touches}
-use Rattle.pk_nand.specs.Calls.{after_program, ProgramFailed}
-use Rattle.pk_nand.specs.Operations.{after_erase, EraseFailed}
-use Rattle.pk_nand.proofs.Leaving.{interrupted_done}
-use Rattle.pk_nand.proofs.Touching.{untouched}
-use Rattle.pk_seg.specs.Stored.{written, WriteFailed}
-use Rattle.pk_model.specs.Found.{Found}
-use Rattle.pk_model.specs.Spaces.{limits_at}
-use Rattle.pk_model.specs.Growth.{Grows, Reaches, Goes}
-use Rattle.pk_model.proofs.Growing.{at_end, top_limits, Reaches-then, Goes-then}
-use Rattle.pk_nand.specs.Effects.{Works, Stops}
-use Rattle.pk_model.proofs.Running.{Reaches-none, Reaches-erase, Goes-erase, Reaches-program, Goes-program}
+use Rattle.pk_nand.{specs.BoardState.BoardState, specs.Cut.Interrupted, specs.Cut.Touches, specs.Calls.after_program, specs.Calls.ProgramFailed, proofs.Leaving.interrupted_done}
+use Rattle.pk_nand.{specs.Operations.after_erase, specs.Operations.EraseFailed, proofs.Touching.untouched, specs.Effects.Works, specs.Effects.Stops}
 use Rattle.pk_nand.proofs.Effects.{works_none, works_program, works_then, stops_program, stops_then}
+use Rattle.pk_seg.specs.Stored.{written, WriteFailed}
+use Rattle.pk_model.{specs.Found.Found, specs.Spaces.limits_at, specs.Growth.Grows, specs.Growth.Reaches, specs.Growth.Goes}
+use Rattle.pk_model.proofs.Growing.{at_end, top_limits, Reaches-then, Goes-then}
+use Rattle.pk_model.proofs.Running.{Reaches-none, Reaches-erase, Goes-erase, Reaches-program, Goes-program}
 use Rattle.pk_background.proofs.Unread.{IsReadBy, SameRead, same_top}
 
 -- the page is read, or kept

@@ -1,36 +1,19 @@
 -- How much the reclaims before a value take, and what is unchanged after their commit.
 use Rattle.std.proofs.Common.{◌≡◌, ℕ, ◌+◌, ◌-◌, ◌≤◌, ◌<◌, Bool, true, false, List, [], length, refl, sym, ap, subst, arith, Result, Ok, Err}
 use Rattle.std.specs.Prelude.{◌&&◌}
-use Rattle.pk_base.specs.Entry.{Place}
-use Rattle.pk_base.specs.Key.{Key}
-use Rattle.pk_base.specs.Page.{Flash}
-use Rattle.pk_base.specs.Map.{Map}
-use Rattle.pk_base.specs.Shape.{Shape, data_blocks, most_pages}
-use Rattle.pk_nand.specs.declared.types.Fault.{Fault}
-use Rattle.pk_nand.specs.BoardState.{BoardState}
+use Rattle.pk_base.{specs.Entry.Place, specs.Key.Key, specs.Page.Flash, specs.Map.Map, specs.Shape.Shape, specs.Shape.data_blocks, specs.Shape.most_pages}
+use Rattle.pk_nand.{specs.declared.types.Fault.Fault, specs.BoardState.BoardState}
 use Rattle.pk_model.specs.Wear.{roots}
-use Rattle.pk_law_work.specs.Rest.{whole_reclaim}
-use Rattle.pk_law_work.specs.Calls.{commit_calls, room_calls, room_roots, space_calls}
+use Rattle.pk_law_work.{specs.Rest.whole_reclaim, specs.Calls.commit_calls, specs.Calls.room_calls, specs.Calls.room_roots, specs.Calls.space_calls}
 use Rattle.pk_law_steps.specs.Under.{places}
-use Rattle.pk_gc.specs.declared.course.Phase.{Phase}
+use Rattle.pk_gc.{specs.declared.course.Phase.Phase, specs.Standing.held_blocks, specs.Standing.ReclaimStands, specs.Stepping.runs_in}
 use Rattle.pk_gc.specs.declared.course.Phase.TheVariants.{Idle, Copies, Commits, GivesBack}
-use Rattle.pk_gc.specs.Standing.{held_blocks, ReclaimStands}
-use Rattle.pk_gc.specs.Stepping.{runs_in}
-use Rattle.pk_background.specs.Costs.{Spends, reclaim_calls}
-use Rattle.pk_parts.specs.Parts.{Parts, counts_of}
-use Rattle.pk_parts.specs.Moves.{StandsFor, MayStep, StepKeeps, LeavesValues, StandsBetween}
-use Rattle.pk_parts.proofs.Halves.{counted_of}
-use Rattle.pk_background.specs.Emptying.{OnRunning}
-use Rattle.pk_parts.specs.Staying.{Stays}
-use Rattle.pk_background.specs.Reclaiming.{is_tight_for}
+use Rattle.pk_background.{specs.Costs.Spends, specs.Costs.reclaim_calls, specs.Emptying.OnRunning, specs.Reclaiming.is_tight_for, proofs.Callings.spends_then, proofs.ReadSteps.running_says}
 use Rattle.pk_background.specs.Spacing.{MovesOrReads, StaysSame, where_so, needs, steps_for, has_moves, space_left, MaySpace}
-use Rattle.pk_background.proofs.Callings.{spends_then}
-use Rattle.pk_background.proofs.Emptied.{keeps_reads, passes_keeps}
-use Rattle.pk_background.proofs.ReadSteps.{running_says}
-use Rattle.pk_parts.proofs.Reclaiming.{reclaim_within}
+use Rattle.pk_background.{proofs.Emptied.keeps_reads, proofs.Emptied.passes_keeps, proofs.SpaceSteps.values_stay, proofs.Steps.may_after}
 use Rattle.pk_background.proofs.SameMaps.{same_of, moves_later, moves_kept, moves_failed, stays_both}
-use Rattle.pk_background.proofs.SpaceSteps.{values_stay}
-use Rattle.pk_background.proofs.Steps.{may_after}
+use Rattle.pk_parts.{specs.Parts.Parts, specs.Parts.counts_of, specs.Moves.StandsFor, specs.Moves.MayStep, specs.Moves.StepKeeps, specs.Moves.LeavesValues, specs.Moves.StandsBetween}
+use Rattle.pk_parts.{proofs.Halves.counted_of, specs.Staying.Stays, proofs.Reclaiming.reclaim_within}
 
 -- ---- how much the reclaims take
 

@@ -1,31 +1,16 @@
 -- From what one background step did to what a Tick promises.
 use Rattle.std.proofs.Common.{◌≡◌, inl, ◌+◌, ◌<◌, ◌≤◌, sym, ap, subst, ◌∙◌, arith, refl, true, false, List, [], Ok}
-use Rattle.pk_base.specs.Shape.{Shape}
-use Rattle.pk_base.specs.Page.{Flash, page_at}
+use Rattle.pk_base.{specs.Shape.Shape, specs.Page.Flash, specs.Page.page_at, specs.Entry.Entry}
 use Rattle.pk_rootfmt.specs.Newest.{newest_root}
-use Rattle.pk_base.specs.Entry.{Entry}
-use Rattle.pk_nand.specs.BoardState.{BoardState, shape_or_none}
-use Rattle.pk_nand.specs.Calls.{IsReady, Rose}
+use Rattle.pk_nand.{specs.BoardState.BoardState, specs.BoardState.shape_or_none, specs.Calls.IsReady, specs.Calls.Rose, proofs.Reaching.Reached-start}
 use Rattle.pk_nand.specs.Effects.{AtMostOneCall, OneProgram, NoFault, OnlyFlash, OnlyReading, Stops}
-use Rattle.pk_nand.proofs.Reaching.{Reached-start}
-use Rattle.pk_model.specs.Growth.{Grows, Reaches, Goes}
-use Rattle.pk_model.specs.Wear.{roots}
-use Rattle.pk_model.specs.Crashes.{CrashFinds, background}
-use Rattle.pk_model.specs.Reading.{reading}
-use Rattle.pk_call.specs.Sight.{IsIdle}
-use Rattle.pk_call.specs.Drive.{HoldsMap}
-use Rattle.pk_call.specs.declared.types.Ticked.TheVariants.{Worked, Fault}
-use Rattle.pk_parts.specs.Parts.{Parts, drive_limits, frames_of, sight_of, is_half}
-use Rattle.pk_parts.specs.Moves.{StandsFor, StandsBetween}
-use Rattle.pk_parts.specs.Staying.{StaysOrFrees}
-use Rattle.pk_background.specs.Reclaiming.{ReclaimHolds, HoldsAll, FailsAll}
-use Rattle.pk_background.specs.Ticking.{MayTick, Advances}
+use Rattle.pk_model.{specs.Growth.Grows, specs.Growth.Reaches, specs.Growth.Goes, specs.Wear.roots, specs.Crashes.CrashFinds, specs.Crashes.background, specs.Reading.reading, specs.Spaces.limits_at}
 use Rattle.pk_model.proofs.Growing.{reached_limits}
-use Rattle.pk_model.specs.Spaces.{limits_at}
-use Rattle.pk_parts.proofs.OwnLimits.{limits_on}
-use Rattle.pk_parts.proofs.Unchanging.{for_its_map, agrees_ready}
-use Rattle.pk_parts.proofs.Halves.{stands as whole_stands}
+use Rattle.pk_call.{specs.Sight.IsIdle, specs.Drive.HoldsMap, specs.declared.types.Ticked.TheVariants.Worked, specs.declared.types.Ticked.TheVariants.Fault}
+use Rattle.pk_parts.{specs.Parts.Parts, specs.Parts.drive_limits, specs.Parts.frames_of, specs.Parts.sight_of, specs.Parts.is_half, specs.Moves.StandsFor, specs.Moves.StandsBetween}
+use Rattle.pk_parts.{specs.Staying.StaysOrFrees, proofs.OwnLimits.limits_on, proofs.Unchanging.for_its_map, proofs.Unchanging.agrees_ready, proofs.Halves.stands as whole_stands}
 use Rattle.pk_parts.proofs.Standing.{agrees_so, agrees_between, reads_as, reads_between, stands_between}
+use Rattle.pk_background.{specs.Reclaiming.ReclaimHolds, specs.Reclaiming.HoldsAll, specs.Reclaiming.FailsAll, specs.Ticking.MayTick, specs.Ticking.Advances}
 use Rattle.pk_background.proofs.Ticking.{worked_fine, stopped_fine, stopped_idle, stopped_worked, worked_idle}
 
 true_false : true ≡ false → ⊥

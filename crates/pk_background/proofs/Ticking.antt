@@ -2,75 +2,43 @@
 use Rattle.std.proofs.Common.{◌≡◌, ◌≢◌, inl, inr, ℕ, zero, suc, ◌+◌, ◌-◌, ◌*◌, ◌/◌, ◌<◌, ◌≤◌, refl, sym, ap, subst, ◌∙◌, arith, Bool, true, false, cond, List, [], ◌∷◌, ◌++◌, length, Option, Some}
 use Rattle.std.proofs.Common.{None, Ok, nat_le}
 use Rattle.std.specs.Prelude.{slice_get, filter, count_by, map, unwrap_or, MatchOption, MatchBool, ◌&&◌, ◌==◌, not}
-use Rattle.std.proofs.lemmas.Bool.{le-leb, eqb-true, eq-eqb}
-use Rattle.std.proofs.lemmas.Bool.Decides.{leb_tells}
-use Rattle.std.specs.List.{range_with_len, concat}
-use Rattle.std.proofs.lemmas.List.Sums.{sum_by-cons}
-use Rattle.std.proofs.lemmas.List.{length-append}
-use Rattle.pk_base.specs.Shape.{Shape, most_pages, data_blocks}
-use Rattle.pk_base.specs.Page.{Page, Flash, page_at, erased, whole, torn}
-use Rattle.pk_base.specs.Mark.{erase, after}
-use Rattle.pk_rootfmt.specs.Root.{Root, named}
-use Rattle.pk_rootfmt.specs.Newest.{newest_root}
+use Rattle.std.{proofs.lemmas.Bool.le-leb, proofs.lemmas.Bool.eqb-true, proofs.lemmas.Bool.eq-eqb, proofs.lemmas.Bool.Decides.leb_tells, specs.List.range_with_len, specs.List.concat}
+use Rattle.std.{proofs.lemmas.List.Sums.sum_by-cons, proofs.lemmas.List.length-append}
+use Rattle.pk_base.{specs.Shape.Shape, specs.Shape.most_pages, specs.Shape.data_blocks, specs.Page.Page, specs.Page.Flash, specs.Page.page_at, specs.Page.erased, specs.Page.whole, specs.Page.torn}
+use Rattle.pk_base.{specs.Mark.erase, specs.Mark.after, proofs.Logic.not_both, proofs.Logic.both_true}
+use Rattle.pk_rootfmt.{specs.Root.Root, specs.Root.named, specs.Newest.newest_root}
 use Rattle.pk_plan.specs.declared.owner.Owner.TheVariants.{Journal, Meta, Values}
-use Rattle.pk_nand.specs.BoardState.{BoardState, shape_or_none}
-use Rattle.pk_nand.specs.Calls.{IsReady}
-use Rattle.pk_nand.specs.Operations.{after_erase, EraseFailed}
-use Rattle.pk_nand.proofs.Reaching.{Reached-start}
-use Rattle.pk_nand.proofs.Touching.{untouched_after}
-use Rattle.pk_pool.specs.declared.state.BlockState.{BlockState}
+use Rattle.pk_nand.{specs.BoardState.BoardState, specs.BoardState.shape_or_none, specs.Calls.IsReady, specs.Operations.after_erase, specs.Operations.EraseFailed, proofs.Reaching.Reached-start}
+use Rattle.pk_nand.{proofs.Touching.untouched_after, proofs.Effects.works_erase, proofs.Effects.stops_erase, specs.Effects.AtMostOneCall, specs.Effects.made_no_call, specs.Effects.made_erase}
+use Rattle.pk_pool.{specs.declared.state.BlockState.BlockState, specs.Unready.unready, specs.Taking.ErasesOne, specs.Taking.ErasesNone, proofs.States.free_is_not_root}
 use Rattle.pk_pool.specs.declared.state.BlockState.TheVariants.{Root as RootBlock, Free, Ready, Owned, Leaving}
 use Rattle.pk_pool.specs.Blocks.{Blocks, PoolOnFlash, IsShared, IsOwned, IsNowhere, NoneLeaves, is_free, is_ready, is_owned_by, used_by, with_state, freed, freed_state}
-use Rattle.pk_pool.specs.Unready.{unready}
-use Rattle.pk_pool.specs.Taking.{ErasesOne, ErasesNone}
-use Rattle.pk_pool.proofs.States.{free_is_not_root}
-use Rattle.pk_pool.proofs.Sharing.{count-set, behind_roots, all_counted, none_free}
-use Rattle.pk_pool.proofs.Leaving.{shared_freed, state_after}
-use Rattle.pk_schedule.proofs.Settled.{none_leaves_set}
+use Rattle.pk_pool.{proofs.Sharing.count-set, proofs.Sharing.behind_roots, proofs.Sharing.all_counted, proofs.Sharing.none_free, proofs.Leaving.shared_freed, proofs.Leaving.state_after}
+use Rattle.pk_schedule.{proofs.Settled.none_leaves_set, specs.declared.phase.Phase.Phase, specs.Index.Index, specs.Index.MergeStands, specs.Index.merging, specs.Index.output}
+use Rattle.pk_schedule.specs.declared.phase.Phase.TheVariants.{Idle as NoMerge, Running, Ready as ReadyOutput}
+use Rattle.pk_schedule.specs.Steps.{merge_left, has_no_merge, is_between}
 use Rattle.pk_run.specs.Kept.{Kept as KeptRun, empty}
 use Rattle.pk_jrn.specs.Epochs.{left_of as pages_left}
 use Rattle.pk_law_work.specs.Backlog.{Backlog, due_level, is_tight}
 use Rattle.pk_law_work.specs.Work.{work, filling, filling_from, merging as merging_left, merging_from}
 use Rattle.pk_compact.specs.FreezeSteps.{taken_by}
-use Rattle.pk_model.specs.Found.{Found}
-use Rattle.pk_model.specs.Reading.{reading}
-use Rattle.pk_schedule.specs.declared.phase.Phase.{Phase}
-use Rattle.pk_schedule.specs.declared.phase.Phase.TheVariants.{Idle as NoMerge, Running, Ready as ReadyOutput}
-use Rattle.pk_schedule.specs.Index.{Index, MergeStands, merging, output}
-use Rattle.pk_schedule.specs.Steps.{merge_left, has_no_merge, is_between}
-use Rattle.pk_call.specs.Sight.{is_erased, has_open_room, IsIdle}
-use Rattle.pk_law_steps.specs.Under.{places}
-use Rattle.pk_law_steps.proofs.Untouched.{under_reads}
-use Rattle.pk_nand.proofs.Effects.{works_erase, stops_erase}
-use Rattle.pk_values.specs.State.{fits_open, has_left}
-use Rattle.pk_values.specs.Placed.{HoldsValues, ValuesOnFlash, IsOpenIn}
-use Rattle.pk_live.specs.declared.open_block.OpenBlock.{OpenBlock}
-use Rattle.pk_values.proofs.Unchanged.{block_elsewhere}
-use Rattle.pk_model.specs.Growth.{Grows, Reaches, Goes}
-use Rattle.pk_model.specs.Wear.{roots}
-use Rattle.pk_call.specs.Drive.{HoldsMap}
-use Rattle.pk_nand.specs.Effects.{AtMostOneCall, made_no_call, made_erase}
-use Rattle.pk_call.specs.Seen.{stopped_by}
-use Rattle.pk_model.specs.Crashes.{CrashFinds, background}
-use Rattle.pk_call.specs.declared.types.Ticked.{Ticked}
-use Rattle.pk_call.specs.declared.types.Ticked.TheVariants.{Worked, Idle, Fault}
+use Rattle.pk_model.{specs.Found.Found, specs.Reading.reading, specs.Growth.Grows, specs.Growth.Reaches, specs.Growth.Goes, specs.Wear.roots, specs.Crashes.CrashFinds, specs.Crashes.background}
 use Rattle.pk_model.proofs.Growing.{reached_limits, weaken, weaken_went}
-use Rattle.pk_values.specs.Laws.{SameValues}
+use Rattle.pk_call.{specs.Sight.is_erased, specs.Sight.has_open_room, specs.Sight.IsIdle, specs.Drive.HoldsMap, specs.Seen.stopped_by, specs.declared.types.Ticked.Ticked}
+use Rattle.pk_call.specs.declared.types.Ticked.TheVariants.{Worked, Idle, Fault}
+use Rattle.pk_law_steps.{specs.Under.places, proofs.Untouched.under_reads}
+use Rattle.pk_values.{specs.State.fits_open, specs.State.has_left, specs.Placed.HoldsValues, specs.Placed.ValuesOnFlash, specs.Placed.IsOpenIn, proofs.Unchanged.block_elsewhere, specs.Laws.SameValues}
+use Rattle.pk_live.specs.declared.open_block.OpenBlock.{OpenBlock}
 use Rattle.pk_gc.specs.Stepping.{runs_in}
 use Rattle.pk_parts.specs.Parts.{Parts, frames_of, sight_of, counts_of, index_of, block_if_open, outputs_of, backlog_of, is_reclaim_due, reclaim_left, has_moves, may_freeze, is_half, settled_parts}
-use Rattle.pk_parts.specs.Agreeing.{DriveOnFlashWith, DriveOnFlash, IsWhole}
+use Rattle.pk_parts.{specs.Agreeing.DriveOnFlashWith, specs.Agreeing.DriveOnFlash, specs.Agreeing.IsWhole, proofs.Holding.filled_if, proofs.Holding.held_if, proofs.OwnLimits.limits_on}
+use Rattle.pk_parts.{proofs.Reclaiming.reclaim_elsewhere, proofs.Reclaiming.holds_none, proofs.Unchanging.own, proofs.Unchanging.own_whole, proofs.Unchanging.for_its_map}
+use Rattle.pk_parts.proofs.Halves.{with_settled, whole_of, whole_like, is_whole, counted_of, pool_same}
 use Rattle.pk_level.specs.Arenas.{unfilled}
-use Rattle.pk_background.specs.Filling.{lacks_frames}
-use Rattle.pk_background.specs.Ticking.{Ticks, HasNoStep, WantsReclaim, WantsFreeze}
-use Rattle.pk_parts.proofs.Holding.{filled_if, held_if}
-use Rattle.pk_parts.proofs.Reclaiming.{reclaim_elsewhere, holds_none}
+use Rattle.pk_background.{specs.Filling.lacks_frames, specs.Ticking.Ticks, specs.Ticking.HasNoStep, specs.Ticking.WantsReclaim, specs.Ticking.WantsFreeze}
 use Rattle.pk_background.proofs.Unread.{KeepsOwners, SameRead, same_top, still_without, still_all, agrees_elsewhere}
 use Rattle.pk_background.proofs.Stills.{IsStill, SameStill, StillCut, read_still, still_end, went_end, still_erase, still_erase_failed}
 use Rattle.pk_background.proofs.Beside.{IsIndexed, spare_still, beside_still, same_roots}
-use Rattle.pk_parts.proofs.Halves.{with_settled, whole_of, whole_like, is_whole, counted_of, pool_same}
-use Rattle.pk_parts.proofs.OwnLimits.{limits_on}
-use Rattle.pk_parts.proofs.Unchanging.{own, own_whole, for_its_map}
-use Rattle.pk_base.proofs.Logic.{not_both, both_true}
 
 pub yes_no : (b : Bool) → b ≡ false → b ≡ true → ⊥
 yes_no true e f = cc

@@ -1,27 +1,16 @@
 -- A drive agrees with a flash as before if no page differs that is read.
 use Rattle.std.proofs.Common.{◌≡◌, ◌⊎◌, inl, inr, ℕ, ◌/◌, Some, List, [], subst}
 use Rattle.std.specs.Prelude.{slice_get}
-use Rattle.pk_base.specs.Shape.{Shape, IsShape}
-use Rattle.pk_base.specs.Page.{Flash, IsFlash, page_at}
-use Rattle.pk_base.specs.Entry.{Entry}
-use Rattle.pk_base.specs.Map.{Map}
-use Rattle.pk_rootfmt.specs.Root.{Root}
-use Rattle.pk_rootfmt.specs.Newest.{newest_root}
-use Rattle.pk_plan.specs.declared.owner.Owner.{Owner}
-use Rattle.pk_plan.specs.declared.owner.Owner.TheVariants.{Values}
-use Rattle.pk_pool.specs.declared.state.BlockState.TheVariants.{Owned}
-use Rattle.pk_pool.specs.Blocks.{Blocks}
-use Rattle.pk_model.specs.Found.{Found, entries_in_order}
-use Rattle.pk_model.specs.Laws.{IsRead}
-use Rattle.pk_model.proofs.SamePages.{newest_root_same}
-use Rattle.pk_law_steps.specs.Under.{IsUnder, places}
-use Rattle.pk_law_steps.proofs.Untouched.{same as read_same}
-use Rattle.pk_values.specs.State.{ValuesState}
-use Rattle.pk_values.specs.Placed.{ValuesOnFlash}
+use Rattle.pk_base.{specs.Shape.Shape, specs.Shape.IsShape, specs.Page.Flash, specs.Page.IsFlash, specs.Page.page_at, specs.Entry.Entry, specs.Map.Map}
+use Rattle.pk_rootfmt.{specs.Root.Root, specs.Newest.newest_root}
+use Rattle.pk_plan.{specs.declared.owner.Owner.Owner, specs.declared.owner.Owner.TheVariants.Values}
+use Rattle.pk_pool.{specs.declared.state.BlockState.TheVariants.Owned, specs.Blocks.Blocks}
+use Rattle.pk_model.{specs.Found.Found, specs.Found.entries_in_order, specs.Laws.IsRead, proofs.SamePages.newest_root_same}
+use Rattle.pk_law_steps.{specs.Under.IsUnder, specs.Under.places, proofs.Untouched.same as read_same}
+use Rattle.pk_values.{specs.State.ValuesState, specs.Placed.ValuesOnFlash}
 use Rattle.pk_gc.specs.Standing.{ReclaimOnFlash}
-use Rattle.pk_parts.specs.Parts.{Parts, frames_of, index_of, outputs_of}
+use Rattle.pk_parts.{specs.Parts.Parts, specs.Parts.frames_of, specs.Parts.index_of, specs.Parts.outputs_of, specs.Agreeing.DriveOnFlashWith}
 use Rattle.pk_schedule.proofs.Keeping.{IsBeside, index_elsewhere}
-use Rattle.pk_parts.specs.Agreeing.{DriveOnFlashWith}
 
 -- the page is read, without the pending entries or with them
 abbrev pub IsReadBy : Shape → Root → Found → List Entry → ℕ → Type 0

@@ -1,32 +1,20 @@
 -- A step of merges or of a freeze with the second program of the root whose first one it made.
 use Rattle.std.proofs.Common.{◌≡◌, inl, inr, ℕ, ◌+◌, ◌<◌, ◌≤◌, refl, sym, ap, subst, ◌∙◌, arith, Bool, true, false, ◌||◌, if◌then◌else◌, Result, Ok, Err}
-use Rattle.pk_base.specs.Shape.{Shape}
-use Rattle.pk_nand.specs.declared.types.Fault.{Fault}
-use Rattle.pk_nand.specs.declared.types.Fault.TheVariants.{Reading, Stopped}
-use Rattle.pk_nand.specs.BoardState.{BoardState}
-use Rattle.pk_nand.specs.Calls.{IsReady, Rose}
-use Rattle.pk_nand.specs.Effects.{NoFault, Stops}
-use Rattle.pk_nand.proofs.Effects.{works_then, stops_then, only_then}
+use Rattle.pk_base.{specs.Shape.Shape, proofs.Logic.not_both}
+use Rattle.pk_nand.{specs.declared.types.Fault.Fault, specs.declared.types.Fault.TheVariants.Reading, specs.declared.types.Fault.TheVariants.Stopped, specs.BoardState.BoardState}
+use Rattle.pk_nand.{specs.Calls.IsReady, specs.Calls.Rose, specs.Effects.NoFault, specs.Effects.Stops, proofs.Effects.works_then, proofs.Effects.stops_then, proofs.Effects.only_then}
 use Rattle.pk_model.specs.Wear.{roots}
 use Rattle.pk_root.specs.Installing.{repeats_next}
-use Rattle.pk_law_work.specs.Backlog.{due_level}
-use Rattle.pk_law_work.specs.Work.{merging_left, repeating}
+use Rattle.pk_law_work.{specs.Backlog.due_level, specs.Work.merging_left, specs.Work.repeating}
 use Rattle.pk_log.specs.State.{LogState}
-use Rattle.pk_schedule.specs.declared.phase.Stepped.{Stepped}
-use Rattle.pk_schedule.specs.declared.phase.Stepped.TheVariants.{Worked, Idle}
+use Rattle.pk_schedule.{specs.declared.phase.Stepped.Stepped, specs.declared.phase.Stepped.TheVariants.Worked, specs.declared.phase.Stepped.TheVariants.Idle}
 use Rattle.pk_schedule.specs.Steps.{FreezeMoves, Freezes, backlog_of}
 use Rattle.pk_gc.specs.State.{JobState}
-use Rattle.pk_parts.specs.Parts.{Parts, frames_of, index_of, is_half, commits_in}
-use Rattle.pk_parts.specs.Moves.{StandsBetween, MayCommit, LeavesValues}
+use Rattle.pk_parts.{specs.Parts.Parts, specs.Parts.frames_of, specs.Parts.index_of, specs.Parts.is_half, specs.Parts.commits_in, proofs.Halves.not_made, proofs.Staying.stays_then}
+use Rattle.pk_parts.{specs.Moves.StandsBetween, specs.Moves.MayCommit, specs.Moves.LeavesValues, proofs.Keeping.KeepsAll-none, proofs.Keeping.keeps_whole}
 use Rattle.pk_background.specs.Emptying.{ReadsUpTo, Halts, MayEmpty, MergesOnce, MergesWhole, FreezesOnce, FreezesWhole, merges_left, merges_due}
-use Rattle.pk_background.specs.Pairing.{FinishesRoot, FailsToFinish, SettlesOr}
-use Rattle.pk_background.proofs.Callings.{few_one, few_program, few_then}
-use Rattle.pk_parts.proofs.Halves.{not_made}
-use Rattle.pk_parts.proofs.Keeping.{KeepsAll-none, keeps_whole}
-use Rattle.pk_background.proofs.Completing.{KeepsAll-finished, BreaksAll-finished}
-use Rattle.pk_parts.proofs.Staying.{stays_then}
-use Rattle.pk_background.proofs.Steps.{leaves_twice}
-use Rattle.pk_base.proofs.Logic.{not_both}
+use Rattle.pk_background.{specs.Pairing.FinishesRoot, specs.Pairing.FailsToFinish, specs.Pairing.SettlesOr, proofs.Callings.few_one, proofs.Callings.few_program, proofs.Callings.few_then}
+use Rattle.pk_background.{proofs.Completing.KeepsAll-finished, proofs.Completing.BreaksAll-finished, proofs.Steps.leaves_twice}
 
 worked_idle : {E : Type 0} → ◌≡◌ {A = Result Stepped E} (Ok Worked) (Ok Idle) → ⊥
 worked_idle e = cc

@@ -1,10 +1,8 @@
 -- The most flash operations that the parts of a Store make, and the most roots that they install.
 use Rattle.std.specs.Prelude.{ℕ, ◌+◌, ◌<◌, ◌≤◌}
 use Rattle.pk_base.specs.Shape.{Shape}
-use Rattle.pk_law_work.specs.Rest.{whole_reclaim}
-use Rattle.pk_law_work.specs.Calls.{commit_calls, lookup_calls, room_calls}
-use Rattle.pk_nand.specs.BoardState.{BoardState}
-use Rattle.pk_nand.specs.Calls.{last_count}
+use Rattle.pk_law_work.{specs.Rest.whole_reclaim, specs.Calls.commit_calls, specs.Calls.lookup_calls, specs.Calls.room_calls}
+use Rattle.pk_nand.{specs.BoardState.BoardState, specs.Calls.last_count}
 use Rattle.pk_model.specs.Wear.{roots}
 use Rattle.pk_call.specs.Calling.{FewCalls}
 

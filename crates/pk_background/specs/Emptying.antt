@@ -1,27 +1,19 @@
 -- Room for a further entry: merges to the end and a freeze, in steps of which one may fail by a read.
 use Rattle.std.specs.Prelude.{◌≡◌, ◌⊎◌, ◌<◌, ◌≤◌, ◌+◌, ℕ, [], Bool, true, false, Result, Ok, Err, OnOk, OnErr}
-use Rattle.pk_base.specs.Key.{Key}
-use Rattle.pk_base.specs.Shape.{Shape}
-use Rattle.pk_nand.specs.declared.types.Fault.{Fault}
-use Rattle.pk_nand.specs.declared.types.Fault.TheVariants.{Reading, Stopped}
-use Rattle.pk_nand.specs.BoardState.{BoardState}
-use Rattle.pk_nand.specs.Calls.{IsReady, Rose, last_count}
-use Rattle.pk_nand.specs.Effects.{AtMostOneCall, OnlyFlash, NoFault}
-use Rattle.pk_model.specs.Wear.{roots}
-use Rattle.pk_model.specs.Steps.{Step}
+use Rattle.pk_base.{specs.Key.Key, specs.Shape.Shape}
+use Rattle.pk_nand.{specs.declared.types.Fault.Fault, specs.declared.types.Fault.TheVariants.Reading, specs.declared.types.Fault.TheVariants.Stopped, specs.BoardState.BoardState}
+use Rattle.pk_nand.{specs.Calls.IsReady, specs.Calls.Rose, specs.Calls.last_count, specs.Effects.AtMostOneCall, specs.Effects.OnlyFlash, specs.Effects.NoFault}
+use Rattle.pk_model.{specs.Wear.roots, specs.Steps.Step}
 use Rattle.pk_root.specs.Installing.{repeats_next}
 use Rattle.pk_compact.specs.FreezeSteps.{freeze_left}
 use Rattle.pk_log.specs.State.{needs_freeze}
-use Rattle.pk_law_work.specs.Backlog.{due_level}
-use Rattle.pk_law_work.specs.Work.{merging_left}
+use Rattle.pk_law_work.{specs.Backlog.due_level, specs.Work.merging_left}
 use Rattle.pk_call.specs.Calling.{FewCalls}
-use Rattle.pk_schedule.specs.declared.phase.Stepped.{Stepped}
-use Rattle.pk_schedule.specs.declared.phase.Stepped.TheVariants.{Worked, Idle}
+use Rattle.pk_schedule.{specs.declared.phase.Stepped.Stepped, specs.declared.phase.Stepped.TheVariants.Worked, specs.declared.phase.Stepped.TheVariants.Idle}
 use Rattle.pk_schedule.specs.Steps.{backlog_of, has_no_merge, FreezeMoves, Freezes}
-use Rattle.pk_parts.specs.Parts.{Parts, index_of}
+use Rattle.pk_parts.{specs.Parts.Parts, specs.Parts.index_of, specs.Staying.Stays}
 use Rattle.pk_parts.specs.Moves.{KeepsAll, KeepsAllBetween, BreaksAll, MayStep, StepKeeps, LeavesValues}
 use Rattle.pk_background.specs.Reclaiming.{is_tight_for}
-use Rattle.pk_parts.specs.Staying.{Stays}
 
 -- ---- what a step leaves that may read
 

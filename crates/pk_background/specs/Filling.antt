@@ -2,8 +2,7 @@
 use Rattle.std.specs.Prelude.{◌≡◌, List, [], length, Bool, not, ◌==◌}
 use Rattle.pk_base.specs.Entry.{Entry}
 use Rattle.pk_nand.specs.BoardState.{BoardState}
-use Rattle.pk_level.specs.Levels.{RunsOnFlash}
-use Rattle.pk_level.specs.Arenas.{FillsOne, FillsNone, HasArena, unfilled}
+use Rattle.pk_level.{specs.Levels.RunsOnFlash, specs.Arenas.FillsOne, specs.Arenas.FillsNone, specs.Arenas.HasArena, specs.Arenas.unfilled}
 use Rattle.pk_parts.specs.Parts.{Parts, frames_of}
 
 -- a page of a level that may have frames for all its pages has none

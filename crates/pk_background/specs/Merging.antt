@@ -1,20 +1,12 @@
 -- One step of a merge or of a freeze, made by a Tick or by a command that needs room.
 use Rattle.std.specs.Prelude.{◌≡◌, ◌+◌, ◌<◌, ◌≤◌, true, false}
-use Rattle.pk_base.specs.Shape.{Shape}
-use Rattle.pk_base.specs.Map.{Map}
-use Rattle.pk_nand.specs.declared.types.Fault.{Fault}
-use Rattle.pk_nand.specs.declared.types.Fault.TheVariants.{Reading, Stopped}
-use Rattle.pk_nand.specs.BoardState.{BoardState}
-use Rattle.pk_nand.specs.Calls.{Rose}
+use Rattle.pk_base.{specs.Shape.Shape, specs.Map.Map}
+use Rattle.pk_nand.{specs.declared.types.Fault.Fault, specs.declared.types.Fault.TheVariants.Reading, specs.declared.types.Fault.TheVariants.Stopped, specs.BoardState.BoardState, specs.Calls.Rose}
 use Rattle.pk_nand.specs.Effects.{OnlyReading, Stops}
 use Rattle.pk_model.specs.Growth.{Grows}
-use Rattle.pk_schedule.specs.declared.phase.Stepped.{Stepped}
-use Rattle.pk_schedule.specs.declared.phase.Stepped.TheVariants.{Worked, Idle}
-use Rattle.pk_schedule.specs.Steps.{has_no_merge}
-use Rattle.pk_parts.specs.Parts.{Parts, index_of, sight_of}
-use Rattle.pk_parts.specs.Moves.{StandsFor}
-use Rattle.pk_background.specs.Reclaiming.{HoldsAll, FailsAll}
-use Rattle.pk_background.specs.Ticking.{WantsFreeze}
+use Rattle.pk_schedule.{specs.declared.phase.Stepped.Stepped, specs.declared.phase.Stepped.TheVariants.Worked, specs.declared.phase.Stepped.TheVariants.Idle, specs.Steps.has_no_merge}
+use Rattle.pk_parts.{specs.Parts.Parts, specs.Parts.index_of, specs.Parts.sight_of, specs.Moves.StandsFor}
+use Rattle.pk_background.{specs.Reclaiming.HoldsAll, specs.Reclaiming.FailsAll, specs.Ticking.WantsFreeze}
 
 -- The map is unchanged at every crash point, and less work remains.
 pub record Merges (before after : Parts) (old new : BoardState) : Type 0 where

@@ -1,25 +1,17 @@
 -- The second program of a pair that is half made.
 use Rattle.std.specs.Prelude.{◌≡◌, ℕ, ◌<◌, ◌≤◌, true, false, Result, Ok, Err, IsOk}
-use Rattle.pk_base.specs.Shape.{Shape}
-use Rattle.pk_base.specs.Map.{Map}
+use Rattle.pk_base.{specs.Shape.Shape, specs.Map.Map}
 use Rattle.pk_plan.specs.declared.owner.Owner.TheVariants.{Values}
 use Rattle.pk_pool.specs.Blocks.{used_by}
-use Rattle.pk_nand.specs.declared.types.Fault.{Fault}
-use Rattle.pk_nand.specs.declared.types.Fault.TheVariants.{Stopped}
-use Rattle.pk_nand.specs.BoardState.{BoardState}
-use Rattle.pk_nand.specs.Calls.{IsReady}
+use Rattle.pk_nand.{specs.declared.types.Fault.Fault, specs.declared.types.Fault.TheVariants.Stopped, specs.BoardState.BoardState, specs.Calls.IsReady}
 use Rattle.pk_nand.specs.Effects.{OneProgram, Works, Stops}
-use Rattle.pk_model.specs.Growth.{Grows, Reaches, Goes}
-use Rattle.pk_model.specs.Crashes.{CrashFinds, background}
-use Rattle.pk_model.specs.Wear.{roots}
+use Rattle.pk_model.{specs.Growth.Grows, specs.Growth.Reaches, specs.Growth.Goes, specs.Crashes.CrashFinds, specs.Crashes.background, specs.Wear.roots}
 use Rattle.pk_root.specs.Installing.{repeats_next}
 use Rattle.pk_gc.specs.declared.course.Phase.TheVariants.{Commits, GivesBack}
 use Rattle.pk_schedule.specs.Steps.{LessIsLeft}
 use Rattle.pk_reclaim.specs.Space.{Falls, HasRoom as HasSpace}
-use Rattle.pk_parts.specs.Parts.{Parts, index_of, is_half, commits_in, sight_of}
-use Rattle.pk_parts.specs.Moves.{StandsFor, StandsBetween}
+use Rattle.pk_parts.{specs.Parts.Parts, specs.Parts.index_of, specs.Parts.is_half, specs.Parts.commits_in, specs.Parts.sight_of, specs.Moves.StandsFor, specs.Moves.StandsBetween, specs.Staying.Stays}
 use Rattle.pk_background.specs.Reclaiming.{LeavesIndex, space_of}
-use Rattle.pk_parts.specs.Staying.{Stays}
 
 -- The drive represents some map on its board, and a pair is half made.
 pub record MayFinishHalf (d : Parts) (board : BoardState) : Type 0 where

@@ -1,27 +1,18 @@
 -- A step of a reclaim: it keeps the map, but not the places of the values.
 use Rattle.std.specs.Prelude.{◌≡◌, ◌+◌, [], length, Bool, true}
-use Rattle.pk_base.specs.Shape.{Shape}
-use Rattle.pk_base.specs.Map.{Map}
+use Rattle.pk_base.{specs.Shape.Shape, specs.Map.Map}
 use Rattle.pk_plan.specs.declared.owner.Owner.TheVariants.{Values}
 use Rattle.pk_pool.specs.Blocks.{used_by}
 use Rattle.pk_jrn.specs.Epochs.{left_of as pages_left}
-use Rattle.pk_nand.specs.declared.types.Fault.{Fault}
-use Rattle.pk_nand.specs.declared.types.Fault.TheVariants.{Reading, Stopped}
-use Rattle.pk_nand.specs.BoardState.{BoardState}
-use Rattle.pk_nand.specs.Calls.{Rose}
+use Rattle.pk_nand.{specs.declared.types.Fault.Fault, specs.declared.types.Fault.TheVariants.Reading, specs.declared.types.Fault.TheVariants.Stopped, specs.BoardState.BoardState, specs.Calls.Rose}
 use Rattle.pk_nand.specs.Effects.{OnlyReading, Stops}
 use Rattle.pk_law_work.specs.Backlog.{is_tight}
-use Rattle.pk_model.specs.Growth.{Reaches, Goes}
-use Rattle.pk_model.specs.Crashes.{CrashFinds, background}
-use Rattle.pk_gc.specs.declared.course.Course.{Course}
-use Rattle.pk_gc.specs.declared.course.Phase.{Phase}
+use Rattle.pk_model.{specs.Growth.Reaches, specs.Growth.Goes, specs.Crashes.CrashFinds, specs.Crashes.background}
+use Rattle.pk_gc.{specs.declared.course.Course.Course, specs.declared.course.Phase.Phase, specs.declared.reclaimed.Reclaimed.Reclaimed}
 use Rattle.pk_gc.specs.declared.course.Phase.TheVariants.{Idle, Copies, Commits, GivesBack}
-use Rattle.pk_gc.specs.declared.reclaimed.Reclaimed.{Reclaimed}
 use Rattle.pk_gc.specs.declared.reclaimed.Reclaimed.TheVariants.{Worked, NeedsFreeze, Ended}
-use Rattle.pk_reclaim.specs.Space.{ReclaimParts, reclaim_parts, IsTurn, Falls, HasRoom as HasSpace}
-use Rattle.pk_reclaim.specs.Steps.{RoomBehind}
-use Rattle.pk_parts.specs.Parts.{Parts}
-use Rattle.pk_parts.specs.Moves.{StandsFor, StandsBetween, MayStep}
+use Rattle.pk_reclaim.{specs.Space.ReclaimParts, specs.Space.reclaim_parts, specs.Space.IsTurn, specs.Space.Falls, specs.Space.HasRoom as HasSpace, specs.Steps.RoomBehind}
+use Rattle.pk_parts.{specs.Parts.Parts, specs.Moves.StandsFor, specs.Moves.StandsBetween, specs.Moves.MayStep}
 
 -- its log, its values, its blocks and its reclaim
 abbrev pub space_of : Parts → ReclaimParts

@@ -1,27 +1,14 @@
 -- Space for a value: steps of reclaims until it has room, of which one may fail by a read.
 use Rattle.std.specs.Prelude.{◌≡◌, ◌⊎◌, ℕ, ◌+◌, ◌-◌, ◌≤◌, ◌<◌, [], Bool, true, false, ◌&&◌, Result, Ok, OnOk}
-use Rattle.pk_base.specs.Shape.{Shape}
-use Rattle.pk_base.specs.Map.{Map}
-use Rattle.pk_nand.specs.declared.types.Fault.{Fault}
-use Rattle.pk_nand.specs.BoardState.{BoardState}
-use Rattle.pk_nand.specs.Calls.{last_count}
-use Rattle.pk_law_work.specs.Rest.{whole_reclaim}
-use Rattle.pk_law_work.specs.Calls.{room_calls, room_roots}
-use Rattle.pk_model.specs.Wear.{roots}
-use Rattle.pk_model.specs.Reading.{reading}
-use Rattle.pk_model.specs.Growth.{Reaches}
-use Rattle.pk_model.specs.Crashes.{CrashFinds, commit}
-use Rattle.pk_gc.specs.declared.course.Phase.{Phase}
+use Rattle.pk_base.{specs.Shape.Shape, specs.Map.Map}
+use Rattle.pk_nand.{specs.declared.types.Fault.Fault, specs.BoardState.BoardState, specs.Calls.last_count}
+use Rattle.pk_law_work.{specs.Rest.whole_reclaim, specs.Calls.room_calls, specs.Calls.room_roots}
+use Rattle.pk_model.{specs.Wear.roots, specs.Reading.reading, specs.Growth.Reaches, specs.Crashes.CrashFinds, specs.Crashes.commit}
+use Rattle.pk_gc.{specs.declared.course.Phase.Phase, specs.State.steps_left, specs.Stepping.runs_in}
 use Rattle.pk_gc.specs.declared.course.Phase.TheVariants.{Idle, Copies, Commits, GivesBack}
-use Rattle.pk_gc.specs.State.{steps_left}
-use Rattle.pk_gc.specs.Stepping.{runs_in}
 use Rattle.pk_values.specs.State.{needs_reclaim}
-use Rattle.pk_background.specs.Costs.{Spends}
-use Rattle.pk_parts.specs.Parts.{Parts, frames_of}
-use Rattle.pk_parts.specs.Moves.{StandsFor, MayStep, BreaksAll}
-use Rattle.pk_background.specs.Emptying.{StepOrRead, OnRunning}
-use Rattle.pk_parts.specs.Staying.{StaysFresh}
-use Rattle.pk_background.specs.Reclaiming.{is_tight_for}
+use Rattle.pk_background.{specs.Costs.Spends, specs.Emptying.StepOrRead, specs.Emptying.OnRunning, specs.Reclaiming.is_tight_for}
+use Rattle.pk_parts.{specs.Parts.Parts, specs.Parts.frames_of, specs.Moves.StandsFor, specs.Moves.MayStep, specs.Moves.BreaksAll, specs.Staying.StaysFresh}
 
 -- ---- steps that keep the map
 

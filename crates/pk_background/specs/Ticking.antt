@@ -1,23 +1,15 @@
 -- A background step.
 use Rattle.std.specs.Prelude.{◌≡◌, ◌⊎◌, ◌+◌, ◌<◌, ◌≤◌, Bool, true, false, ◌==◌, ◌||◌, [], length}
-use Rattle.pk_pool.specs.declared.state.BlockState.TheVariants.{Free}
-use Rattle.pk_pool.specs.Blocks.{IsNowhere}
-use Rattle.pk_nand.specs.BoardState.{BoardState, shape_of}
-use Rattle.pk_nand.specs.Calls.{Rose, last_count}
-use Rattle.pk_call.specs.Sight.{Sight, IsIdle}
-use Rattle.pk_model.specs.Growth.{Grows}
-use Rattle.pk_model.specs.Wear.{roots}
+use Rattle.pk_pool.{specs.declared.state.BlockState.TheVariants.Free, specs.Blocks.IsNowhere}
+use Rattle.pk_nand.{specs.BoardState.BoardState, specs.BoardState.shape_of, specs.Calls.Rose, specs.Calls.last_count}
 use Rattle.pk_nand.specs.Effects.{OnlyFlash, OnlyReading, NoFault, AtMostOneCall, OneProgram}
-use Rattle.pk_model.specs.Crashes.{background}
-use Rattle.pk_call.specs.Call.{KeepsMap, CallReaches, CallGoes}
-use Rattle.pk_call.specs.Seen.{stopped_by}
-use Rattle.pk_call.specs.declared.types.Ticked.{Ticked}
+use Rattle.pk_call.{specs.Sight.Sight, specs.Sight.IsIdle, specs.Call.KeepsMap, specs.Call.CallReaches, specs.Call.CallGoes, specs.Seen.stopped_by, specs.declared.types.Ticked.Ticked}
 use Rattle.pk_call.specs.declared.types.Ticked.TheVariants.{Worked, Idle, Fault}
+use Rattle.pk_model.{specs.Growth.Grows, specs.Wear.roots, specs.Crashes.background}
 use Rattle.pk_compact.specs.FreezeSteps.{taken_by}
 use Rattle.pk_schedule.specs.Steps.{has_no_merge}
 use Rattle.pk_gc.specs.Stepping.{runs_in}
-use Rattle.pk_parts.specs.Parts.{Parts, index_of, sight_of, is_half, is_reclaim_due, may_freeze}
-use Rattle.pk_parts.specs.Agreeing.{DriveOnFlash}
+use Rattle.pk_parts.{specs.Parts.Parts, specs.Parts.index_of, specs.Parts.sight_of, specs.Parts.is_half, specs.Parts.is_reclaim_due, specs.Parts.may_freeze, specs.Agreeing.DriveOnFlash}
 use Rattle.pk_parts.specs.Staying.{StaysOrFrees}
 use Rattle.pk_background.specs.Filling.{lacks_frames}
 

@@ -1,7 +1,6 @@
 -- Rows of pages: a block is the row of n pages that begins at a multiple of n.
 use Rattle.std.proofs.Common.{◌≡◌, ℕ, suc, ◌+◌, ◌-◌, ◌*◌, ◌/◌, ◌<◌, ◌≤◌, arith, subst, suc-mul, div-add-mod', mod-lt}
-use Rattle.std.proofs.Math.Nat.{mul-le-mul_right}
-use Rattle.std.proofs.lemmas.Nat.{div-mul-add}
+use Rattle.std.{proofs.Math.Nat.mul-le-mul_right, proofs.lemmas.Nat.div-mul-add}
 
 pub apart : (a b n : ℕ) → a < b → a * n + n ≤ b * n
 apart a b n h = omega (arith, mul-le-mul_right {m = suc a} {n = b} n (omega arith), suc-mul a n)

@@ -1,11 +1,7 @@
 -- The pages of a commit: a pair of one block, and of no other commit.
 use Rattle.std.proofs.Common.{◌≡◌, ◌≢◌, ℕ, ◌+◌, ◌-◌, ◌*◌, ◌/◌, ◌%◌, ◌<◌, ◌≤◌, ◌⊎◌, inl, inr, zero, suc, refl, sym, ap, ◌∙◌, arith, List, mod-lt, div-add-mod'}
-use Rattle.std.specs.Prelude.{slice_index}
-use Rattle.std.proofs.lemmas.Nat.{div-mul-add}
-use Rattle.std.proofs.Math.Nat.{mul_assoc, mul_comm}
-use Rattle.pk_base.specs.Shape.{Shape, IsShape, epoch_pages, epoch_commits}
-use Rattle.pk_base.specs.Page.{page_in, commit_page}
-use Rattle.pk_base.proofs.EpochPages.{only_index}
+use Rattle.std.{specs.Prelude.slice_index, proofs.lemmas.Nat.div-mul-add, proofs.Math.Nat.mul_assoc, proofs.Math.Nat.mul_comm}
+use Rattle.pk_base.{specs.Shape.Shape, specs.Shape.IsShape, specs.Shape.epoch_pages, specs.Shape.epoch_commits, specs.Page.page_in, specs.Page.commit_page, proofs.EpochPages.only_index}
 
 -- what remains of a number in its block is even if the number and the block are
 pub even_rest : (x n : ℕ) → x % 2 ≡ 0 → n % 8 ≡ 0 → x % n % 2 ≡ 0

@@ -1,14 +1,9 @@
 -- Keys as their namespace and their bytes, their order, and lists of entries whose keys rise.
 use Rattle.std.proofs.Common.{◌≡◌, ℕ, ◌≤◌, Bool, true, false, cond, T, List, [], ◌∷◌, length, refl, ap, sym, subst, ◌∙◌, arith, None, Ordering, Less, Equal, Greater}
-use Rattle.std.specs.Prelude.{nat_lt, ◌==◌}
-use Rattle.std.proofs.lemmas.Bool.Decides.{nat_tests}
-use Rattle.std.specs.Ordering.{nat_cmp, is_lt, ordering_then, ordering_reverse}
-use Rattle.std.specs.FinMap.{slice_cmp-IsAntisymmetric, nat_cmp-IsAntisymmetric}
+use Rattle.std.{specs.Prelude.nat_lt, specs.Prelude.◌==◌, proofs.lemmas.Bool.Decides.nat_tests, specs.FinMap.slice_cmp-IsAntisymmetric, specs.FinMap.nat_cmp-IsAntisymmetric}
+use Rattle.std.{specs.Ordering.nat_cmp, specs.Ordering.is_lt, specs.Ordering.ordering_then, specs.Ordering.ordering_reverse, proofs.lemmas.Cmp.nat_list_cmp_total}
 use Rattle.std.specs.FinMap.Entries.{find, is_sorted, below_all, is_sorted-put}
-use Rattle.std.proofs.lemmas.Cmp.{nat_list_cmp_total}
-use Rattle.pk_base.specs.Key.{Key, IsKey, key_cmp, space_of, bytes_of}
-use Rattle.pk_base.specs.Entry.{Entry}
-use Rattle.pk_base.specs.Firsts.{firsts}
+use Rattle.pk_base.{specs.Key.Key, specs.Key.IsKey, specs.Key.key_cmp, specs.Key.space_of, specs.Key.bytes_of, specs.Entry.Entry, specs.Firsts.firsts}
 use Rattle.pk_base.proofs.Logic.{left_part, right_part, both, less}
 
 pub same_key : (a b : Key) → key_cmp a b ≡ Equal → a ≡ b

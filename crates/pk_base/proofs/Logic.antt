@@ -1,7 +1,6 @@
 -- Truth values, comparisons and answers, by cases.
 use Rattle.std.proofs.Common.{◌≡◌, ◌⊎◌, inl, inr, refl, Bool, true, false, ◌&&◌, ◌||◌, T, ℕ, Option, Some, Result, Ok, Ordering, Less, Equal, Greater}
-use Rattle.std.specs.Prelude.{⊤}
-use Rattle.std.specs.Ordering.{is_lt, is_eq}
+use Rattle.std.{specs.Prelude.⊤, specs.Ordering.is_lt, specs.Ordering.is_eq}
 use Rattle.pk_base.specs.Refusal.{Refusal, ensure}
 
 -- ---- truth values

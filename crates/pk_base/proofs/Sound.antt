@@ -1,16 +1,9 @@
 -- The tests of entries decide what entries are.
 use Rattle.std.proofs.Common.{◌≡◌, ℕ, ◌≤◌, Bool, true, false, List, [], ◌∷◌, length, refl, arith, Some, None}
-use Rattle.std.specs.Prelude.{nat_le, ◌&&◌, if◌then◌else◌}
-use Rattle.std.specs.List.{list_all, AllByRecursion}
-use Rattle.std.proofs.lemmas.Bool.Decides.{nat_tests}
-use Rattle.pk_base.specs.declared.sizes.TheConstants.{MOST_SPACES}
-use Rattle.pk_base.specs.Key.{Key, IsKey, is_key, space_of, bytes_of}
-use Rattle.pk_base.specs.Shape.{Shape, page_entries}
-use Rattle.pk_base.specs.Entry.{Entry}
+use Rattle.std.{specs.Prelude.nat_le, specs.Prelude.◌&&◌, specs.Prelude.if◌then◌else◌, specs.List.list_all, specs.List.AllByRecursion, proofs.lemmas.Bool.Decides.nat_tests}
+use Rattle.pk_base.{specs.declared.sizes.TheConstants.MOST_SPACES, specs.Key.Key, specs.Key.IsKey, specs.Key.is_key, specs.Key.space_of, specs.Key.bytes_of, specs.Entry.Entry, proofs.Logic.both_true}
+use Rattle.pk_base.{specs.Shape.Shape, specs.Shape.page_entries, specs.EntryChecks.IsEntry, specs.EntryChecks.AreEntries, proofs.EntryLemmas.place_is, proofs.EntryLemmas.is_place}
 use Rattle.pk_base.specs.EntryBytes.{is_place_page, is_place_len, is_place_of, is_entry, are_entries}
-use Rattle.pk_base.specs.EntryChecks.{IsEntry, AreEntries}
-use Rattle.pk_base.proofs.EntryLemmas.{place_is, is_place}
-use Rattle.pk_base.proofs.Logic.{both_true}
 
 pub if_some : {A : Type 0} (b : Bool) (x y : A) → (if b then Some x else None) ≡ Some y → (b ≡ true) × (x ≡ y)
 if_some true x y e = (refl, cc)

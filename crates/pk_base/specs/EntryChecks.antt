@@ -1,14 +1,10 @@
 -- When the 32 bytes of an entry pass, and the first field that is wrong.
 use Rattle.std.specs.Prelude.{◌≡◌, ℕ, zero, suc, ◌+◌, ◌-◌, ◌/◌, ◌%◌, ◌<◌, ◌≤◌, List, [], ◌∷◌, length, slice_index, Bool, ◌==◌, ◌&&◌, ◌||◌, not, nat_le, nat_lt, if◌then◌else◌, Option, Some, None}
-use Rattle.std.specs.List.{AllByRecursion}
-use Rattle.std.specs.Ordering.{is_lt}
+use Rattle.std.{specs.List.AllByRecursion, specs.Ordering.is_lt}
 use Rattle.pk_base.specs.declared.sizes.TheConstants.{KEY_BYTES, ENTRY_BYTES, MOST_SPACES, ROOT_BLOCKS}
-use Rattle.pk_base.specs.declared.entry.TheConstants.{PUT_KIND, GONE_KIND}
-use Rattle.pk_base.specs.Fields.{number_at, field, zeros}
-use Rattle.pk_base.specs.FieldFaults.{unlike, unless, first_fault}
-use Rattle.pk_base.specs.Key.{Key, key_cmp, IsKey}
+use Rattle.pk_base.{specs.declared.entry.TheConstants.PUT_KIND, specs.declared.entry.TheConstants.GONE_KIND, specs.Fields.number_at, specs.Fields.field, specs.Fields.zeros}
+use Rattle.pk_base.{specs.FieldFaults.unlike, specs.FieldFaults.unless, specs.FieldFaults.first_fault, specs.Key.Key, specs.Key.key_cmp, specs.Key.IsKey, specs.Entry.Entry, specs.Entry.Place}
 use Rattle.pk_base.specs.Shape.{Shape, page_count, page_entries, greatest, charge}
-use Rattle.pk_base.specs.Entry.{Entry, Place}
 use Rattle.pk_base.specs.EntryBytes.{cell_at, cell_key, is_place_len, is_place_page}
 
 -- the value's pages are in one block after the root blocks, from an even one on

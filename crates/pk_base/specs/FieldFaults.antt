@@ -1,8 +1,6 @@
 -- The first field of a list of bytes that is wrong.
 use Rattle.std.specs.Prelude.{◌≡◌, ℕ, ◌+◌, List, [], ◌∷◌, slice_index, Bool, ◌==◌, if◌then◌else◌, Option, Some, None, Result, Ok, Err}
-use Rattle.pk_base.specs.Choices.{or_else}
-use Rattle.pk_base.specs.declared.fields.Wrong.{Wrong}
-use Rattle.pk_base.specs.Fields.{field, number_at}
+use Rattle.pk_base.{specs.Choices.or_else, specs.declared.fields.Wrong.Wrong, specs.Fields.field, specs.Fields.number_at}
 
 abbrev pub u64_at : List ℕ → ℕ → ℕ
 u64_at bytes at = number_at 8 at bytes

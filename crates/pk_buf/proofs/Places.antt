@@ -1,24 +1,16 @@
 -- A list with rising keys: the place of a key, and an entry written there.
 use Rattle.std.proofs.Common.{◌≡◌, ℕ, zero, suc, ◌+◌, ◌<◌, ◌≤◌, Bool, true, false, T, List, [], ◌∷◌, length, take, drop, get_or, set, refl, ap, sym, ◌∙◌, arith, ◌⊎◌, inl, inr, Option, Some, None}
 use Rattle.std.proofs.Common.{IsSome, Ordering, Less, Equal, Greater, length-set}
-use Rattle.std.specs.Prelude.{slice_get}
-use Rattle.std.specs.List.{AllWithin, insert, refill, take-map, drop-map}
-use Rattle.std.specs.List.Sorted.{IsPartitionedBy, IsPartitionPoint}
-use Rattle.std.specs.Option.{option_map}
-use Rattle.std.specs.Ordering.{is_lt}
+use Rattle.std.{specs.Prelude.slice_get, specs.List.AllWithin, specs.List.insert, specs.List.refill, specs.List.take-map, specs.List.drop-map, specs.Option.option_map, specs.Ordering.is_lt}
+use Rattle.std.{specs.List.Sorted.IsPartitionedBy, specs.List.Sorted.IsPartitionPoint, proofs.lemmas.Cmp.nat_list_cmp_total}
 use Rattle.std.specs.FinMap.Entries.{put, find, is_sorted, below_all}
-use Rattle.std.proofs.lemmas.Cmp.{nat_list_cmp_total}
 use Rattle.std.proofs.lemmas.Option.{slice_get-get_or, slice_get_past, slice_get-map}
 use Rattle.std.proofs.lemmas.List.{get_or_default, map-append, map-set}
 use mathlib.Core.Bool.{false≢true}
-use Rattle.smallvec.specs.SmallVec.{SmallVec}
-use Rattle.smallvec.proofs.SmallVecLemmas.{items-with_items}
-use Rattle.pk_base.specs.Key.{Key, key_cmp}
-use Rattle.pk_base.specs.Entry.{Entry, Place}
-use Rattle.pk_buf.specs.declared.slot.Slot.{Slot}
-use Rattle.pk_buf.specs.Table.{Table, is_below, has_key, place_of, has_at, content, contents}
+use Rattle.smallvec.{specs.SmallVec.SmallVec, proofs.SmallVecLemmas.items-with_items}
+use Rattle.pk_base.{specs.Key.Key, specs.Key.key_cmp, specs.Entry.Entry, specs.Entry.Place, proofs.KeyLemmas.same_key, proofs.KeyLemmas.turned, proofs.KeyLemmas.below_less, proofs.KeyLemmas.missing}
 use Rattle.pk_base.proofs.Logic.{is_true, left_part, right_part, lt_less, equal}
-use Rattle.pk_base.proofs.KeyLemmas.{same_key, turned, below_less, missing}
+use Rattle.pk_buf.{specs.declared.slot.Slot.Slot, specs.Table.Table, specs.Table.is_below, specs.Table.has_key, specs.Table.place_of, specs.Table.has_at, specs.Table.content, specs.Table.contents}
 
 -- ---- the order of keys
 

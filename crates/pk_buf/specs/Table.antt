@@ -1,11 +1,7 @@
 -- A write buffer as the list of its entries.
 use Rattle.std.specs.Prelude.{ℕ, suc, cond, Bool, false, List, [], ◌∷◌, map, slice_get}
-use Rattle.std.specs.Ordering.{is_lt, is_eq}
-use Rattle.std.specs.Option.{option_map_or}
-use Rattle.pk_base.specs.Key.{Key, key_cmp}
-use Rattle.pk_base.specs.Entry.{Entry, key_of}
-use Rattle.pk_base.specs.Shape.{Shape, buffer}
-use Rattle.pk_base.specs.Seen.{entry}
+use Rattle.std.{specs.Ordering.is_lt, specs.Ordering.is_eq, specs.Option.option_map_or}
+use Rattle.pk_base.{specs.Key.Key, specs.Key.key_cmp, specs.Entry.Entry, specs.Entry.key_of, specs.Shape.Shape, specs.Shape.buffer, specs.Seen.entry}
 use Rattle.pk_buf.specs.declared.slot.Slot.{Slot}
 
 -- how many entries there is room for, and the entries, rising by key

@@ -1,26 +1,15 @@
 -- What a command answers and does: the contract of a drive, in the words of a caller.
 use Rattle.std.specs.Prelude.{◌≡◌, ◌≢◌, ◌+◌, ◌≤◌, ℕ, List, length, take, true, false, IsSome}
 use Rattle.pk_base.specs.Shape.{charge}
-use Rattle.pk_nvme.specs.Command.{key}
-use Rattle.pk_nvme.specs.Seen.{command_of}
+use Rattle.pk_nvme.{specs.Command.key, specs.Seen.command_of, specs.declared.request.Request.Request}
 use Rattle.pk_nvme.specs.declared.opcode.TheConstants.{STORE, DELETE, TICK, REPORT}
-use Rattle.pk_nvme.specs.declared.request.Request.{Request}
 use Rattle.pk_nvme.specs.declared.status.TheConstants.{SUCCESSFUL_COMPLETION, UNRECOVERED_ERROR}
-use Rattle.pk_nand.specs.BoardState.{BoardState, shape_of}
-use Rattle.pk_nand.specs.Calls.{Rose}
-use Rattle.pk_nand.specs.Effects.{OnlyReading, NoFault}
-use Rattle.pk_model.specs.Spaces.{limits_at}
-use Rattle.pk_model.specs.Answer.{early}
-use Rattle.pk_call.specs.Sight.{Sight, in_space_at}
-use Rattle.pk_model.specs.Wear.{roots}
-use Rattle.pk_call.specs.Calling.{FewCalls, most_calls_of, only_looks}
-use Rattle.pk_call.specs.Exec.{ExecStands, IsNextMerge, most_installs, report_of}
-use Rattle.pk_call.specs.Meter.{reads_after}
+use Rattle.pk_nand.{specs.BoardState.BoardState, specs.BoardState.shape_of, specs.Calls.Rose, specs.Effects.OnlyReading, specs.Effects.NoFault}
+use Rattle.pk_model.{specs.Spaces.limits_at, specs.Answer.early, specs.Wear.roots}
+use Rattle.pk_call.{specs.Sight.Sight, specs.Sight.in_space_at, specs.Calling.FewCalls, specs.Calling.most_calls_of, specs.Calling.only_looks, specs.Meter.reads_after, specs.Seen.reply_of}
+use Rattle.pk_call.{specs.Exec.ExecStands, specs.Exec.IsNextMerge, specs.Exec.most_installs, specs.Exec.report_of, specs.Settling.may_raise, specs.Settling.Settles, specs.Settling.RestsAfter}
 use Rattle.pk_call.specs.Moving.{KeepsFresh, BlocksGrow, Stores, IsQuiet, HasOpenRoom, Quietly, commits_for}
-use Rattle.pk_call.specs.Seen.{reply_of}
-use Rattle.pk_call.specs.Settling.{may_raise, Settles, RestsAfter}
-use Rattle.pk_call.specs.Steady.{Steadies}
-use Rattle.pk_call.specs.declared.types.Outcome.{Outcome}
+use Rattle.pk_call.{specs.Steady.Steadies, specs.declared.types.Outcome.Outcome}
 
 -- What is answered: the reply and the map after it. A command that is refused or only looks does not change the drive.
 pub record AnswersCommand (old new : BoardState) (before after : Sight) (r : Request) (value : List ℕ) (o : Outcome) (buffer into : List ℕ) : Type 0 where

@@ -1,13 +1,9 @@
 -- What a call of a drive leaves, for every map that the drive may represent.
-use Rattle.pk_base.specs.Shape.{Shape}
-use Rattle.pk_base.specs.Map.{Map}
+use Rattle.pk_base.{specs.Shape.Shape, specs.Map.Map}
 use Rattle.pk_nand.specs.BoardState.{BoardState, shape_of}
-use Rattle.pk_model.specs.Spaces.{Terms, limits_at}
+use Rattle.pk_model.{specs.Spaces.Terms, specs.Spaces.limits_at, specs.Crashes.Moment, specs.Crashes.CrashFinds, specs.Crashes.command, specs.Growth.Reaches, specs.Growth.Goes}
 use Rattle.pk_nvme.specs.Command.{Command}
-use Rattle.pk_model.specs.Crashes.{Moment, CrashFinds, command}
-use Rattle.pk_model.specs.Growth.{Reaches, Goes}
-use Rattle.pk_call.specs.Sight.{Sight}
-use Rattle.pk_call.specs.Drive.{HoldsMap}
+use Rattle.pk_call.{specs.Sight.Sight, specs.Drive.HoldsMap}
 
 -- it represents the same map after the call
 abbrev pub KeepsMap : BoardState → BoardState → Sight → Sight → Type 0

@@ -2,8 +2,7 @@
 use Rattle.std.specs.Prelude.{◌≡◌, ℕ, ◌+◌, ◌≤◌, ◌==◌, ◌||◌, not, Bool, if◌then◌else◌}
 use Rattle.pk_base.specs.Shape.{Shape, most_calls}
 use Rattle.pk_nvme.specs.declared.opcode.TheConstants.{STORE, DELETE, TICK}
-use Rattle.pk_nand.specs.BoardState.{BoardState}
-use Rattle.pk_nand.specs.Counts.{counted_by}
+use Rattle.pk_nand.{specs.BoardState.BoardState, specs.Counts.counted_by}
 
 -- At most this many flash operations were made, failed ones included.
 pub record FewCalls (most : ℕ) (old new : BoardState) : Type 0 where

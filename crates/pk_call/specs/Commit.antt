@@ -1,18 +1,9 @@
 -- What a commit does, for every map that the drive may represent.
 use Rattle.std.specs.Prelude.{◌≡◌, ◌≢◌, ◌≤◌, ℕ, [], Bool, true, false}
-use Rattle.pk_base.specs.Shape.{Shape, commit_programs}
-use Rattle.pk_base.specs.Map.{Map}
-use Rattle.pk_nand.specs.BoardState.{BoardState}
-use Rattle.pk_nand.specs.Calls.{Rose}
-use Rattle.pk_nand.specs.Counts.{counted_by}
-use Rattle.pk_nand.specs.Effects.{NoFault}
-use Rattle.pk_model.specs.Spaces.{Terms}
-use Rattle.pk_call.specs.Sight.{Sight}
-use Rattle.pk_model.specs.Wear.{roots}
-use Rattle.pk_call.specs.Call.{KeepsMap}
-use Rattle.pk_call.specs.Drive.{HoldsMap}
-use Rattle.pk_call.specs.Moving.{Commits}
-use Rattle.pk_call.specs.Steady.{Steadies}
+use Rattle.pk_base.{specs.Shape.Shape, specs.Shape.commit_programs, specs.Map.Map}
+use Rattle.pk_nand.{specs.BoardState.BoardState, specs.Calls.Rose, specs.Counts.counted_by, specs.Effects.NoFault}
+use Rattle.pk_model.{specs.Spaces.Terms, specs.Wear.roots}
+use Rattle.pk_call.{specs.Sight.Sight, specs.Call.KeepsMap, specs.Drive.HoldsMap, specs.Moving.Commits, specs.Steady.Steadies}
 
 -- At least n of the programs of a commit were made, the failed one included, and no other call.
 pub record ProgramsOfCommit (least : ℕ) (old new : BoardState) : Type 0 where

@@ -1,8 +1,6 @@
 -- What a drive is over a board.
-use Rattle.std.specs.Prelude.{◌≡◌, ℕ, length, Some, Ok}
-use Rattle.std.specs.FinMap.{len}
-use Rattle.pk_base.specs.Shape.{Shape, pinned}
-use Rattle.pk_base.specs.Map.{Map, live}
+use Rattle.std.{specs.Prelude.◌≡◌, specs.Prelude.ℕ, specs.Prelude.length, specs.Prelude.Some, specs.Prelude.Ok, specs.FinMap.len}
+use Rattle.pk_base.{specs.Shape.Shape, specs.Shape.pinned, specs.Map.Map, specs.Map.live}
 use Rattle.pk_nand.specs.BoardState.{BoardState}
 use Rattle.pk_model.specs.Spaces.{Terms, AreInSpaces, in_space, limit_of, limits_at}
 use Rattle.pk_call.specs.Sight.{InSpace, Sight, Counts, map_of}

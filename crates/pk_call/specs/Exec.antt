@@ -1,22 +1,12 @@
 -- What one command does, for every map that the drive may represent.
 use Rattle.std.specs.Prelude.{◌≡◌, ◌≢◌, ◌⊎◌, ℕ, ◌+◌, ◌-◌, ◌*◌, ◌≤◌, ◌<◌, min, length, List, [], ◌∷◌, flat_map, Option, Some, None, ◌==◌, if◌then◌else◌}
 use Rattle.std.specs.FinMap.{get}
-use Rattle.pk_nvme.specs.declared.opcode.TheConstants.{STORE, TICK}
-use Rattle.pk_base.specs.Shape.{Shape, fetched, greatest}
-use Rattle.pk_base.specs.Map.{Map}
-use Rattle.pk_base.specs.Merge.{next_merge}
-use Rattle.pk_base.specs.Fields.{u32}
-use Rattle.pk_nvme.specs.Command.{Command, key}
-use Rattle.pk_nvme.specs.Reply.{Reply}
-use Rattle.pk_nand.specs.BoardState.{BoardState}
-use Rattle.pk_nvme.specs.Opcode.{op_of}
+use Rattle.pk_nvme.{specs.declared.opcode.TheConstants.STORE, specs.declared.opcode.TheConstants.TICK, specs.Command.Command, specs.Command.key, specs.Reply.Reply, specs.Opcode.op_of}
 use Rattle.pk_nvme.specs.declared.opcode.Opcode.TheVariants.{Retrieve}
-use Rattle.pk_model.specs.Answer.{early}
-use Rattle.pk_model.specs.Spaces.{Terms}
-use Rattle.pk_model.specs.Run.{Step}
-use Rattle.pk_model.specs.Bounds.{most_reads}
-use Rattle.pk_call.specs.Sight.{InSpace, Sight, Counts, levels_held, numbers}
-use Rattle.pk_call.specs.Drive.{HoldsMap}
+use Rattle.pk_base.{specs.Shape.Shape, specs.Shape.fetched, specs.Shape.greatest, specs.Map.Map, specs.Merge.next_merge, specs.Fields.u32}
+use Rattle.pk_nand.specs.BoardState.{BoardState}
+use Rattle.pk_model.{specs.Answer.early, specs.Spaces.Terms, specs.Run.Step, specs.Bounds.most_reads}
+use Rattle.pk_call.{specs.Sight.InSpace, specs.Sight.Sight, specs.Sight.Counts, specs.Sight.levels_held, specs.Sight.numbers, specs.Drive.HoldsMap}
 
 -- most pages that a Retrieve reads if this many levels have all their pages in frames, by its status if it is refused, and by the value of its key
 abbrev pub most_reads_beyond : Shape → ℕ → Command → Option ℕ → Option (List ℕ) → ℕ

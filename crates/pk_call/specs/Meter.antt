@@ -1,12 +1,8 @@
 -- What each command does to the counts of a board.
-use Rattle.std.specs.Prelude.{◌≡◌, ◌≢◌, ℕ, ◌+◌, ◌≤◌, ◌<◌, min, List}
-use Rattle.std.specs.List.{FoldsTo}
+use Rattle.std.{specs.Prelude.◌≡◌, specs.Prelude.◌≢◌, specs.Prelude.ℕ, specs.Prelude.◌+◌, specs.Prelude.◌≤◌, specs.Prelude.◌<◌, specs.Prelude.min, specs.Prelude.List, specs.List.FoldsTo}
 use Rattle.pk_nvme.specs.declared.status.TheConstants.{UNRECOVERED_ERROR}
-use Rattle.pk_nand.specs.BoardState.{BoardState}
-use Rattle.pk_nand.specs.Calls.{Rose, last_count}
-use Rattle.pk_model.specs.Run.{Exchange}
-use Rattle.pk_model.specs.Wear.{roots}
-use Rattle.pk_model.specs.declared.wear.TheConstants.{WORN_FROM}
+use Rattle.pk_nand.{specs.BoardState.BoardState, specs.Calls.Rose, specs.Calls.last_count}
+use Rattle.pk_model.{specs.Run.Exchange, specs.Wear.roots, specs.declared.wear.TheConstants.WORN_FROM}
 use Rattle.pk_call.specs.Exec.{most_installs}
 
 -- how many pages were read, the count of reads that failed, and the number of the newest root

@@ -1,23 +1,13 @@
 -- How what is seen of a drive changes in a call.
 use Rattle.std.specs.Prelude.{◌≡◌, ◌≢◌, ◌⊎◌, ℕ, ◌+◌, ◌-◌, ◌/◌, ◌<◌, ◌≤◌, ◌==◌, if◌then◌else◌, [], ◌++◌, length, true, false, Some, IsSome}
 use Rattle.std.specs.FinMap.Entries.{find}
-use Rattle.pk_base.specs.Key.{Key, key_cmp}
+use Rattle.pk_base.{specs.Key.Key, specs.Key.key_cmp, specs.Page.Flash, specs.Page.page_at, specs.Page.commit_page, specs.Page.erased, specs.Entry.Place, specs.Firsts.firsts, specs.Map.Map}
 use Rattle.pk_base.specs.Shape.{Shape, charge, buffer, page_entries, epoch_commits, pinned, commit_programs}
-use Rattle.pk_base.specs.Page.{Flash, page_at, commit_page, erased}
-use Rattle.pk_base.specs.Entry.{Place}
-use Rattle.pk_base.specs.Firsts.{firsts}
-use Rattle.pk_base.specs.Map.{Map}
-use Rattle.pk_rootfmt.specs.Root.{Root}
-use Rattle.pk_rootfmt.specs.Newest.{newest_root}
-use Rattle.pk_nvme.specs.Command.{Command, key}
-use Rattle.pk_nvme.specs.declared.opcode.TheConstants.{STORE}
-use Rattle.pk_nand.specs.BoardState.{BoardState}
-use Rattle.pk_nand.specs.Counts.{counted_by}
-use Rattle.pk_model.specs.Spaces.{Terms}
-use Rattle.pk_model.specs.Found.{entries_in_order}
-use Rattle.pk_model.specs.Tree.{Tree, IsTree}
-use Rattle.pk_call.specs.Sight.{Sight, free_pages}
-use Rattle.pk_call.specs.Drive.{HoldsMap}
+use Rattle.pk_rootfmt.{specs.Root.Root, specs.Newest.newest_root}
+use Rattle.pk_nvme.{specs.Command.Command, specs.Command.key, specs.declared.opcode.TheConstants.STORE}
+use Rattle.pk_nand.{specs.BoardState.BoardState, specs.Counts.counted_by}
+use Rattle.pk_model.{specs.Spaces.Terms, specs.Found.entries_in_order, specs.Tree.Tree, specs.Tree.IsTree}
+use Rattle.pk_call.{specs.Sight.Sight, specs.Sight.free_pages, specs.Drive.HoldsMap}
 
 -- ---- a commit
 

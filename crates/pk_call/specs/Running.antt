@@ -1,15 +1,10 @@
 -- What a call of a drive requires of the drive, its board and what is passed, and what each call leaves of the drive and the board.
 use Rattle.std.specs.Prelude.{◌≡◌, ◌≢◌, ◌<◌, ◌≤◌, ℕ, List, [], length, Bool, true, false, Option}
-use Rattle.pk_base.specs.Shape.{Shape, greatest}
-use Rattle.pk_base.specs.Page.{Flash}
-use Rattle.pk_nvme.specs.declared.limits.TheConstants.{MOST_LIST_BYTES}
-use Rattle.pk_nvme.specs.declared.opcode.TheConstants.{STORE, TICK}
-use Rattle.pk_nand.specs.BoardState.{BoardState}
-use Rattle.pk_nand.specs.Effects.{OnlyFlash}
-use Rattle.pk_model.specs.Crashes.{Moment}
-use Rattle.pk_call.specs.Sight.{Sight}
-use Rattle.pk_model.specs.Wear.{is_worn}
-use Rattle.pk_call.specs.Call.{CallReaches, CallGoes}
+use Rattle.pk_base.{specs.Shape.Shape, specs.Shape.greatest, specs.Page.Flash}
+use Rattle.pk_nvme.{specs.declared.limits.TheConstants.MOST_LIST_BYTES, specs.declared.opcode.TheConstants.STORE, specs.declared.opcode.TheConstants.TICK}
+use Rattle.pk_nand.{specs.BoardState.BoardState, specs.Effects.OnlyFlash}
+use Rattle.pk_model.{specs.Crashes.Moment, specs.Wear.is_worn}
+use Rattle.pk_call.{specs.Sight.Sight, specs.Call.CallReaches, specs.Call.CallGoes}
 
 -- ---- before a call
 

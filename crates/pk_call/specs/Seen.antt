@@ -2,9 +2,7 @@
 use Rattle.std.specs.Prelude.{ℕ, List, take, Bool, false}
 use Rattle.pk_nvme.specs.Reply.{Reply}
 use Rattle.pk_call.specs.Sight as sight
-use Rattle.pk_call.specs.declared.types.Outcome.{Outcome}
-use Rattle.pk_call.specs.declared.types.Counts.{Counts}
-use Rattle.pk_call.specs.declared.types.Ticked.{Ticked}
+use Rattle.pk_call.{specs.declared.types.Outcome.Outcome, specs.declared.types.Counts.Counts, specs.declared.types.Ticked.Ticked}
 use Rattle.pk_call.specs.declared.types.Ticked.TheVariants.{Worked, Idle, Fault}
 
 -- the reply that an outcome reports, with its data at the start of a buffer

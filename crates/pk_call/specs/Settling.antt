@@ -1,12 +1,10 @@
 -- How the remaining background work changes.
 use Rattle.std.specs.Prelude.{◌⊎◌, ℕ, ◌+◌, ◌≤◌, ◌==◌, ◌||◌, Bool}
 use Rattle.pk_nvme.specs.declared.opcode.TheConstants.{STORE, DELETE}
-use Rattle.pk_base.specs.Shape.{Shape}
-use Rattle.pk_base.specs.Map.{Map}
+use Rattle.pk_base.{specs.Shape.Shape, specs.Map.Map}
 use Rattle.pk_nand.specs.BoardState.{BoardState}
 use Rattle.pk_model.specs.Spaces.{Terms}
-use Rattle.pk_call.specs.Sight.{Sight, IsIdle, most_work}
-use Rattle.pk_call.specs.Drive.{HoldsMap}
+use Rattle.pk_call.{specs.Sight.Sight, specs.Sight.IsIdle, specs.Sight.most_work, specs.Drive.HoldsMap}
 
 -- the commands that may raise it
 abbrev pub may_raise : ℕ → Bool

@@ -1,22 +1,14 @@
 -- What holds of a drive that runs between any two calls, by what is on its flash.
 use Rattle.std.specs.Prelude.{◌≡◌, ◌≢◌, ℕ, ◌+◌, ◌-◌, ◌/◌, ◌<◌, ◌≤◌, List, ◌++◌, length, map, take, sum, true, ◌==◌, ◌||◌, nat_lt, if◌then◌else◌, Option, Some}
 use Rattle.std.specs.List.{AllByRecursion}
-use Rattle.pk_base.specs.Shape.{Shape, cap, data_blocks, page_entries, pinned, run_pages}
-use Rattle.pk_base.specs.Page.{Flash, page_at, erased}
+use Rattle.pk_base.{specs.Shape.Shape, specs.Shape.cap, specs.Shape.data_blocks, specs.Shape.page_entries, specs.Shape.pinned, specs.Shape.run_pages, specs.Entry.Entry, specs.Firsts.firsts}
+use Rattle.pk_base.{specs.Page.Flash, specs.Page.page_at, specs.Page.erased, specs.Map.Map}
 use Rattle.pk_adapt.specs.Adapted.{adapted}
-use Rattle.pk_base.specs.Entry.{Entry}
-use Rattle.pk_base.specs.Firsts.{firsts}
-use Rattle.pk_base.specs.Map.{Map}
 use Rattle.pk_rootfmt.specs.Root.{Root, named, differ}
 use Rattle.pk_nand.specs.BoardState.{BoardState}
-use Rattle.pk_model.specs.Spaces.{Terms}
-use Rattle.pk_model.specs.Found.{Found, entries_in_order}
-use Rattle.pk_model.specs.Values.{placed, blocks_with, all_pages}
-use Rattle.pk_model.specs.Laws.{AnyByRecursion}
+use Rattle.pk_model.{specs.Spaces.Terms, specs.Found.Found, specs.Found.entries_in_order, specs.Values.placed, specs.Values.blocks_with, specs.Values.all_pages, specs.Laws.AnyByRecursion}
 use Rattle.pk_model.specs.Tree.{Tree, IsTree}
-use Rattle.pk_call.specs.Sight.{Sight, Counts, entries_of_runs, most_work, pages_of_each}
-use Rattle.pk_call.specs.Drive.{HoldsMap}
-use Rattle.pk_call.specs.Exec.{IsNextMerge}
+use Rattle.pk_call.{specs.Sight.Sight, specs.Sight.Counts, specs.Sight.entries_of_runs, specs.Sight.most_work, specs.Sight.pages_of_each, specs.Drive.HoldsMap, specs.Exec.IsNextMerge}
 
 -- A block that may be taken as it is: after the root blocks, named by no root, not the one that takes values, and wholly Erased.
 pub record IsReadyBlock (shape : Shape) (flash : Flash) (root : Root) (taking : Option ℕ) (b : ℕ) : Type 0 where

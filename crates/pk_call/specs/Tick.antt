@@ -1,22 +1,10 @@
 -- What a background step does, for every map that the drive may represent.
 use Rattle.std.specs.Prelude.{◌≡◌, ◌↔◌, ◌+◌, ◌<◌, ◌≤◌, [], true, false}
-use Rattle.pk_base.specs.Shape.{Shape}
-use Rattle.pk_base.specs.Map.{Map}
-use Rattle.pk_nand.specs.BoardState.{BoardState, shape_of}
-use Rattle.pk_nand.specs.Calls.{Rose}
-use Rattle.pk_nand.specs.Effects.{OnlyReading, NoFault, AtMostOneCall, OneProgram}
-use Rattle.pk_model.specs.Spaces.{Terms}
-use Rattle.pk_model.specs.Growth.{Grows}
-use Rattle.pk_call.specs.Sight.{Sight, IsIdle}
-use Rattle.pk_model.specs.Wear.{roots}
-use Rattle.pk_call.specs.Call.{KeepsMap}
-use Rattle.pk_call.specs.Drive.{HoldsMap}
-use Rattle.pk_call.specs.Exec.{IsNextMerge}
-use Rattle.pk_call.specs.Moving.{KeepsFresh}
-use Rattle.pk_call.specs.Seen.{stopped_by}
-use Rattle.pk_call.specs.Steady.{Steadies}
-use Rattle.pk_call.specs.declared.types.Ticked.{Ticked}
-use Rattle.pk_call.specs.declared.types.Ticked.TheVariants.{Worked, Idle, Fault}
+use Rattle.pk_base.{specs.Shape.Shape, specs.Map.Map}
+use Rattle.pk_nand.{specs.BoardState.BoardState, specs.BoardState.shape_of, specs.Calls.Rose, specs.Effects.OnlyReading, specs.Effects.NoFault, specs.Effects.AtMostOneCall, specs.Effects.OneProgram}
+use Rattle.pk_model.{specs.Spaces.Terms, specs.Growth.Grows, specs.Wear.roots}
+use Rattle.pk_call.{specs.Sight.Sight, specs.Sight.IsIdle, specs.Call.KeepsMap, specs.Drive.HoldsMap, specs.Exec.IsNextMerge, specs.Moving.KeepsFresh, specs.Seen.stopped_by, specs.Steady.Steadies}
+use Rattle.pk_call.{specs.declared.types.Ticked.Ticked, specs.declared.types.Ticked.TheVariants.Worked, specs.declared.types.Ticked.TheVariants.Idle, specs.declared.types.Ticked.TheVariants.Fault}
 
 -- it answers that the drive is idle exactly if it is
 abbrev pub TellsIdle : BoardState → Sight → Ticked → Type 0

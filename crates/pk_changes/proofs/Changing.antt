@@ -1,13 +1,8 @@
 -- A change of the map: steps that keep it, the change in memory, and a commit.
 use Rattle.std.proofs.Common.{◌≡◌, ◌⊎◌, inl, inr, ℕ, ap, ◌∙◌, List, [], ◌++◌, Some, Ok}
-use Rattle.pk_base.specs.Shape.{Shape}
-use Rattle.pk_base.specs.Page.{Flash}
-use Rattle.pk_base.specs.Mark.{all_posted}
-use Rattle.pk_base.specs.Map.{Map}
+use Rattle.pk_base.{specs.Shape.Shape, specs.Page.Flash, specs.Mark.all_posted, specs.Map.Map}
 use Rattle.pk_nand.specs.BoardState.{BoardState}
-use Rattle.pk_model.specs.Reading.{reading}
-use Rattle.pk_model.specs.Growth.{Reaches, Goes}
-use Rattle.pk_model.specs.Crashes.{CrashFinds, commit, change}
+use Rattle.pk_model.{specs.Reading.reading, specs.Growth.Reaches, specs.Growth.Goes, specs.Crashes.CrashFinds, specs.Crashes.commit, specs.Crashes.change}
 use Rattle.pk_model.proofs.Growing.{weaken, weaken_went, at_end, Reaches-then, Goes-then}
 
 -- the flash holds what another held, or this map

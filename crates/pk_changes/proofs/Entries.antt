@@ -1,66 +1,33 @@
 -- Entries that wait for a commit: what the drive represents after them.
 use Rattle.std.proofs.Common.{◌≡◌, inl, inr, ℕ, ◌+◌, ◌-◌, ◌/◌, ◌^◌, ◌<◌, ◌≤◌, refl, sym, ap, subst, ◌∙◌, arith, true, cond, T, List, [], ◌∷◌, ◌++◌, length, Option, Some, None, Ok}
-use Rattle.std.specs.Prelude.{MatchOption, slice_set}
+use Rattle.std.{specs.Prelude.MatchOption, specs.Prelude.slice_set, specs.Cmp.tied_itself, specs.FinMap.insert, specs.FinMap.remove, specs.FinMap.entries, specs.FinMap.entries-insert}
+use Rattle.std.{specs.FinMap.Entries.put, specs.FinMap.Entries.find, specs.FinMap.Entries.is_sorted, specs.FinMap.Entries.find-put, specs.List.AllByRecursion}
 use Rattle.std.specs.Ordering as order
-use Rattle.std.specs.Cmp.{tied_itself}
-use Rattle.std.specs.FinMap.{insert, remove, entries, entries-insert}
-use Rattle.std.specs.FinMap.Entries.{put, find, is_sorted, find-put}
-use Rattle.pk_base.specs.Key.{Key, key_cmp, space_of}
-use Rattle.pk_base.specs.Shape.{Shape, IsShape, charge, greatest, buffer, data_blocks}
-use Rattle.pk_base.specs.Page.{Flash, page_at}
-use Rattle.pk_base.specs.Entry.{Entry, Place}
-use Rattle.pk_base.specs.Firsts.{firsts}
-use Rattle.pk_base.specs.Map.{Map, live, pages_in}
-use Rattle.pk_segfmt.specs.Value.{value_at}
-use Rattle.pk_segfmt.proofs.StoredLemmas.{charge_some}
+use Rattle.pk_base.{specs.Key.Key, specs.Key.key_cmp, specs.Key.space_of, specs.Shape.Shape, specs.Shape.IsShape, specs.Shape.charge, specs.Shape.greatest, specs.Shape.buffer, specs.Shape.data_blocks}
+use Rattle.pk_base.{specs.Page.Flash, specs.Page.page_at, specs.Entry.Entry, specs.Entry.Place, specs.Firsts.firsts, specs.Map.Map, specs.Map.live, specs.Map.pages_in, proofs.EntryLemmas.key_is_key}
+use Rattle.pk_base.{proofs.ShapeLemmas.charge_most, proofs.KeyLemmas.firsts_sorted}
+use Rattle.pk_segfmt.{specs.Value.value_at, proofs.StoredLemmas.charge_some}
 use Rattle.pk_rootfmt.specs.Root.{Root, named}
-use Rattle.pk_model.specs.Found.{Found, entries_in_order}
-use Rattle.pk_model.specs.Values.{placed, fits, all_pages}
-use Rattle.pk_model.specs.Laws.{AnyByRecursion, IsPageOf, IsStorable}
-use Rattle.std.specs.List.{AllByRecursion}
-use Rattle.pk_base.proofs.EntryLemmas.{key_is_key}
-use Rattle.pk_model.proofs.MapLemmas.{key_total}
-use Rattle.pk_model.proofs.ValueSets.{values_sound}
-use Rattle.pk_model.proofs.Stores.{placed-put, reads-put, entries_in_order-push}
-use Rattle.pk_model.proofs.Merges.{placed_sorted}
-use Rattle.pk_model.proofs.Live.{live-pages}
-use Rattle.pk_model.proofs.HeldMap.{nothing_fits}
-use Rattle.pk_law_steps.specs.Under.{IsUnder, counting, places}
-use Rattle.pk_law_steps.proofs.Untouched.{values_under}
-use Rattle.pk_law_steps.proofs.Places.{fits_more}
-use Rattle.pk_law_steps.proofs.Storing.{stores, deletes, placed-gone}
-use Rattle.pk_law_steps.proofs.Counting.{sorted_read, entries-rising}
-use Rattle.pk_log.specs.State.{LogState, pushed}
-use Rattle.pk_log.specs.Logs.{LogOnFlash}
-use Rattle.pk_values.specs.declared.span.Span.{Span}
+use Rattle.pk_model.{specs.Found.Found, specs.Found.entries_in_order, specs.Values.placed, specs.Values.fits, specs.Values.all_pages, proofs.MapLemmas.key_total, proofs.ValueSets.values_sound}
+use Rattle.pk_model.{specs.Laws.AnyByRecursion, specs.Laws.IsPageOf, specs.Laws.IsStorable, proofs.Stores.placed-put, proofs.Stores.reads-put, proofs.Stores.entries_in_order-push}
+use Rattle.pk_model.{proofs.Merges.placed_sorted, proofs.Live.live-pages, proofs.HeldMap.nothing_fits, specs.RootLimits.root_limits, specs.RootLimits.root_spaces, proofs.RootLimits.limits_under}
+use Rattle.pk_model.{proofs.SpacePages.within_put, specs.Spaces.in_space, specs.Spaces.limit_of}
+use Rattle.pk_law_steps.{specs.Under.IsUnder, specs.Under.counting, specs.Under.places, proofs.Untouched.values_under, proofs.Places.fits_more}
+use Rattle.pk_law_steps.{proofs.Storing.stores, proofs.Storing.deletes, proofs.Storing.placed-gone, proofs.Counting.sorted_read, proofs.Counting.entries-rising}
+use Rattle.pk_log.{specs.State.LogState, specs.State.pushed, specs.Logs.LogOnFlash}
+use Rattle.pk_values.{specs.declared.span.Span.Span, specs.State.ValuesState, specs.State.with_head, specs.State.with_heads, specs.Placed.HoldsValues, specs.Placed.ValuesOnFlash, specs.Placed.without}
+use Rattle.pk_values.{specs.Entries.span_of, specs.Entries.span_if_some, specs.Entries.heads_without, specs.Entries.ValueHeld, specs.Entries.ValueMoves, specs.Laws.value_blocks}
+use Rattle.pk_values.{proofs.Lists.found_page, proofs.Lists.found_place, proofs.Unchanged.lie_in_few}
 use Rattle.pk_live.specs.Values.{Values}
-use Rattle.pk_values.specs.State.{ValuesState, with_head, with_heads}
-use Rattle.pk_values.specs.Placed.{HoldsValues, ValuesOnFlash, without}
-use Rattle.pk_values.specs.Entries.{span_of, span_if_some, heads_without, ValueHeld, ValueMoves}
 use Rattle.pk_gc.specs.Standing.{ReclaimOnFlash}
-use Rattle.pk_values.specs.Laws.{value_blocks}
-use Rattle.pk_values.proofs.Lists.{found_page, found_place}
-use Rattle.pk_values.proofs.Unchanged.{lie_in_few}
-use Rattle.pk_parts.specs.Parts.{Parts, frames_of, index_of, outputs_of}
-use Rattle.pk_parts.specs.Agreeing.{DriveOnFlashWith}
-use Rattle.pk_parts.specs.Moves.{StandsFor}
-use Rattle.pk_changes.specs.Noting.{Puts, Drops, pages_at}
-use Rattle.pk_changes.proofs.Using.{can_leave, use_few, use_of_put, use_of_gone}
-use Rattle.pk_scan.specs.Used.{IsUseOf}
-use Rattle.pk_space.specs.Uses.{Use, IsSpace, CanLeave, space_live, space_keys, value_count, used_after}
-use Rattle.pk_scan.proofs.Using.{value_count_most}
-use Rattle.pk_base.proofs.ShapeLemmas.{charge_most}
-use Rattle.pk_schedule.proofs.Keeping.{index_pushed}
-use Rattle.pk_parts.proofs.Halves.{whole_like}
-use Rattle.pk_parts.proofs.Reclaiming.{reclaim_stored, reclaim_gone, zero_fewer, replaced_fewer}
-use Rattle.pk_background.proofs.Beside.{named_owner, journal_or_values, meta_or_values}
-use Rattle.pk_base.proofs.KeyLemmas.{firsts_sorted}
-use Rattle.pk_model.specs.RootLimits.{root_limits, root_spaces}
-use Rattle.pk_model.proofs.RootLimits.{limits_under}
-use Rattle.pk_model.proofs.SpacePages.{within_put}
-use Rattle.pk_model.specs.Spaces.{in_space, limit_of}
-use Rattle.pk_parts.proofs.OwnLimits.{limits_with}
+use Rattle.pk_parts.{specs.Parts.Parts, specs.Parts.frames_of, specs.Parts.index_of, specs.Parts.outputs_of, specs.Agreeing.DriveOnFlashWith, specs.Moves.StandsFor, proofs.Halves.whole_like}
+use Rattle.pk_parts.{proofs.Reclaiming.reclaim_stored, proofs.Reclaiming.reclaim_gone, proofs.Reclaiming.zero_fewer, proofs.Reclaiming.replaced_fewer, proofs.OwnLimits.limits_with}
 use Rattle.pk_parts.proofs.MapValues.{page_sizes, some_bytes, map_reads, places_within}
+use Rattle.pk_changes.{specs.Noting.Puts, specs.Noting.Drops, specs.Noting.pages_at, proofs.Using.can_leave, proofs.Using.use_few, proofs.Using.use_of_put, proofs.Using.use_of_gone}
+use Rattle.pk_scan.{specs.Used.IsUseOf, proofs.Using.value_count_most}
+use Rattle.pk_space.specs.Uses.{Use, IsSpace, CanLeave, space_live, space_keys, value_count, used_after}
+use Rattle.pk_schedule.proofs.Keeping.{index_pushed}
+use Rattle.pk_background.proofs.Beside.{named_owner, journal_or_values, meta_or_values}
 
 -- ---- numbers
 

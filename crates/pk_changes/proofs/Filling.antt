@@ -1,28 +1,17 @@
 -- The pages of a value that were reserved, and then written.
 use Rattle.std.proofs.Common.{◌≡◌, ◌≢◌, ◌⊎◌, inl, inr, ℕ, zero, suc, ◌+◌, ◌-◌, ◌<◌, ◌≤◌, List, length, Result, Ok, Err, refl, sym, ap, subst, ◌∙◌, arith}
 use Rattle.std.specs.Prelude.{IfOk, OnErr}
-use Rattle.pk_base.specs.Key.{Key}
-use Rattle.pk_base.specs.Shape.{Shape, charge}
-use Rattle.pk_base.specs.Page.{Flash, page_at, erased, whole}
-use Rattle.pk_base.proofs.ShapeLemmas.{charge_even}
+use Rattle.pk_base.{specs.Key.Key, specs.Shape.Shape, specs.Shape.charge, specs.Page.Flash, specs.Page.page_at, specs.Page.erased, specs.Page.whole, proofs.ShapeLemmas.charge_even}
 use Rattle.pk_segfmt.specs.Stored.{page_of, IsStored}
-use Rattle.pk_nand.specs.BoardState.{BoardState}
-use Rattle.pk_nand.specs.Calls.{ProgramFailed}
-use Rattle.pk_nand.specs.declared.types.Fault.{Fault}
-use Rattle.pk_nand.specs.Crash.{Reached, SameOutside}
+use Rattle.pk_nand.{specs.BoardState.BoardState, specs.Calls.ProgramFailed, specs.declared.types.Fault.Fault, specs.Crash.Reached, specs.Crash.SameOutside}
 use Rattle.pk_model.proofs.Growing.{at_end}
-use Rattle.pk_pool.specs.Blocks.{Blocks}
-use Rattle.pk_pool.specs.Taking.{TakesReady, ErasesFree, FailsToErase}
+use Rattle.pk_pool.{specs.Blocks.Blocks, specs.Taking.TakesReady, specs.Taking.ErasesFree, specs.Taking.FailsToErase}
 use Rattle.pk_seg.specs.Stored.{written}
-use Rattle.pk_values.specs.State.{ValuesState, with_written, next_page}
-use Rattle.pk_values.specs.Placed.{StayPlaced}
-use Rattle.pk_values.specs.Reserving.{TakesNextOrOpens, WritesNext}
+use Rattle.pk_values.{specs.State.ValuesState, specs.State.with_written, specs.State.next_page, specs.Placed.StayPlaced, specs.Reserving.TakesNextOrOpens, specs.Reserving.WritesNext}
 use Rattle.pk_values.specs.Entries.{IsInOpen}
 use Rattle.pk_call.specs.Calling.{FewCalls}
-use Rattle.pk_background.specs.Costs.{place_calls}
-use Rattle.pk_changes.specs.Placing.{Reserves, PlacesValue, FailsToWrite, FailsToPlace}
-use Rattle.pk_background.proofs.Callings.{few_same, few_within, few_then}
-use Rattle.pk_changes.proofs.Programming.{written_programs}
+use Rattle.pk_background.{specs.Costs.place_calls, proofs.Callings.few_same, proofs.Callings.few_within, proofs.Callings.few_then}
+use Rattle.pk_changes.{specs.Placing.Reserves, specs.Placing.PlacesValue, specs.Placing.FailsToWrite, specs.Placing.FailsToPlace, proofs.Programming.written_programs}
 
 not_whole : (bytes : List ℕ) → whole bytes ≡ erased → ⊥
 not_whole bytes e = cc

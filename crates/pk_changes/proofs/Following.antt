@@ -1,21 +1,13 @@
 -- A change of the map after a step that keeps it: what remains of it, and what one leaves that was interrupted.
 use Rattle.std.proofs.Common.{◌≡◌, ℕ, ◌<◌, ◌≤◌, sym, ap, subst, ◌∙◌, arith, false, List, length, Option, Result, Ok, Err}
 use Rattle.std.specs.Prelude.{IfErr, OnOk}
-use Rattle.pk_base.specs.Entry.{Place}
-use Rattle.pk_base.specs.Shape.{Shape, charge, greatest, page_entries}
-use Rattle.pk_base.specs.Key.{Key}
-use Rattle.pk_nand.specs.declared.types.Fault.{Fault}
-use Rattle.pk_nand.specs.declared.types.Fault.TheVariants.{Stopped}
-use Rattle.pk_nand.specs.BoardState.{BoardState}
-use Rattle.pk_nand.specs.Calls.{IsReady}
-use Rattle.pk_parts.specs.Parts.{Parts, frames_of}
-use Rattle.pk_parts.specs.Moves.{KeepsAll, BreaksAll, OnlyCommits, LeavesValues}
-use Rattle.pk_background.specs.Emptying.{StepOrRead, KeepsOrReads, OnRunning}
-use Rattle.pk_background.specs.Spacing.{needs}
+use Rattle.pk_base.{specs.Entry.Place, specs.Shape.Shape, specs.Shape.charge, specs.Shape.greatest, specs.Shape.page_entries, specs.Key.Key}
+use Rattle.pk_nand.{specs.declared.types.Fault.Fault, specs.declared.types.Fault.TheVariants.Stopped, specs.BoardState.BoardState, specs.Calls.IsReady}
+use Rattle.pk_parts.{specs.Parts.Parts, specs.Parts.frames_of, specs.Moves.KeepsAll, specs.Moves.BreaksAll, specs.Moves.OnlyCommits, specs.Moves.LeavesValues}
+use Rattle.pk_background.{specs.Emptying.StepOrRead, specs.Emptying.KeepsOrReads, specs.Emptying.OnRunning, specs.Spacing.needs, proofs.Steps.shape_committed}
+use Rattle.pk_background.proofs.ReadSteps.{Passes, reading_passes, reads_nothing, reading_failed, reading_then, running_ok}
 use Rattle.pk_changes.specs.Changes.{PutsAll, FailsToPut, TakesAll, FailsToTake, CanPut, CanTake, StepPuts, StepTakes, PutsOrReads, TakesOrReads, StaysBetween}
 use Rattle.pk_changes.proofs.Putting.{some_may_put, some_may_take, reclaim_same, put_broken, take_broken, puts_later, fails_later, takes_later, fails_to_take_later}
-use Rattle.pk_background.proofs.ReadSteps.{Passes, reading_passes, reads_nothing, reading_failed, reading_then, running_ok}
-use Rattle.pk_background.proofs.Steps.{shape_committed}
 
 -- ---- what a drive runs by
 

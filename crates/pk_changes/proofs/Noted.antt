@@ -1,28 +1,17 @@
 -- The entry of a value that was stored.
 use Rattle.std.proofs.Common.{◌≡◌, ℕ, ◌+◌, ◌*◌, ◌/◌, ◌<◌, ◌≤◌, sym, ap, subst, ◌∙◌, arith, List, length, Option, Some, None, Result, Ok, Err, cond}
-use Rattle.std.specs.Prelude.{OnOk, MatchOption}
-use Rattle.std.specs.Ordering.{is_eq}
-use Rattle.std.specs.Cmp.{tied_itself}
-use Rattle.std.specs.FinMap.Entries.{find, put, find-put}
-use Rattle.pk_base.specs.Shape.{Shape, charge}
-use Rattle.pk_base.specs.Page.{Flash}
-use Rattle.pk_base.specs.Entry.{Entry, Place}
-use Rattle.pk_base.specs.Key.{Key, key_cmp}
-use Rattle.pk_base.specs.Map.{Map}
+use Rattle.std.{specs.Prelude.OnOk, specs.Prelude.MatchOption, specs.Ordering.is_eq, specs.Cmp.tied_itself, specs.FinMap.Entries.find, specs.FinMap.Entries.put, specs.FinMap.Entries.find-put}
+use Rattle.pk_base.{specs.Shape.Shape, specs.Shape.charge, specs.Page.Flash, specs.Entry.Entry, specs.Entry.Place, specs.Key.Key, specs.Key.key_cmp, specs.Map.Map}
 use Rattle.pk_buf.specs.Table.{Table}
 use Rattle.pk_segfmt.proofs.StoredLemmas.{charge_some}
 use Rattle.pk_nand.specs.declared.types.Fault.{Fault}
-use Rattle.pk_pool.specs.Blocks.{Blocks}
-use Rattle.pk_pool.proofs.Fitting.{block_of}
+use Rattle.pk_pool.{specs.Blocks.Blocks, proofs.Fitting.block_of}
 use Rattle.pk_log.specs.State.{LogState, pushed}
 use Rattle.pk_model.proofs.MapLemmas.{key_total}
-use Rattle.pk_values.specs.State.{ValuesState}
-use Rattle.pk_values.specs.Placed.{IsOpenIn}
+use Rattle.pk_values.{specs.State.ValuesState, specs.Placed.IsOpenIn}
 use Rattle.pk_live.specs.declared.open_block.OpenBlock.{OpenBlock}
-use Rattle.pk_parts.specs.Parts.{Parts, block_if_open}
+use Rattle.pk_parts.{specs.Parts.Parts, specs.Parts.block_if_open, specs.Moves.OnlyCommits, specs.Staying.IsNoted}
 use Rattle.pk_changes.specs.Noting.{Puts}
-use Rattle.pk_parts.specs.Moves.{OnlyCommits}
-use Rattle.pk_parts.specs.Staying.{IsNoted}
 use Rattle.pk_space.specs.Uses.{Use}
 
 -- ---- the entry

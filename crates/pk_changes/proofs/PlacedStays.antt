@@ -1,26 +1,16 @@
 -- What of a drive is unchanged when a value is placed.
 use Rattle.std.proofs.Common.{◌≡◌, inl, inr, ℕ, ◌+◌, ◌-◌, ◌≤◌, refl, sym, ap, subst, ◌∙◌, arith, true, List, length, Option, Some, None}
 use Rattle.std.specs.Prelude.{MatchOption}
-use Rattle.pk_base.specs.Shape.{Shape, IsShape, charge, data_blocks}
-use Rattle.pk_base.specs.Page.{Flash}
-use Rattle.pk_base.specs.Key.{Key}
-use Rattle.pk_base.specs.Map.{Map}
+use Rattle.pk_base.{specs.Shape.Shape, specs.Shape.IsShape, specs.Shape.charge, specs.Shape.data_blocks, specs.Page.Flash, specs.Key.Key, specs.Map.Map, proofs.Logic.some_same}
 use Rattle.pk_plan.specs.declared.owner.Owner.TheVariants.{Values}
 use Rattle.pk_nand.specs.BoardState.{BoardState}
-use Rattle.pk_pool.specs.Blocks.{Blocks, IsSpare, used_by}
-use Rattle.pk_pool.proofs.Sharing.{used_adopted}
-use Rattle.pk_values.specs.State.{ValuesState, more_used, with_written}
-use Rattle.pk_values.specs.Placed.{HoldsValues, IsOpenIn}
+use Rattle.pk_pool.{specs.Blocks.Blocks, specs.Blocks.IsSpare, specs.Blocks.used_by, proofs.Sharing.used_adopted}
+use Rattle.pk_values.{specs.State.ValuesState, specs.State.more_used, specs.State.with_written, specs.Placed.HoldsValues, specs.Placed.IsOpenIn}
 use Rattle.pk_live.specs.declared.open_block.OpenBlock.{OpenBlock}
-use Rattle.pk_gc.specs.declared.course.Phase.{Phase}
+use Rattle.pk_gc.{specs.declared.course.Phase.Phase, specs.Standing.held_blocks, specs.Stepping.runs_in}
 use Rattle.pk_gc.specs.declared.course.Phase.TheVariants.{Idle, Copies, Commits, GivesBack}
-use Rattle.pk_gc.specs.Standing.{held_blocks}
-use Rattle.pk_gc.specs.Stepping.{runs_in}
-use Rattle.pk_parts.specs.Parts.{Parts, outputs_of, block_if_open}
-use Rattle.pk_parts.specs.Moves.{StandsFor}
+use Rattle.pk_parts.{specs.Parts.Parts, specs.Parts.outputs_of, specs.Parts.block_if_open, specs.Moves.StandsFor, specs.Staying.StaysOrOpens}
 use Rattle.pk_changes.specs.Placing.{PlacesValue}
-use Rattle.pk_parts.specs.Staying.{StaysOrOpens}
-use Rattle.pk_base.proofs.Logic.{some_same}
 
 -- ---- a value is placed
 

@@ -1,28 +1,16 @@
 -- How many pages the steps of a change of the map program.
 use Rattle.std.proofs.Common.{◌≡◌, ◌≢◌, inl, inr, ℕ, zero, suc, ◌+◌, ◌<◌, ◌≤◌, refl, sym, ap, subst, ◌∙◌, arith, true, false, ◌==◌, List, [], ◌∷◌, length, Result, Ok, Err}
-use Rattle.std.specs.Prelude.{OnOk, if◌then◌else◌}
-use Rattle.std.proofs.lemmas.Bool.{ne_eqb, eq-eqb, cases_lt}
-use Rattle.std.proofs.lemmas.List.{length-append}
-use Rattle.pk_base.specs.Shape.{Shape, charge, page_entries, commit_programs}
-use Rattle.pk_base.specs.Entry.{Entry}
-use Rattle.pk_base.specs.Key.{Key}
-use Rattle.pk_base.specs.Map.{Map}
-use Rattle.pk_nand.specs.declared.types.Fault.{Fault}
-use Rattle.pk_nand.specs.BoardState.{BoardState}
-use Rattle.pk_nand.specs.Calls.{counted}
-use Rattle.pk_nand.specs.Counts.{counted_by}
+use Rattle.std.{specs.Prelude.OnOk, specs.Prelude.if◌then◌else◌, proofs.lemmas.Bool.ne_eqb, proofs.lemmas.Bool.eq-eqb, proofs.lemmas.Bool.cases_lt, proofs.lemmas.List.length-append}
+use Rattle.pk_base.{specs.Shape.Shape, specs.Shape.charge, specs.Shape.page_entries, specs.Shape.commit_programs, specs.Entry.Entry, specs.Key.Key, specs.Map.Map, proofs.Logic.not_both}
+use Rattle.pk_base.proofs.ShapeLemmas.{entries_some}
+use Rattle.pk_nand.{specs.declared.types.Fault.Fault, specs.BoardState.BoardState, specs.Calls.counted, specs.Counts.counted_by}
 use Rattle.pk_seg.specs.Stored.{written}
 use Rattle.pk_pool.specs.Blocks.{Blocks}
 use Rattle.pk_log.specs.State.{LogState, needs_freeze, pushed}
 use Rattle.pk_values.specs.State.{ValuesState, fits_open}
-use Rattle.pk_call.specs.Commit.{ProgramsOfCommit}
-use Rattle.pk_call.specs.Moving.{commits_for}
-use Rattle.pk_parts.specs.Parts.{Parts, sight_of}
-use Rattle.pk_parts.specs.Moves.{StandsFor}
-use Rattle.pk_changes.specs.Placing.{PlacesValue}
-use Rattle.pk_changes.specs.Programming.{Programs}
-use Rattle.pk_base.proofs.Logic.{not_both}
-use Rattle.pk_base.proofs.ShapeLemmas.{entries_some}
+use Rattle.pk_call.{specs.Commit.ProgramsOfCommit, specs.Moving.commits_for}
+use Rattle.pk_parts.{specs.Parts.Parts, specs.Parts.sight_of, specs.Moves.StandsFor}
+use Rattle.pk_changes.{specs.Placing.PlacesValue, specs.Programming.Programs}
 use Rattle.pk_background.proofs.Callings.{counted_more}
 
 -- ---- counts

@@ -1,33 +1,18 @@
 -- A key gets a value, or loses its own: the steps of that, one after another.
 use Rattle.std.proofs.Common.{◌≡◌, inl, inr, ℕ, ◌≤◌, refl, sym, ap, subst, ◌∙◌, List, [], ◌++◌, length, Bool, Option, Some, Result, Ok, Err}
-use Rattle.std.specs.Prelude.{OnOk, OnErr}
-use Rattle.std.specs.FinMap.{insert, remove}
-use Rattle.std.specs.FinMap.Entries.{find}
-use Rattle.pk_base.specs.Entry.{Place}
-use Rattle.pk_base.specs.Key.{Key, key_cmp, space_of}
-use Rattle.pk_base.specs.Shape.{Shape, charge}
-use Rattle.pk_base.specs.Page.{Flash}
-use Rattle.pk_base.specs.EntryChecks.{IsPlace}
+use Rattle.std.{specs.Prelude.OnOk, specs.Prelude.OnErr, specs.FinMap.insert, specs.FinMap.remove, specs.FinMap.Entries.find}
+use Rattle.pk_base.{specs.Entry.Place, specs.Key.Key, specs.Key.key_cmp, specs.Key.space_of, specs.Shape.Shape, specs.Shape.charge, specs.Page.Flash, specs.EntryChecks.IsPlace, specs.Mark.all_posted}
 use Rattle.pk_base.specs.Map.{Map, live}
-use Rattle.pk_base.specs.Mark.{all_posted}
 use Rattle.pk_plan.specs.declared.owner.Owner.TheVariants.{Values as for_values}
-use Rattle.pk_nand.specs.declared.types.Fault.{Fault}
-use Rattle.pk_nand.specs.BoardState.{BoardState}
-use Rattle.pk_nand.specs.Calls.{IsReady}
-use Rattle.pk_nand.specs.Crash.{ReachedBy}
+use Rattle.pk_nand.{specs.declared.types.Fault.Fault, specs.BoardState.BoardState, specs.Calls.IsReady, specs.Crash.ReachedBy}
 use Rattle.pk_pool.specs.Blocks.{used_by}
-use Rattle.pk_model.specs.Growth.{Reaches, Goes}
-use Rattle.pk_model.specs.Crashes.{CrashFinds, commit, change}
+use Rattle.pk_model.{specs.Growth.Reaches, specs.Growth.Goes, specs.Crashes.CrashFinds, specs.Crashes.commit, specs.Crashes.change}
 use Rattle.pk_model.specs.Spaces.{in_space, limit_of, limits_at}
 use Rattle.pk_model.proofs.Growing.{at_end, weaken, weaken_went, Reaches-then, Goes-then, reached_limits}
-use Rattle.pk_values.specs.State.{needs_reclaim}
-use Rattle.pk_values.specs.Entries.{IsInOpen}
-use Rattle.pk_parts.specs.Parts.{Parts}
-use Rattle.pk_parts.specs.Moves.{StandsFor, Keeps, KeepsAll, BreaksAll, IsWritten}
-use Rattle.pk_changes.specs.Noting.{Puts, Drops}
+use Rattle.pk_values.{specs.State.needs_reclaim, specs.Entries.IsInOpen}
+use Rattle.pk_parts.{specs.Parts.Parts, specs.Moves.StandsFor, specs.Moves.Keeps, specs.Moves.KeepsAll, specs.Moves.BreaksAll, specs.Moves.IsWritten, proofs.Keeping.board_has}
+use Rattle.pk_changes.{specs.Noting.Puts, specs.Noting.Drops, proofs.Changing.IsStill, proofs.Changing.kept_goes, proofs.Changing.changes, proofs.Changing.change_goes}
 use Rattle.pk_changes.specs.Changes.{HasRoomFor, MayPut, MayTake, PutsAll, FailsToPut, TakesAll, FailsToTake}
-use Rattle.pk_parts.proofs.Keeping.{board_has}
-use Rattle.pk_changes.proofs.Changing.{IsStill, kept_goes, changes, change_goes}
 
 -- ---- a step that keeps the map leaves what a change requires
 

@@ -1,10 +1,7 @@
 -- A change of the map that waits for nothing reads nothing.
-use Rattle.std.proofs.Common.{◌≡◌, ap, ◌∙◌, false, Result, Ok, Err}
-use Rattle.std.specs.Prelude.{OnOk}
+use Rattle.std.{proofs.Common.◌≡◌, proofs.Common.ap, proofs.Common.◌∙◌, proofs.Common.false, proofs.Common.Result, proofs.Common.Ok, proofs.Common.Err, specs.Prelude.OnOk}
 use Rattle.pk_base.specs.Key.{Key}
-use Rattle.pk_nand.specs.declared.types.Fault.{Fault}
-use Rattle.pk_nand.specs.BoardState.{BoardState}
-use Rattle.pk_nand.specs.Effects.{Works}
+use Rattle.pk_nand.{specs.declared.types.Fault.Fault, specs.BoardState.BoardState, specs.Effects.Works}
 use Rattle.pk_log.specs.State.{needs_freeze}
 use Rattle.pk_parts.specs.Parts.{Parts}
 use Rattle.pk_changes.specs.Programming.{ReadsQuietly}

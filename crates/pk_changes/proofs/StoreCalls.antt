@@ -4,8 +4,7 @@ use Rattle.pk_base.specs.Shape.{Shape, IsShape, charge, most_pages, most_calls}
 use Rattle.pk_law_work.specs.Calls.{commit_calls, lookup_calls, pair_calls, room_calls, room_roots, store_roots}
 use Rattle.pk_law_work.proofs.Emptying.{deep, emptying_most}
 use Rattle.pk_nand.specs.BoardState.{BoardState}
-use Rattle.pk_background.specs.Costs.{Spends, place_calls, reclaim_calls, put_calls, space_and_put_calls}
-use Rattle.pk_background.proofs.Callings.{spends_then}
+use Rattle.pk_background.{specs.Costs.Spends, specs.Costs.place_calls, specs.Costs.reclaim_calls, specs.Costs.put_calls, specs.Costs.space_and_put_calls, proofs.Callings.spends_then}
 
 -- a Store looks its key up, makes a pair whole that was half made, and looks up once more after the reclaims that make room for its value
 store_least : (shape : Shape) → IsShape shape → lookup_calls + (pair_calls + space_and_put_calls shape (most_pages shape)) ≤ most_calls shape

@@ -1,27 +1,18 @@
 -- What each namespace uses if a key gets a value, or loses its own.
-use Rattle.std.proofs.Common.{◌≡◌, ℕ, zero, suc, ◌+◌, ◌-◌, ◌<◌, ◌≤◌, true, false, not, cond, if◌then◌else◌, ◌==◌, T, List, [], ◌∷◌, ◌++◌, length, length-append, Option, Some, None, refl, sym, ap, subst, ◌∙◌, arith, eqb→eq, eq-eqb}
-use Rattle.std.specs.Prelude.{slice_index, slice_set}
+use Rattle.std.proofs.Common.{◌≡◌, ℕ, zero, suc, ◌+◌, ◌-◌, ◌<◌, ◌≤◌, true, false, not, cond, if◌then◌else◌, ◌==◌, T, List, [], ◌∷◌, ◌++◌, length, length-append, Option, Some, None, refl, sym, ap}
+use Rattle.std.proofs.Common.{subst, ◌∙◌, arith, eqb→eq, eq-eqb}
+use Rattle.std.{specs.Prelude.slice_index, specs.Prelude.slice_set, specs.Ordering.is_eq, specs.Ordering.eq_by_cmp, proofs.lemmas.List.FromFn.length-range_with_len}
 use Rattle.std.specs.declared.cmp.Ordering.TheVariants.{Less, Equal, Greater}
-use Rattle.std.specs.Ordering.{is_eq, eq_by_cmp}
-use Rattle.std.proofs.lemmas.List.FromFn.{length-range_with_len}
 use Rattle.std.specs.FinMap.Entries.{put, find, is_sorted, below_all, by_order}
-use Rattle.pk_base.specs.declared.sizes.TheConstants.{MOST_SPACES}
-use Rattle.pk_base.specs.Key.{Key, key_cmp, space_of}
-use Rattle.pk_base.specs.Shape.{Shape, IsShape, charge}
-use Rattle.pk_base.specs.Entry.{Place}
+use Rattle.pk_base.{specs.declared.sizes.TheConstants.MOST_SPACES, specs.Key.Key, specs.Key.key_cmp, specs.Key.space_of, specs.Shape.Shape, specs.Shape.IsShape, specs.Shape.charge, specs.Entry.Place}
 use Rattle.pk_base.proofs.Logic.{left_part, right_part, of_true}
-use Rattle.pk_segfmt.proofs.StoredLemmas.{charge_some}
+use Rattle.pk_segfmt.{proofs.StoredLemmas.charge_some, specs.Value.value_pages}
 use Rattle.pk_space.specs.Uses.{Use, IsSpace, CanLeave, space_live, space_keys, value_count, used_after}
-use Rattle.pk_segfmt.specs.Value.{value_pages}
-use Rattle.pk_model.specs.Values.{pages_of_space, fits, all_pages}
-use Rattle.pk_model.proofs.MapLemmas.{missing, below_less, key_antisymm}
-use Rattle.pk_model.proofs.SpaceLemmas.{same_tied}
-use Rattle.pk_model.proofs.ValueSets.{fits_parts}
+use Rattle.pk_model.{specs.Values.pages_of_space, specs.Values.fits, specs.Values.all_pages, proofs.MapLemmas.missing, proofs.MapLemmas.below_less, proofs.MapLemmas.key_antisymm}
+use Rattle.pk_model.{proofs.SpaceLemmas.same_tied, proofs.ValueSets.fits_parts}
 use Rattle.pk_law_steps.proofs.Outputs.{values_most}
 use Rattle.pk_values.specs.Placed.{without}
-use Rattle.pk_scan.specs.Used.{keys_of_space, IsUseOf}
-use Rattle.pk_scan.proofs.Using.{few_keys}
-use Rattle.pk_scan.proofs.ValuesHeld.{limit_few}
+use Rattle.pk_scan.{specs.Used.keys_of_space, specs.Used.IsUseOf, proofs.Using.few_keys, proofs.ValuesHeld.limit_few}
 use Rattle.pk_changes.specs.Noting.{pages_at}
 
 -- ---- sums over keys and places

@@ -1,50 +1,25 @@
 -- A value that was written into a block for values: what the drive represents, at every cut and afterwards.
-use Rattle.std.proofs.Common.{◌≡◌, ◌⊎◌, inl, inr, ℕ, zero, suc, ◌+◌, ◌*◌, ◌/◌, ◌%◌, ◌<◌, ◌≤◌, refl, sym, ap, subst, ◌∙◌, arith, true, false, List, [], length, Option, Some, None, Result, Ok}
-use Rattle.std.proofs.Common.{Err}
-use Rattle.std.proofs.lemmas.Bool.{le-leb}
-use Rattle.pk_base.specs.Shape.{Shape, IsShape, charge, greatest, data_blocks}
-use Rattle.pk_base.specs.Page.{Flash, page_at, whole}
-use Rattle.pk_base.specs.Key.{Key, IsKey}
-use Rattle.pk_base.specs.Map.{Map}
-use Rattle.pk_base.proofs.CommitPages.{even_rest}
-use Rattle.pk_base.proofs.ShapeLemmas.{block_pages_positive}
-use Rattle.pk_segfmt.proofs.StoredLemmas.{charge_some, value_again}
+use Rattle.std.proofs.Common.{◌≡◌, ◌⊎◌, inl, inr, ℕ, zero, suc, ◌+◌, ◌*◌, ◌/◌, ◌%◌, ◌<◌, ◌≤◌, refl, sym, ap, subst, ◌∙◌, arith, true, false, List, [], length, Option, Some, None, Result, Ok, Err}
+use Rattle.std.{proofs.lemmas.Bool.le-leb, specs.Prelude.IfOk, specs.Prelude.IfErr, specs.Prelude.OnErr, specs.Prelude.◌-◌, specs.Prelude.not, specs.Prelude.◌&&◌, specs.Prelude.nat_le}
+use Rattle.pk_base.{specs.Shape.Shape, specs.Shape.IsShape, specs.Shape.charge, specs.Shape.greatest, specs.Shape.data_blocks, specs.Page.Flash, specs.Page.page_at, specs.Page.whole, specs.Map.Map}
+use Rattle.pk_base.{specs.Key.Key, specs.Key.IsKey, proofs.CommitPages.even_rest, proofs.ShapeLemmas.block_pages_positive}
+use Rattle.pk_segfmt.{proofs.StoredLemmas.charge_some, proofs.StoredLemmas.value_again, specs.Stored.page_of}
 use Rattle.pk_rootfmt.specs.Root.{Root}
 use Rattle.pk_plan.specs.declared.owner.Owner.TheVariants.{Journal, Meta, Values}
-use Rattle.std.specs.Prelude.{IfOk, IfErr, OnErr, ◌-◌, not, ◌&&◌, nat_le}
-use Rattle.pk_nand.specs.declared.types.Fault.{Fault}
-use Rattle.pk_nand.specs.declared.types.Fault.TheVariants.{Stopped}
-use Rattle.pk_model.specs.Steps.{Step}
-use Rattle.pk_nand.specs.BoardState.{BoardState}
-use Rattle.pk_nand.specs.Calls.{IsReady}
-use Rattle.pk_pool.specs.declared.state.BlockState.TheVariants.{Owned}
-use Rattle.pk_pool.specs.Blocks.{Blocks, NoneLeaves, IsShared, IsSpare, used_by}
-use Rattle.pk_model.specs.Found.{Found}
-use Rattle.pk_law_steps.specs.Under.{IsValuePage, places}
-use Rattle.pk_law_steps.proofs.Untouched.{under_reads}
-use Rattle.pk_model.specs.Growth.{Reaches, Goes}
-use Rattle.pk_model.specs.Crashes.{CrashFinds, commit}
-use Rattle.pk_model.proofs.Growing.{weaken, weaken_went}
-use Rattle.pk_nand.specs.Effects.{Works, Stops}
-use Rattle.pk_nand.proofs.Effects.{works_none, works_erase, works_then, stops_erase, stops_then}
-use Rattle.pk_segfmt.specs.Stored.{page_of}
-use Rattle.pk_nand.proofs.Leaving.{page_at-slice_set}
+use Rattle.pk_nand.{specs.declared.types.Fault.Fault, specs.declared.types.Fault.TheVariants.Stopped, specs.BoardState.BoardState, specs.Calls.IsReady, specs.Effects.Works, specs.Effects.Stops}
+use Rattle.pk_nand.{proofs.Effects.works_none, proofs.Effects.works_erase, proofs.Effects.works_then, proofs.Effects.stops_erase, proofs.Effects.stops_then, proofs.Leaving.page_at-slice_set}
+use Rattle.pk_model.{specs.Steps.Step, specs.Found.Found, specs.Growth.Reaches, specs.Growth.Goes, specs.Crashes.CrashFinds, specs.Crashes.commit, proofs.Growing.weaken, proofs.Growing.weaken_went}
+use Rattle.pk_pool.{specs.declared.state.BlockState.TheVariants.Owned, specs.Blocks.Blocks, specs.Blocks.NoneLeaves, specs.Blocks.IsShared, specs.Blocks.IsSpare, specs.Blocks.used_by}
+use Rattle.pk_law_steps.{specs.Under.IsValuePage, specs.Under.places, proofs.Untouched.under_reads}
 use Rattle.pk_seg.specs.Stored.{written}
-use Rattle.pk_live.specs.Values.{Values as LiveValues}
-use Rattle.pk_live.specs.declared.open_block.OpenBlock.{OpenBlock}
-use Rattle.pk_values.specs.State.{ValuesState, fits_open, needs_reclaim, more_used}
-use Rattle.pk_values.specs.Placed.{HoldsValues, IsNotOpen}
-use Rattle.pk_values.specs.Reserving.{TakesNext}
+use Rattle.pk_live.{specs.Values.Values as LiveValues, specs.declared.open_block.OpenBlock.OpenBlock}
+use Rattle.pk_values.{specs.State.ValuesState, specs.State.fits_open, specs.State.needs_reclaim, specs.State.more_used, specs.Placed.HoldsValues, specs.Placed.IsNotOpen, specs.Reserving.TakesNext}
 use Rattle.pk_gc.specs.Standing.{ReclaimOnFlash}
-use Rattle.pk_parts.specs.Parts.{Parts, outputs_of}
-use Rattle.pk_parts.specs.Agreeing.{DriveOnFlashWith, IsWhole}
+use Rattle.pk_parts.{specs.Parts.Parts, specs.Parts.outputs_of, specs.Agreeing.DriveOnFlashWith, specs.Agreeing.IsWhole, proofs.Halves.whole_like, proofs.Standing.found_once}
 use Rattle.pk_parts.specs.Moves.{StandsFor, Keeps, KeepsAll, BreaksAll, MayStep}
-use Rattle.pk_changes.specs.Noting.{IsPlaced, StepPlaces}
-use Rattle.pk_changes.specs.Placing.{Reserves, PlacesValue, FailsToPlace}
-use Rattle.pk_schedule.proofs.Settled.{none_leaves_set}
-use Rattle.pk_parts.proofs.Halves.{whole_like}
-use Rattle.pk_parts.proofs.Standing.{found_once}
 use Rattle.pk_parts.proofs.Reclaiming.{SameButOpen, runs_or_rests, reclaim_rests, reclaim_elsewhere, not_of_open}
+use Rattle.pk_changes.{specs.Noting.IsPlaced, specs.Noting.StepPlaces, specs.Placing.Reserves, specs.Placing.PlacesValue, specs.Placing.FailsToPlace}
+use Rattle.pk_schedule.proofs.Settled.{none_leaves_set}
 use Rattle.pk_background.proofs.Unread.{KeepsOwners, same_top, still_without, agrees_elsewhere}
 use Rattle.pk_background.proofs.Stills.{IsStill, SameStill, StillCut, still_then, still_goes, still_end, went_end, still_none, still_erase, still_erase_failed, still_written, still_write_failed}
 use Rattle.pk_background.proofs.Stills.{works_written, stops_written}

@@ -1,23 +1,12 @@
 -- A change of the map: a key gets a value, or loses its own.
 use Rattle.std.specs.Prelude.{◌≡◌, ◌≤◌, ◌<◌, ℕ, List, length, Option, Some, Result}
-use Rattle.std.specs.FinMap.{insert, remove}
-use Rattle.std.specs.FinMap.Entries.{find}
-use Rattle.pk_base.specs.Entry.{Place}
-use Rattle.pk_base.specs.Fields.{AreBytes}
-use Rattle.pk_base.specs.Key.{Key, key_cmp, space_of}
+use Rattle.std.{specs.FinMap.insert, specs.FinMap.remove, specs.FinMap.Entries.find}
+use Rattle.pk_base.{specs.Entry.Place, specs.Fields.AreBytes, specs.Key.Key, specs.Key.key_cmp, specs.Key.space_of, specs.Page.Flash, specs.Map.Map, specs.Map.live}
 use Rattle.pk_base.specs.Shape.{Shape, limit, greatest, page_entries}
-use Rattle.pk_base.specs.Page.{Flash}
-use Rattle.pk_base.specs.Map.{Map, live}
-use Rattle.pk_nand.specs.BoardState.{BoardState}
-use Rattle.pk_nand.specs.declared.types.Fault.{Fault}
-use Rattle.pk_nand.specs.Calls.{IsReady}
-use Rattle.pk_model.specs.Steps.{Step}
+use Rattle.pk_nand.{specs.BoardState.BoardState, specs.declared.types.Fault.Fault, specs.Calls.IsReady}
+use Rattle.pk_model.{specs.Steps.Step, specs.Spaces.in_space, specs.Spaces.limit_of, specs.Spaces.limits_at, specs.Growth.Reaches, specs.Growth.Goes, specs.Crashes.CrashFinds, specs.Crashes.change}
 use Rattle.pk_law_steps.specs.Under.{places}
-use Rattle.pk_model.specs.Spaces.{in_space, limit_of, limits_at}
-use Rattle.pk_model.specs.Growth.{Reaches, Goes}
-use Rattle.pk_parts.specs.Parts.{Parts, frames_of}
-use Rattle.pk_model.specs.Crashes.{CrashFinds, change}
-use Rattle.pk_parts.specs.Moves.{StandsFor, KeepsAll}
+use Rattle.pk_parts.{specs.Parts.Parts, specs.Parts.frames_of, specs.Moves.StandsFor, specs.Moves.KeepsAll}
 use Rattle.pk_background.specs.Emptying.{StepOrRead}
 
 -- There is room for a value of a key: the key is of a namespace of the drive, whose live pages are within its limit with the value, and all

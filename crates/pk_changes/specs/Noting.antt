@@ -1,26 +1,15 @@
 -- An entry in memory: what must hold before it, so that the drive represents the map with it afterwards.
 use Rattle.std.specs.Prelude.{◌≡◌, ℕ, ◌/◌, ◌≤◌, List, length, Option, Some, None, Result}
 use Rattle.std.specs.FinMap.Entries.{find}
-use Rattle.pk_base.specs.Entry.{Place}
-use Rattle.pk_base.specs.Fields.{AreBytes}
-use Rattle.pk_base.specs.Key.{Key, key_cmp, space_of}
-use Rattle.pk_base.specs.Shape.{Shape, charge}
-use Rattle.pk_base.specs.Page.{Flash}
-use Rattle.pk_base.specs.EntryChecks.{IsPlace}
+use Rattle.pk_base.{specs.Entry.Place, specs.Fields.AreBytes, specs.Key.Key, specs.Key.key_cmp, specs.Key.space_of, specs.Shape.Shape, specs.Shape.charge, specs.Page.Flash, specs.EntryChecks.IsPlace}
 use Rattle.pk_base.specs.Map.{Map}
 use Rattle.pk_rootfmt.specs.Root.{Root}
-use Rattle.pk_model.specs.Found.{Found}
+use Rattle.pk_model.{specs.Found.Found, specs.Spaces.limits_at, specs.Steps.Step}
 use Rattle.pk_law_steps.specs.Under.{places}
-use Rattle.pk_nand.specs.BoardState.{BoardState}
-use Rattle.pk_nand.specs.declared.types.Fault.{Fault}
-use Rattle.pk_model.specs.Spaces.{limits_at}
-use Rattle.pk_model.specs.Steps.{Step}
-use Rattle.pk_values.specs.Placed.{HoldsValues}
-use Rattle.pk_values.specs.Entries.{IsInOpen}
-use Rattle.pk_parts.specs.Parts.{Parts}
-use Rattle.pk_parts.specs.Agreeing.{DriveOnFlashWith, IsWhole}
+use Rattle.pk_nand.{specs.BoardState.BoardState, specs.declared.types.Fault.Fault}
+use Rattle.pk_values.{specs.Placed.HoldsValues, specs.Entries.IsInOpen}
+use Rattle.pk_parts.{specs.Parts.Parts, specs.Agreeing.DriveOnFlashWith, specs.Agreeing.IsWhole, specs.Moves.KeepsAll, specs.Moves.BreaksAll, specs.Moves.IsWritten}
 use Rattle.pk_changes.specs.Changes.{HasRoomFor}
-use Rattle.pk_parts.specs.Moves.{KeepsAll, BreaksAll, IsWritten}
 
 -- A key is to have a value that was written into the open block and is in no map yet. Until now it had the one at old, or none.
 pub record Puts (d : Parts) (shape : Shape) (flash : Flash) (m : Map) (key : Key) (value : List ℕ) (page : ℕ) (old : Option Place) : Type 0 where

@@ -1,18 +1,12 @@
 -- The write of a value into the next pages of the open block.
 use Rattle.std.specs.Prelude.{◌≡◌, ◌⊎◌, ℕ, List, length}
-use Rattle.pk_base.specs.Key.{Key}
-use Rattle.pk_base.specs.Shape.{Shape, charge}
-use Rattle.pk_base.specs.Page.{page_at}
+use Rattle.pk_base.{specs.Key.Key, specs.Shape.Shape, specs.Shape.charge, specs.Page.page_at}
 use Rattle.pk_segfmt.specs.Stored.{IsStored}
-use Rattle.pk_nand.specs.BoardState.{BoardState}
-use Rattle.pk_nand.specs.Calls.{IsReady}
-use Rattle.pk_pool.specs.Blocks.{Blocks}
-use Rattle.pk_pool.specs.Taking.{FailsToErase}
+use Rattle.pk_nand.{specs.BoardState.BoardState, specs.Calls.IsReady}
+use Rattle.pk_pool.{specs.Blocks.Blocks, specs.Taking.FailsToErase}
 use Rattle.pk_seg.specs.Stored.{written, WriteFailed}
-use Rattle.pk_values.specs.State.{ValuesState, with_written}
-use Rattle.pk_values.specs.Placed.{StayPlaced}
+use Rattle.pk_values.{specs.State.ValuesState, specs.State.with_written, specs.Placed.StayPlaced, specs.Entries.IsInOpen}
 use Rattle.pk_values.specs.Reserving.{IsReserved, TakesNext, OpensBlock, AreFree}
-use Rattle.pk_values.specs.Entries.{IsInOpen}
 
 -- The pages of a value were found: the next ones of the open block, or of one that was opened for it.
 pub record Reserves (shape : Shape) (d : ValuesState) (p : Blocks) (old : BoardState) (page count : ℕ) (d' : ValuesState) (q : Blocks) (new : BoardState) : Type 0 where

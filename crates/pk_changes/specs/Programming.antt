@@ -1,8 +1,7 @@
 -- How many pages a step inside a command programs.
 use Rattle.std.specs.Prelude.{◌≡◌, ℕ, ◌+◌, true, false}
 use Rattle.pk_base.specs.Key.{Key}
-use Rattle.pk_nand.specs.BoardState.{BoardState}
-use Rattle.pk_nand.specs.Counts.{counted_by}
+use Rattle.pk_nand.{specs.BoardState.BoardState, specs.Counts.counted_by}
 use Rattle.pk_log.specs.State.{needs_freeze}
 use Rattle.pk_values.specs.State.{fits_open}
 use Rattle.pk_call.specs.Moving.{commits_for}

@@ -1,46 +1,21 @@
 -- The second program of a root: its pair is a cut of the flash before the first one.
 use Rattle.std.proofs.Common.{◌≡◌, inl, inr, ℕ, ◌+◌, ◌≤◌, List, [], Some, false, refl, sym, ap, subst, ◌∙◌, arith, Result, Ok, Err, T, true}
 use Rattle.std.specs.Prelude.{OnOk, OnErr, IfErr}
-use Rattle.pk_base.specs.Shape.{Shape, IsShape}
-use Rattle.pk_base.specs.Page.{Flash, page_at, whole, SameBehind}
-use Rattle.pk_base.specs.Map.{Map}
-use Rattle.pk_base.specs.Mark.{program, after}
-use Rattle.pk_nand.specs.BoardState.{BoardState}
-use Rattle.pk_nand.specs.Cut.{Interrupted}
-use Rattle.pk_nand.specs.Calls.{IsReady, after_program, ProgramFailed}
-use Rattle.pk_nand.specs.Effects.{OneProgram}
-use Rattle.pk_nand.specs.Pairs.{IsPairCut}
-use Rattle.pk_nand.specs.declared.types.Fault.{Fault}
-use Rattle.pk_nand.specs.declared.types.Fault.TheVariants.{Stopped}
-use Rattle.pk_nand.proofs.Effects.{works_program, stops_program}
+use Rattle.pk_base.{specs.Shape.Shape, specs.Shape.IsShape, specs.Page.Flash, specs.Page.page_at, specs.Page.whole, specs.Page.SameBehind, specs.Map.Map, specs.Mark.program, specs.Mark.after}
+use Rattle.pk_base.proofs.Logic.{is_true}
+use Rattle.pk_nand.{specs.BoardState.BoardState, specs.Cut.Interrupted, specs.Calls.IsReady, specs.Calls.after_program, specs.Calls.ProgramFailed, specs.Effects.OneProgram, specs.Pairs.IsPairCut}
+use Rattle.pk_nand.{specs.declared.types.Fault.Fault, specs.declared.types.Fault.TheVariants.Stopped, proofs.Effects.works_program, proofs.Effects.stops_program}
 use Rattle.pk_nand.proofs.Pairing.{IsPairCut-cut, IsPairCut-done}
-use Rattle.pk_rootfmt.specs.Root.{Root, root_bytes, is_root}
-use Rattle.pk_rootfmt.specs.Newest.{newest_root}
-use Rattle.pk_model.specs.Found.{Found}
-use Rattle.pk_model.specs.Laws.{IsInstall}
-use Rattle.pk_model.specs.Spaces.{limits_at}
-use Rattle.pk_model.specs.Growth.{Grows, Reaches, Goes}
-use Rattle.pk_model.specs.Crashes.{CrashFinds, background}
-use Rattle.pk_model.specs.Wear.{root_number, roots}
-use Rattle.pk_model.proofs.Roots.{root_pair, newest_sound}
-use Rattle.pk_model.proofs.Growing.{top_limits}
-use Rattle.pk_model.proofs.RootLimits.{limits_under}
-use Rattle.pk_model.proofs.Running.{Reaches-program, Goes-program}
-use Rattle.pk_model.proofs.Steps.{roots_few}
-use Rattle.pk_root.specs.declared.next.Next.{Next}
-use Rattle.pk_root.specs.declared.next.Next.TheVariants.{Erase, Program, Again}
+use Rattle.pk_rootfmt.{specs.Root.Root, specs.Root.root_bytes, specs.Root.is_root, specs.Newest.newest_root}
+use Rattle.pk_model.{specs.Found.Found, specs.Laws.IsInstall, specs.Spaces.limits_at, specs.Growth.Grows, specs.Growth.Reaches, specs.Growth.Goes, specs.Crashes.CrashFinds, specs.Crashes.background}
+use Rattle.pk_model.{specs.Wear.root_number, specs.Wear.roots, proofs.Roots.root_pair, proofs.Roots.newest_sound, proofs.Growing.top_limits, proofs.RootLimits.limits_under, proofs.Steps.roots_few}
+use Rattle.pk_model.{proofs.Running.Reaches-program, proofs.Running.Goes-program, proofs.Commits.root_valid}
+use Rattle.pk_root.{specs.declared.next.Next.Next, specs.declared.next.Next.TheVariants.Erase, specs.declared.next.Next.TheVariants.Program, specs.declared.next.Next.TheVariants.Again}
 use Rattle.pk_root.specs.Installing.{repeats_next, before_pair, InstallerOnFlash, Repeats, FailsToRepeat}
 use Rattle.pk_root.proofs.Installs.{again_install, again_start, again_fits, again_behind}
-use Rattle.pk_law_steps.specs.Under.{IsUnder}
-use Rattle.pk_law_steps.proofs.Untouched.{under_reads}
-use Rattle.pk_compact.specs.Installing.{CanRepeat, IsRepeated, RepeatsRoot, RepeatBreaks}
-use Rattle.pk_compact.specs.Steps.{StepByCall}
-use Rattle.pk_compact.proofs.Installing.{under_at, under_behind}
-use Rattle.pk_compact.proofs.Growing.{program_calls, program_failed_calls}
-use Rattle.pk_compact.proofs.NextRoot.{number_of_top}
-use Rattle.pk_compact.proofs.Numbering.{repeat_number}
-use Rattle.pk_model.proofs.Commits.{root_valid}
-use Rattle.pk_base.proofs.Logic.{is_true}
+use Rattle.pk_law_steps.{specs.Under.IsUnder, proofs.Untouched.under_reads}
+use Rattle.pk_compact.{specs.Installing.CanRepeat, specs.Installing.IsRepeated, specs.Installing.RepeatsRoot, specs.Installing.RepeatBreaks, specs.Steps.StepByCall, proofs.NextRoot.number_of_top}
+use Rattle.pk_compact.{proofs.Installing.under_at, proofs.Installing.under_behind, proofs.Growing.program_calls, proofs.Growing.program_failed_calls, proofs.Numbering.repeat_number}
 
 -- the page whose second one is next
 abbrev again_page : Next → ℕ

@@ -1,27 +1,18 @@
 -- A flash that was just formatted may be frozen.
 use Rattle.std.proofs.Common.{◌≡◌, inl, inr, ℕ, [], ◌∷◌, replicate, Some, Ok, false, refl, sym, subst, arith, slice_set}
-use Rattle.std.specs.Prelude.{slice_get}
-use Rattle.std.specs.FinMap.{from_entries}
+use Rattle.std.{specs.Prelude.slice_get, specs.FinMap.from_entries}
 use Rattle.pk_base.specs.Shape.{Shape, checked, deepest, meta_blocks, limit, data_blocks, charge, greatest}
-use Rattle.pk_base.specs.Page.{Flash, page_at, erased, whole}
-use Rattle.pk_base.specs.Map.{Map}
+use Rattle.pk_base.{specs.Page.Flash, specs.Page.page_at, specs.Page.erased, specs.Page.whole, specs.Map.Map}
 use Rattle.pk_plan.specs.declared.owner.Owner.TheVariants.{Journal}
 use Rattle.pk_jrnfmt.specs.Epoch.{epoch}
 use Rattle.pk_meta.specs.Run.{run}
-use Rattle.pk_rootfmt.specs.Root.{Root, root_bytes, root_page}
-use Rattle.pk_rootfmt.specs.Held.{Held, first}
-use Rattle.pk_rootfmt.specs.Newest.{newest_root}
-use Rattle.pk_model.specs.Found.{Found, found_under, runs_from}
-use Rattle.pk_model.specs.Values.{values_of}
-use Rattle.pk_model.specs.Reading.{map_under}
+use Rattle.pk_rootfmt.{specs.Root.Root, specs.Root.root_bytes, specs.Root.root_page, specs.Held.Held, specs.Held.first, specs.Newest.newest_root}
+use Rattle.pk_model.{specs.Found.Found, specs.Found.found_under, specs.Found.runs_from, specs.Values.values_of, specs.Reading.map_under, specs.RootLimits.root_limits}
 use Rattle.pk_pool.specs.declared.state.BlockState.TheVariants.{Free, Ready, Owned}
 use Rattle.pk_pool.specs.Blocks.{Blocks, unused, with_state, IsSpare, PoolOnFlash}
-use Rattle.pk_root.specs.declared.next.Next.{Next}
-use Rattle.pk_root.specs.Installing.{InstallerOnFlash, repeats_next}
+use Rattle.pk_root.{specs.declared.next.Next.Next, specs.Installing.InstallerOnFlash, specs.Installing.repeats_next}
 use Rattle.pk_law_steps.proofs.Places.{In}
-use Rattle.pk_compact.specs.declared.freezing.FreezeJob.TheVariants.{Idle}
-use Rattle.pk_compact.specs.FreezeSteps.{IsFreezing}
-use Rattle.pk_model.specs.RootLimits.{root_limits}
+use Rattle.pk_compact.{specs.declared.freezing.FreezeJob.TheVariants.Idle, specs.FreezeSteps.IsFreezing}
 
 abbrev pub small : Shape
 small = record { page_bytes = 512; block_pages = 16; blocks = 64 }

@@ -2,16 +2,9 @@
 use Rattle.std.proofs.Common.{◌≡◌, ◌⊎◌, inl, inr, ℕ, List, [], ◌++◌, Bool, true, false, ◌==◌, if◌then◌else◌, subst}
 use Rattle.std.specs.List.{concat}
 use Rattle.pk_rootfmt.specs.Root.{Root, named}
-use Rattle.pk_model.specs.Tree.{blocks_after}
-use Rattle.pk_model.proofs.SamePages.{any_front, any_back}
-use Rattle.pk_law_steps.specs.Under.{IsValuePage}
-use Rattle.pk_law_steps.proofs.Places.{In, in_append}
-use Rattle.pk_law_steps.specs.Merging.{merged_root}
-use Rattle.pk_law_steps.proofs.Merging.{in_after}
-use Rattle.pk_law_steps.proofs.Following.{merged_next}
-use Rattle.pk_law_steps.proofs.Freeing.{freed}
-use Rattle.pk_compact.specs.Laws.{ApartMerged}
-use Rattle.pk_compact.proofs.Apart.{spare_back}
+use Rattle.pk_model.{specs.Tree.blocks_after, proofs.SamePages.any_front, proofs.SamePages.any_back}
+use Rattle.pk_law_steps.{specs.Under.IsValuePage, proofs.Places.In, proofs.Places.in_append, specs.Merging.merged_root, proofs.Merging.in_after, proofs.Following.merged_next, proofs.Freeing.freed}
+use Rattle.pk_compact.{specs.Laws.ApartMerged, proofs.Apart.spare_back}
 
 -- a block that the root of a merge names was taken, or was named before
 either : (root : Root) (level count : ℕ) (taken : List ℕ) (b : ℕ) → In b (named (merged_root root level count taken)) → In b taken ⊎ In b (named root)

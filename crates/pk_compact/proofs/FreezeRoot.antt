@@ -1,48 +1,25 @@
 -- A freeze that has both blocks: the erase before its root, and the program of the root.
 use Rattle.std.proofs.Common.{◌≡◌, ◌≢◌, ◌⊎◌, inl, inr, ℕ, ◌+◌, ◌*◌, ◌/◌, ◌<◌, ◌≤◌, List, [], ◌∷◌, ◌++◌, T, Bool, true, false, slice_index, length, Some, if◌then◌else◌, refl, sym, ap, subst, ◌∙◌}
 use Rattle.std.proofs.Common.{arith, mul-le-mul_right}
-use Rattle.std.specs.Prelude.{slice_get}
-use Rattle.std.specs.List.{concat}
-use Rattle.pk_base.specs.Shape.{Shape, IsShape}
-use Rattle.pk_base.specs.Page.{Flash, page_at, SameBehind}
-use Rattle.pk_base.specs.Map.{Map}
-use Rattle.pk_law_work.specs.Rest.{Lowers, steps_of}
-use Rattle.pk_law_work.specs.Jobs.{freeze_rest}
+use Rattle.std.{specs.Prelude.slice_get, specs.List.concat}
+use Rattle.pk_base.{specs.Shape.Shape, specs.Shape.IsShape, specs.Page.Flash, specs.Page.page_at, specs.Page.SameBehind, specs.Map.Map, proofs.Logic.is_true}
+use Rattle.pk_law_work.{specs.Rest.Lowers, specs.Rest.steps_of, specs.Jobs.freeze_rest}
 use Rattle.pk_plan.specs.declared.owner.Owner.TheVariants.{Journal}
-use Rattle.pk_nand.specs.BoardState.{BoardState}
-use Rattle.pk_nand.specs.Calls.{IsReady}
-use Rattle.pk_rootfmt.specs.Root.{Root, is_root, named, differ}
-use Rattle.pk_rootfmt.specs.Held.{Held, two_of}
-use Rattle.pk_model.specs.Found.{Found}
-use Rattle.pk_model.proofs.SamePages.{any_front}
+use Rattle.pk_nand.{specs.BoardState.BoardState, specs.Calls.IsReady}
+use Rattle.pk_rootfmt.{specs.Root.Root, specs.Root.is_root, specs.Root.named, specs.Root.differ, specs.Held.Held, specs.Held.two_of}
+use Rattle.pk_model.{specs.Found.Found, proofs.SamePages.any_front, specs.RootLimits.root_limits}
 use Rattle.pk_model.proofs.Commits.{any_behind, apart, member, injective, differ_front, values_apart, is_any_back}
-use Rattle.pk_pool.specs.declared.state.BlockState.TheVariants.{Owned}
-use Rattle.pk_pool.specs.Blocks.{given_back, Blocks, IsShared, IsSpare, PoolOnFlash}
-use Rattle.pk_pool.specs.Unready.{unready}
-use Rattle.pk_pool.proofs.Fitting.{PoolOnFlash-same}
-use Rattle.pk_root.specs.declared.next.Next.{Next}
-use Rattle.pk_root.specs.declared.next.Next.TheVariants.{Erase, Program, Again}
+use Rattle.pk_pool.{specs.declared.state.BlockState.TheVariants.Owned, specs.Blocks.given_back, specs.Blocks.Blocks, specs.Blocks.IsShared, specs.Blocks.IsSpare, specs.Blocks.PoolOnFlash}
+use Rattle.pk_pool.{specs.Unready.unready, proofs.Fitting.PoolOnFlash-same}
+use Rattle.pk_root.{specs.declared.next.Next.Next, specs.declared.next.Next.TheVariants.Erase, specs.declared.next.Next.TheVariants.Program, specs.declared.next.Next.TheVariants.Again}
 use Rattle.pk_root.specs.Installing.{erases_next, programs_next, repeats_next}
-use Rattle.pk_law_steps.specs.Under.{IsValuePage, places}
-use Rattle.pk_law_steps.specs.Roots.{frozen_root, frozen}
-use Rattle.pk_law_steps.specs.Next.{IsNext}
-use Rattle.pk_law_steps.specs.Freezing.{IsFrozen}
-use Rattle.pk_law_steps.proofs.FrozenNext.{frozen_next}
-use Rattle.pk_law_steps.proofs.Untouched.{values_under}
-use Rattle.pk_law_steps.proofs.Places.{In, in_append}
-use Rattle.pk_compact.specs.Freezing.{IsApart, AreTwo}
-use Rattle.pk_compact.specs.Steps.{next_root}
-use Rattle.pk_compact.specs.declared.freezing.FreezeJob.TheVariants.{Idle, HasTwo}
-use Rattle.pk_compact.specs.Installing.{IsPrepared, CanPrepare, CanInstall, IsInstalled}
+use Rattle.pk_law_steps.{specs.Under.IsValuePage, specs.Under.places, specs.Roots.frozen_root, specs.Roots.frozen, specs.Next.IsNext, specs.Freezing.IsFrozen, proofs.FrozenNext.frozen_next}
+use Rattle.pk_law_steps.{proofs.Untouched.values_under, proofs.Places.In, proofs.Places.in_append}
+use Rattle.pk_compact.{specs.Freezing.IsApart, specs.Freezing.AreTwo, specs.Steps.next_root, specs.declared.freezing.FreezeJob.TheVariants.Idle, specs.declared.freezing.FreezeJob.TheVariants.HasTwo}
+use Rattle.pk_compact.{specs.Installing.IsPrepared, specs.Installing.CanPrepare, specs.Installing.CanInstall, specs.Installing.IsInstalled, proofs.Apart.owned_not_spare, proofs.Apart.spare_back}
 use Rattle.pk_compact.specs.FreezeSteps.{IsFreezing, IsTaken, AreOwned, FreezeGoesOn, FreezeInstalled, install_steps}
-use Rattle.pk_compact.proofs.Apart.{owned_not_spare, spare_back}
-use Rattle.pk_compact.proofs.Pairs.{two_are, two_same, turned}
-use Rattle.pk_compact.proofs.Grammar.{next_is_root}
-use Rattle.pk_compact.proofs.Installing.{epoch_erased, erased_behind}
-use Rattle.pk_compact.proofs.NextRoot.{programs_whole}
-use Rattle.pk_compact.proofs.TakingOne.{all_more, is_shape, valid, grammar, spare_behind}
-use Rattle.pk_base.proofs.Logic.{is_true}
-use Rattle.pk_model.specs.RootLimits.{root_limits}
+use Rattle.pk_compact.{proofs.Pairs.two_are, proofs.Pairs.two_same, proofs.Pairs.turned, proofs.Grammar.next_is_root, proofs.Installing.epoch_erased, proofs.Installing.erased_behind}
+use Rattle.pk_compact.{proofs.NextRoot.programs_whole, proofs.TakingOne.all_more, proofs.TakingOne.is_shape, proofs.TakingOne.valid, proofs.TakingOne.grammar, proofs.TakingOne.spare_behind}
 
 -- an erase leaves one step less, and no block differs
 one_fewer : (next next' : Next) (u : ℕ) → programs_next next' ≡ true → erases_next next ≡ true

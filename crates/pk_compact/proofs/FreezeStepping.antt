@@ -1,34 +1,19 @@
 -- A step of a freeze, by how far it is.
 use Rattle.std.proofs.Common.{◌≡◌, ℕ, ◌+◌, ◌<◌, ◌≤◌, [], ◌∷◌, ◌++◌, Bool, true, false, length, refl, sym, ap, subst, arith, Ok, Err, Result}
-use Rattle.pk_base.specs.Shape.{Shape}
-use Rattle.pk_base.specs.Map.{Map}
+use Rattle.pk_base.{specs.Shape.Shape, specs.Map.Map}
 use Rattle.pk_plan.specs.declared.owner.Owner.TheVariants.{Journal}
-use Rattle.pk_nand.specs.declared.types.Fault.{Fault}
-use Rattle.pk_nand.specs.declared.types.Fault.TheVariants.{Stopped}
-use Rattle.pk_nand.specs.BoardState.{BoardState}
-use Rattle.pk_nand.specs.Calls.{IsReady}
-use Rattle.pk_nand.specs.Operations.{IsErasedBlock}
+use Rattle.pk_nand.{specs.declared.types.Fault.Fault, specs.declared.types.Fault.TheVariants.Stopped, specs.BoardState.BoardState, specs.Calls.IsReady, specs.Operations.IsErasedBlock}
 use Rattle.pk_nand.proofs.Effects.{stops_erase}
-use Rattle.pk_rootfmt.specs.Root.{Root}
-use Rattle.pk_rootfmt.specs.Held.{Held}
-use Rattle.pk_model.specs.Found.{Found}
-use Rattle.pk_model.specs.Growth.{Goes}
-use Rattle.pk_model.specs.Crashes.{CrashFinds, background}
-use Rattle.pk_model.specs.Steps.{Step}
-use Rattle.pk_model.proofs.Steps.{RootsUpTo-same}
-use Rattle.pk_pool.specs.declared.state.BlockState.TheVariants.{Owned}
+use Rattle.pk_rootfmt.{specs.Root.Root, specs.Held.Held}
+use Rattle.pk_model.{specs.Found.Found, specs.Growth.Goes, specs.Crashes.CrashFinds, specs.Crashes.background, specs.Steps.Step, proofs.Steps.RootsUpTo-same}
+use Rattle.pk_pool.{specs.declared.state.BlockState.TheVariants.Owned, specs.Taking.FailsToErase}
 use Rattle.pk_pool.specs.Blocks.{Blocks, IsShared, IsSpare, PoolOnFlash, used_by, with_state}
-use Rattle.pk_pool.specs.Taking.{FailsToErase}
-use Rattle.pk_root.specs.declared.next.Next.{Next}
-use Rattle.pk_root.specs.Installing.{erases_next}
+use Rattle.pk_root.{specs.declared.next.Next.Next, specs.Installing.erases_next}
 use Rattle.pk_law_steps.specs.Roots.{frozen}
-use Rattle.pk_compact.specs.Steps.{AtMostErases, next_root}
-use Rattle.pk_compact.specs.declared.freezing.FreezeJob.{FreezeJob}
+use Rattle.pk_compact.{specs.Steps.AtMostErases, specs.Steps.next_root, specs.declared.freezing.FreezeJob.FreezeJob, proofs.Taking.works_at_most, proofs.NextRoot.roots_same}
 use Rattle.pk_compact.specs.declared.freezing.FreezeJob.TheVariants.{Idle, HasOne, HasTwo}
 use Rattle.pk_compact.specs.Installing.{CanPrepare, Prepares, PrepareBreaks, CanInstall, InstallsRoot, InstallBreaks}
 use Rattle.pk_compact.specs.FreezeSteps.{IsFreezing, FreezeGoesOn, FreezeInstalled, FreezeSteps, FreezeStepBreaks, taken_by}
-use Rattle.pk_compact.proofs.Taking.{works_at_most}
-use Rattle.pk_compact.proofs.NextRoot.{roots_same}
 use Rattle.pk_compact.proofs.TakingOne.{take_goes_on, take_goes, took_number, take_failed_number}
 use Rattle.pk_compact.proofs.FreezeRoot.{can_prepare, erase_goes_on, held_can, froze, epoch_few, two_newest}
 

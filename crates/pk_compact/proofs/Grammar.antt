@@ -2,14 +2,11 @@
 use Rattle.std.proofs.Common.{◌≡◌, inl, inr, ℕ, ◌+◌, ◌<◌, ◌≤◌, sym, ap, subst, ◌∙◌, arith, Bool, true, false, not, ◌&&◌, ◌||◌, T, List, [], ◌∷◌, ◌++◌, length, nat_le, nat_lt, ◌==◌, leb→le, le→leb}
 use Rattle.std.proofs.Common.{eqb→eq, append-nil}
 use Rattle.std.specs.List.{list_any, list_all, concat}
-use Rattle.pk_base.specs.Shape.{Shape}
+use Rattle.pk_base.{specs.Shape.Shape, proofs.Logic.both, proofs.Logic.left_part, proofs.Logic.right_part}
 use Rattle.pk_rootfmt.specs.Root.{Root, named, is_root, is_number, has_runs, differ, is_laid_out, are_limits}
-use Rattle.pk_model.proofs.Commits.{any_behind}
-use Rattle.pk_model.proofs.RootAlone.{all_back}
+use Rattle.pk_model.{proofs.Commits.any_behind, proofs.RootAlone.all_back}
 use Rattle.pk_law_steps.proofs.Places.{In, not_of, any_in, differ_back}
-use Rattle.pk_compact.specs.Freezing.{AreTwo}
-use Rattle.pk_compact.specs.Steps.{next_root}
-use Rattle.pk_base.proofs.Logic.{both, left_part, right_part}
+use Rattle.pk_compact.{specs.Freezing.AreTwo, specs.Steps.next_root}
 
 -- ---- tests one after another
 

@@ -1,32 +1,19 @@
 -- The call of a step, whether it was made or failed, and the tree of lists after it: the newest root is the former, or the one that follows.
 use Rattle.std.proofs.Common.{◌≡◌, inl, inr, ℕ, ◌≤◌, List, [], Some, ap, Result, Ok, Err, arith, ◌+◌}
 use Rattle.std.specs.Prelude.{OnOk, OnErr, IfErr}
-use Rattle.pk_base.specs.Shape.{Shape, IsShape}
-use Rattle.pk_base.specs.Page.{Flash, page_at, SameBehind}
-use Rattle.pk_base.specs.Map.{Map}
-use Rattle.pk_nand.specs.BoardState.{BoardState}
-use Rattle.pk_nand.specs.Calls.{IsReady, after_program, ProgramFailed}
-use Rattle.pk_nand.specs.Operations.{after_erase, EraseFailed}
-use Rattle.pk_nand.specs.Effects.{AtMostOneCall, made_no_call, made_program, made_erase}
-use Rattle.pk_nand.specs.declared.types.Fault.{Fault}
+use Rattle.pk_base.{specs.Shape.Shape, specs.Shape.IsShape, specs.Page.Flash, specs.Page.page_at, specs.Page.SameBehind, specs.Map.Map}
+use Rattle.pk_nand.{specs.BoardState.BoardState, specs.Calls.IsReady, specs.Calls.after_program, specs.Calls.ProgramFailed, specs.Operations.after_erase, specs.Operations.EraseFailed}
+use Rattle.pk_nand.{specs.Effects.AtMostOneCall, specs.Effects.made_no_call, specs.Effects.made_program, specs.Effects.made_erase, specs.declared.types.Fault.Fault}
 use Rattle.pk_nand.specs.declared.types.Fault.TheVariants.{Stopped}
-use Rattle.pk_rootfmt.specs.Root.{Root, root_bytes}
-use Rattle.pk_rootfmt.specs.Newest.{newest_root}
-use Rattle.pk_model.specs.Found.{Found}
-use Rattle.pk_model.specs.Growth.{Grows}
-use Rattle.pk_model.proofs.Growing.{at_end}
-use Rattle.pk_model.proofs.SamePages.{newest_root_same}
-use Rattle.pk_model.proofs.Steps.{roots_few}
-use Rattle.pk_root.specs.declared.next.Next.{Next}
+use Rattle.pk_rootfmt.{specs.Root.Root, specs.Root.root_bytes, specs.Newest.newest_root}
+use Rattle.pk_model.{specs.Found.Found, specs.Growth.Grows, proofs.Growing.at_end, proofs.SamePages.newest_root_same, proofs.Steps.roots_few}
+use Rattle.pk_root.{specs.declared.next.Next.Next, specs.Laws.SameFront}
 use Rattle.pk_root.specs.Installing.{other_block, KeepsRoot, Installs, ErasesOther, FailsToInstall, FailsToErase}
-use Rattle.pk_root.specs.Laws.{SameFront}
 use Rattle.pk_law_steps.proofs.Standing.{installed}
 use Rattle.pk_compact.specs.Installing.{Prepares, PrepareBreaks, CanInstall, InstallsRoot, InstallBreaks}
-use Rattle.pk_compact.specs.Steps.{StepByCall, AtMostErases}
-use Rattle.pk_compact.proofs.Taking.{leaves_others, not_behind}
+use Rattle.pk_compact.{specs.Steps.StepByCall, specs.Steps.AtMostErases, proofs.Taking.leaves_others, proofs.Taking.not_behind, proofs.Numbering.install_number}
 use Rattle.pk_compact.proofs.NextRoot.{prepares, prepare_breaks, prepare_works, prepare_stops, prepare_number, prepare_failed_number, roots_same, few, is_installed, install_breaks, install_works}
 use Rattle.pk_compact.proofs.NextRoot.{install_stops}
-use Rattle.pk_compact.proofs.Numbering.{install_number}
 
 -- no page of the root blocks differs
 front_grows : (shape : Shape) (old new : Flash) → SameFront shape old new → Grows shape old new

@@ -1,36 +1,16 @@
 -- The erase of the other root block, and what is unchanged of others.
 use Rattle.std.proofs.Common.{◌≡◌, inl, ℕ, zero, suc, ◌+◌, ◌*◌, ◌/◌, ◌%◌, ◌<◌, ◌≤◌, [], ◌∷◌, slice_index, Some, refl, sym, subst, ◌∙◌, arith, mod-lt, div-lt_iff_lt-mul, mul-le-mul_right}
-use Rattle.pk_base.specs.Shape.{Shape, IsShape, epoch_pages}
-use Rattle.pk_base.specs.Page.{Flash, page_at, page_in, erased, SameBehind}
-use Rattle.pk_base.specs.EntryChecks.{IsEntry}
-use Rattle.pk_base.specs.Firsts.{firsts}
-use Rattle.pk_base.specs.Map.{Map}
-use Rattle.pk_base.specs.Mark.{erase, after}
-use Rattle.pk_base.proofs.ShapeLemmas.{block_pages_positive}
-use Rattle.pk_nand.specs.BoardState.{BoardState}
-use Rattle.pk_nand.specs.Cut.{Interrupted}
-use Rattle.pk_nand.specs.Calls.{IsReady}
-use Rattle.pk_nand.specs.Operations.{after_erase, EraseFailed, IsErasedBlock}
-use Rattle.pk_nand.proofs.Leaving.{interrupted_done}
-use Rattle.pk_nand.proofs.Writing.{shape_is}
-use Rattle.pk_rootfmt.specs.Root.{Root}
-use Rattle.pk_rootfmt.specs.Newest.{newest_root}
-use Rattle.pk_model.specs.Found.{Found, entries_in_order}
-use Rattle.pk_model.proofs.Roots.{newest_sound, root_erase}
-use Rattle.pk_model.proofs.RootAlone.{found_alone, values_behind}
-use Rattle.pk_model.proofs.SamePages.{map_under_same}
-use Rattle.pk_model.proofs.Commits.{root_valid}
-use Rattle.pk_model.proofs.Entries.{counting_all, journal_are, meta_are}
-use Rattle.pk_root.specs.declared.next.Next.TheVariants.{Erase}
-use Rattle.pk_root.specs.Installing.{other_block, InstallerOnFlash}
-use Rattle.pk_root.proofs.Installs.{behind_block}
-use Rattle.pk_law_steps.specs.Under.{IsUnder}
-use Rattle.pk_law_steps.proofs.Untouched.{under_reads}
-use Rattle.pk_model.specs.Growth.{Grows, Reaches, Goes}
-use Rattle.pk_model.specs.Crashes.{CrashFinds, background}
-use Rattle.pk_model.specs.Spaces.{limits_at}
-use Rattle.pk_model.proofs.Growing.{top_limits}
+use Rattle.pk_base.{specs.Shape.Shape, specs.Shape.IsShape, specs.Shape.epoch_pages, specs.Page.Flash, specs.Page.page_at, specs.Page.page_in, specs.Page.erased, specs.Page.SameBehind, specs.Map.Map}
+use Rattle.pk_base.{specs.EntryChecks.IsEntry, specs.Firsts.firsts, specs.Mark.erase, specs.Mark.after, proofs.ShapeLemmas.block_pages_positive}
+use Rattle.pk_nand.{specs.BoardState.BoardState, specs.Cut.Interrupted, specs.Calls.IsReady, specs.Operations.after_erase, specs.Operations.EraseFailed, specs.Operations.IsErasedBlock}
+use Rattle.pk_nand.{proofs.Leaving.interrupted_done, proofs.Writing.shape_is}
+use Rattle.pk_rootfmt.{specs.Root.Root, specs.Newest.newest_root}
+use Rattle.pk_model.{specs.Found.Found, specs.Found.entries_in_order, proofs.Roots.newest_sound, proofs.Roots.root_erase, proofs.RootAlone.found_alone, proofs.RootAlone.values_behind}
+use Rattle.pk_model.{proofs.SamePages.map_under_same, proofs.Commits.root_valid, proofs.Entries.counting_all, proofs.Entries.journal_are, proofs.Entries.meta_are, specs.Spaces.limits_at}
+use Rattle.pk_model.{specs.Growth.Grows, specs.Growth.Reaches, specs.Growth.Goes, specs.Crashes.CrashFinds, specs.Crashes.background, proofs.Growing.top_limits}
 use Rattle.pk_model.proofs.Running.{Reaches-erase, Goes-erase}
+use Rattle.pk_root.{specs.declared.next.Next.TheVariants.Erase, specs.Installing.other_block, specs.Installing.InstallerOnFlash, proofs.Installs.behind_block}
+use Rattle.pk_law_steps.{specs.Under.IsUnder, proofs.Untouched.under_reads}
 
 -- if the newest root is the same, in whatever page, and nothing after the root blocks differs
 pub under_at : (shape : Shape) (flash cut : Flash) (top : ℕ × Root) (page : ℕ) (found : Found) (m : Map) → IsShape shape → IsUnder shape flash [] top found m

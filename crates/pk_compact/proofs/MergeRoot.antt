@@ -1,28 +1,14 @@
 -- The install of a merge, from its parts.
 use Rattle.std.proofs.Common.{◌≡◌, ℕ, zero, suc, ◌+◌, ◌≤◌, List, [], ◌∷◌, T, length, map, slice_set, sym, ap, subst, arith, length-append, Result, Ok, Err}
 use Rattle.std.specs.List.{concat}
-use Rattle.pk_base.specs.Shape.{Shape, IsShape, meta_blocks}
-use Rattle.pk_base.specs.Page.{page_at}
-use Rattle.pk_base.specs.Firsts.{firsts}
-use Rattle.pk_base.specs.Map.{Map}
-use Rattle.pk_nand.specs.declared.types.Fault.{Fault}
-use Rattle.pk_nand.specs.BoardState.{BoardState}
-use Rattle.pk_nand.specs.Calls.{IsReady}
-use Rattle.pk_rootfmt.specs.Root.{Root, is_root}
-use Rattle.pk_rootfmt.specs.Held.{Held}
-use Rattle.pk_model.specs.Found.{Found}
-use Rattle.pk_model.specs.Growth.{Grows, Goes}
-use Rattle.pk_model.specs.Crashes.{CrashFinds, background}
-use Rattle.pk_model.proofs.Roots.{newest_sound}
-use Rattle.pk_model.proofs.Commits.{root_valid}
+use Rattle.pk_base.{specs.Shape.Shape, specs.Shape.IsShape, specs.Shape.meta_blocks, specs.Page.page_at, specs.Firsts.firsts, specs.Map.Map}
+use Rattle.pk_nand.{specs.declared.types.Fault.Fault, specs.BoardState.BoardState, specs.Calls.IsReady}
+use Rattle.pk_rootfmt.{specs.Root.Root, specs.Root.is_root, specs.Held.Held}
+use Rattle.pk_model.{specs.Found.Found, specs.Growth.Grows, specs.Growth.Goes, specs.Crashes.CrashFinds, specs.Crashes.background, proofs.Roots.newest_sound, proofs.Commits.root_valid}
 use Rattle.pk_root.specs.declared.next.Next.{Next}
-use Rattle.pk_law_steps.specs.Next.{IsNext}
-use Rattle.pk_law_steps.specs.Merging.{merged_root, merged_found}
-use Rattle.pk_law_steps.proofs.FourRuns.{IsLevel, next_is_level}
-use Rattle.pk_law_steps.proofs.Following.{merged_next}
+use Rattle.pk_law_steps.{specs.Next.IsNext, specs.Merging.merged_root, specs.Merging.merged_found, proofs.FourRuns.IsLevel, proofs.FourRuns.next_is_level, proofs.Following.merged_next}
 use Rattle.pk_law_steps.proofs.Amounts.{quota}
-use Rattle.pk_compact.specs.Installing.{CanInstall, IsInstalled, InstallsRoot, InstallBreaks}
-use Rattle.pk_compact.specs.Steps.{StepByCall}
+use Rattle.pk_compact.{specs.Installing.CanInstall, specs.Installing.IsInstalled, specs.Installing.InstallsRoot, specs.Installing.InstallBreaks, specs.Steps.StepByCall}
 use Rattle.pk_compact.specs.Merging.{CanMerge, HasMerged, MergesRoot, MergeBreaks}
 
 -- a run that is set adds at most its own blocks

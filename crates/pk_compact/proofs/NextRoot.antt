@@ -1,44 +1,20 @@
 -- The install of a root that may follow: the erase before it, and its first program.
 use Rattle.std.proofs.Common.{◌≡◌, ◌⊎◌, inl, inr, ℕ, ◌+◌, ◌*◌, ◌<◌, ◌≤◌, List, [], Some, false, refl, sym, ap, subst, ◌∙◌, arith, le_refl, true}
-use Rattle.pk_base.specs.Shape.{Shape, IsShape}
-use Rattle.pk_base.specs.Page.{Flash, page_at, whole, SameBehind}
-use Rattle.pk_base.specs.Map.{Map}
+use Rattle.pk_base.{specs.Shape.Shape, specs.Shape.IsShape, specs.Page.Flash, specs.Page.page_at, specs.Page.whole, specs.Page.SameBehind, specs.Map.Map}
 use Rattle.pk_base.specs.Mark.{program, after, all_posted}
-use Rattle.pk_nand.specs.BoardState.{BoardState}
-use Rattle.pk_nand.specs.Cut.{Interrupted}
-use Rattle.pk_nand.specs.Calls.{IsReady, after_program, ProgramFailed}
-use Rattle.pk_nand.specs.Effects.{Works, Stops}
-use Rattle.pk_nand.proofs.Effects.{works_erase, works_program, stops_erase, stops_program}
-use Rattle.pk_nand.specs.Pairs.{IsPairCut}
+use Rattle.pk_nand.{specs.BoardState.BoardState, specs.Cut.Interrupted, specs.Calls.IsReady, specs.Calls.after_program, specs.Calls.ProgramFailed, specs.Effects.Works, specs.Effects.Stops}
+use Rattle.pk_nand.{proofs.Effects.works_erase, proofs.Effects.works_program, proofs.Effects.stops_erase, proofs.Effects.stops_program, specs.Pairs.IsPairCut, proofs.Writing.shape_is}
 use Rattle.pk_nand.proofs.Pairing.{IsPairCut-start, IsPairCut-cut, IsPairCut-done}
-use Rattle.pk_nand.proofs.Writing.{shape_is}
-use Rattle.pk_rootfmt.specs.Root.{Root, root_bytes}
-use Rattle.pk_rootfmt.specs.Newest.{newest_root}
-use Rattle.pk_rootfmt.proofs.AgainLemmas.{reads_back}
-use Rattle.pk_model.specs.Found.{Found}
-use Rattle.pk_model.specs.Laws.{IsInstall}
-use Rattle.pk_model.specs.Spaces.{limits_at}
-use Rattle.pk_model.specs.RootLimits.{root_limits}
-use Rattle.pk_model.specs.Tree.{Follows}
-use Rattle.pk_model.specs.Growth.{Reaches, Goes}
-use Rattle.pk_model.specs.Crashes.{CrashFinds, background}
-use Rattle.pk_model.specs.Wear.{root_number, roots}
-use Rattle.pk_model.proofs.Growing.{at_end, top_limits}
-use Rattle.pk_model.proofs.RootLimits.{limits_under, limits_alike}
-use Rattle.pk_model.proofs.Roots.{root_pair, root_installed}
-use Rattle.pk_model.proofs.Running.{Reaches-program, Goes-program}
-use Rattle.pk_root.specs.declared.next.Next.{Next}
-use Rattle.pk_root.specs.declared.next.Next.TheVariants.{Erase, Program, Again}
+use Rattle.pk_rootfmt.{specs.Root.Root, specs.Root.root_bytes, specs.Newest.newest_root, proofs.AgainLemmas.reads_back}
+use Rattle.pk_model.{specs.Found.Found, specs.Laws.IsInstall, specs.Spaces.limits_at, specs.RootLimits.root_limits, specs.Tree.Follows, specs.Growth.Reaches, specs.Growth.Goes}
+use Rattle.pk_model.{specs.Crashes.CrashFinds, specs.Crashes.background, specs.Wear.root_number, specs.Wear.roots, proofs.Growing.at_end, proofs.Growing.top_limits}
+use Rattle.pk_model.{proofs.RootLimits.limits_under, proofs.RootLimits.limits_alike, proofs.Roots.root_pair, proofs.Roots.root_installed, proofs.Running.Reaches-program, proofs.Running.Goes-program}
+use Rattle.pk_root.{specs.declared.next.Next.Next, specs.declared.next.Next.TheVariants.Erase, specs.declared.next.Next.TheVariants.Program, specs.declared.next.Next.TheVariants.Again}
 use Rattle.pk_root.specs.Installing.{other_block, erases_next, programs_next, repeats_next, before_pair, InstallerOnFlash, KeepsRoot, Installs, ErasesOther, FailsToInstall, FailsToErase}
-use Rattle.pk_root.proofs.Installs.{install}
-use Rattle.pk_root.proofs.Places.{set_back}
-use Rattle.pk_law_steps.specs.Under.{IsUnder}
-use Rattle.pk_law_steps.specs.Next.{IsNext}
-use Rattle.pk_law_steps.proofs.Untouched.{under_reads}
-use Rattle.pk_law_steps.proofs.Standing.{installed}
-use Rattle.pk_compact.specs.Installing.{CanPrepare, Prepares, PrepareBreaks, CanInstall, IsInstalled}
+use Rattle.pk_root.{proofs.Installs.install, proofs.Places.set_back}
+use Rattle.pk_law_steps.{specs.Under.IsUnder, specs.Next.IsNext, proofs.Untouched.under_reads, proofs.Standing.installed}
+use Rattle.pk_compact.{specs.Installing.CanPrepare, specs.Installing.Prepares, specs.Installing.PrepareBreaks, specs.Installing.CanInstall, specs.Installing.IsInstalled, proofs.Numbering.same_newest}
 use Rattle.pk_compact.proofs.Installing.{under_behind, other_reaches, other_goes, other_under, other_behind}
-use Rattle.pk_compact.proofs.Numbering.{same_newest}
 
 -- ---- numbers
 

@@ -1,21 +1,11 @@
 -- The number of the newest root, if a freeze failed.
 use Rattle.std.proofs.Common.{◌≡◌, ◌⊎◌, inl, inr, ℕ, ◌+◌, ◌/◌, ◌≤◌, refl, ap, subst, arith, Some}
-use Rattle.pk_base.specs.Shape.{Shape, IsShape}
-use Rattle.pk_base.specs.Page.{Flash, page_at}
-use Rattle.pk_base.specs.Mark.{erase, all_posted}
-use Rattle.pk_nand.specs.BoardState.{BoardState, shape_of}
-use Rattle.pk_nand.specs.Calls.{IsReady}
-use Rattle.pk_nand.specs.Operations.{EraseFailed}
-use Rattle.pk_nand.proofs.Touching.{untouched}
-use Rattle.pk_nand.proofs.Writing.{shape_is}
-use Rattle.pk_rootfmt.specs.Root.{Root}
-use Rattle.pk_rootfmt.specs.Newest.{newest_root}
-use Rattle.pk_model.proofs.SamePages.{newest_root_same}
-use Rattle.pk_root.specs.declared.next.Next.{Next}
-use Rattle.pk_root.specs.declared.next.Next.TheVariants.{Again}
-use Rattle.pk_root.specs.Installing.{before_pair, FailsToInstall, FailsToRepeat}
+use Rattle.pk_base.{specs.Shape.Shape, specs.Shape.IsShape, specs.Page.Flash, specs.Page.page_at, specs.Mark.erase, specs.Mark.all_posted}
+use Rattle.pk_nand.{specs.BoardState.BoardState, specs.BoardState.shape_of, specs.Calls.IsReady, specs.Operations.EraseFailed, proofs.Touching.untouched, proofs.Writing.shape_is}
+use Rattle.pk_rootfmt.{specs.Root.Root, specs.Newest.newest_root}
+use Rattle.pk_model.{proofs.SamePages.newest_root_same, specs.Wear.root_number}
+use Rattle.pk_root.{specs.declared.next.Next.Next, specs.declared.next.Next.TheVariants.Again, specs.Installing.before_pair, specs.Installing.FailsToInstall, specs.Installing.FailsToRepeat}
 use Rattle.pk_root.specs.Laws.{SameFront}
-use Rattle.pk_model.specs.Wear.{root_number}
 use Rattle.pk_compact.proofs.Taking.{not_behind}
 
 pub same_newest : (shape : Shape) (old new : Flash) → newest_root shape (page_at new) ≡ newest_root shape (page_at old) → root_number shape new ≡ root_number shape old

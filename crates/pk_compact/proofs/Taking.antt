@@ -1,39 +1,19 @@
 -- A block that is taken from the pool.
 use Rattle.std.proofs.Common.{◌≡◌, ◌≢◌, ◌⊎◌, inl, inr, ℕ, ◌*◌, ◌/◌, ◌<◌, ◌≤◌, List, [], Some, refl, sym, ap, subst, ◌∙◌, arith, zero-add, div-lt_iff_lt-mul}
-use Rattle.std.specs.Prelude.{slice_get}
-use Rattle.std.proofs.Math.ListN.{set}
-use Rattle.pk_base.specs.Shape.{Shape, IsShape}
-use Rattle.pk_base.specs.Page.{Flash, page_at}
-use Rattle.pk_base.specs.Map.{Map}
-use Rattle.pk_base.specs.Mark.{erase, after}
-use Rattle.pk_base.proofs.ShapeLemmas.{block_pages_positive}
+use Rattle.std.{specs.Prelude.slice_get, proofs.Math.ListN.set}
+use Rattle.pk_base.{specs.Shape.Shape, specs.Shape.IsShape, specs.Page.Flash, specs.Page.page_at, specs.Map.Map, specs.Mark.erase, specs.Mark.after, proofs.ShapeLemmas.block_pages_positive}
 use Rattle.pk_plan.specs.declared.owner.Owner.TheVariants.{Journal}
-use Rattle.pk_nand.specs.BoardState.{BoardState, shape_of}
-use Rattle.pk_nand.specs.Cut.{Interrupted}
-use Rattle.pk_nand.specs.Calls.{IsReady}
-use Rattle.pk_nand.specs.Operations.{EraseFailed, IsErasedBlock}
-use Rattle.pk_nand.proofs.Leaving.{erased_leaves, page_at-erased_from, interrupted_done}
-use Rattle.pk_nand.proofs.Touching.{untouched}
-use Rattle.pk_nand.proofs.Writing.{shape_is}
-use Rattle.pk_rootfmt.specs.Root.{Root, named}
-use Rattle.pk_model.specs.Found.{Found}
-use Rattle.pk_model.specs.Laws.{AnyByRecursion}
-use Rattle.pk_pool.specs.declared.state.BlockState.{BlockState}
-use Rattle.pk_pool.specs.declared.state.BlockState.TheVariants.{Free, Ready, Owned}
-use Rattle.pk_pool.specs.Blocks.{Blocks, IsSpare, with_state}
-use Rattle.pk_pool.specs.Taking.{TakesReady, ErasesFree}
-use Rattle.pk_pool.proofs.States.{get-set_other, get-set_same, owned_is_not_free, owned_is_not_ready}
-use Rattle.pk_pool.proofs.Fitting.{IsReady-erase}
-use Rattle.pk_law_steps.specs.Under.{IsUnder, IsValuePage, places}
-use Rattle.pk_law_steps.proofs.Untouched.{erases, under_reads}
-use Rattle.pk_model.specs.Growth.{Grows, Reaches, Goes}
-use Rattle.pk_model.specs.Crashes.{CrashFinds, background}
-use Rattle.pk_nand.specs.Effects.{Works}
-use Rattle.pk_compact.specs.Steps.{AtMostErases}
+use Rattle.pk_nand.{specs.BoardState.BoardState, specs.BoardState.shape_of, specs.Cut.Interrupted, specs.Calls.IsReady, specs.Operations.EraseFailed, specs.Operations.IsErasedBlock}
+use Rattle.pk_nand.{proofs.Leaving.erased_leaves, proofs.Leaving.page_at-erased_from, proofs.Leaving.interrupted_done, proofs.Touching.untouched, proofs.Writing.shape_is, specs.Effects.Works}
 use Rattle.pk_nand.proofs.Effects.{works_none, works_erase}
-use Rattle.pk_model.specs.Spaces.{limits_at}
-use Rattle.pk_model.proofs.Growing.{top_limits}
-use Rattle.pk_model.proofs.Running.{Reaches-none, Reaches-erase, Goes-erase}
+use Rattle.pk_rootfmt.specs.Root.{Root, named}
+use Rattle.pk_model.{specs.Found.Found, specs.Laws.AnyByRecursion, specs.Growth.Grows, specs.Growth.Reaches, specs.Growth.Goes, specs.Crashes.CrashFinds, specs.Crashes.background}
+use Rattle.pk_model.{specs.Spaces.limits_at, proofs.Growing.top_limits, proofs.Running.Reaches-none, proofs.Running.Reaches-erase, proofs.Running.Goes-erase}
+use Rattle.pk_pool.{specs.declared.state.BlockState.BlockState, specs.Blocks.Blocks, specs.Blocks.IsSpare, specs.Blocks.with_state, specs.Taking.TakesReady, specs.Taking.ErasesFree}
+use Rattle.pk_pool.specs.declared.state.BlockState.TheVariants.{Free, Ready, Owned}
+use Rattle.pk_pool.{proofs.States.get-set_other, proofs.States.get-set_same, proofs.States.owned_is_not_free, proofs.States.owned_is_not_ready, proofs.Fitting.IsReady-erase}
+use Rattle.pk_law_steps.{specs.Under.IsUnder, specs.Under.IsValuePage, specs.Under.places, proofs.Untouched.erases, proofs.Untouched.under_reads}
+use Rattle.pk_compact.specs.Steps.{AtMostErases}
 
 -- at most one erase works
 pub works_at_most : (block : ℕ) (old new : BoardState) → AtMostErases block old new → Works old new

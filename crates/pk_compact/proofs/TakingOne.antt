@@ -1,44 +1,21 @@
 -- A freeze takes one block more.
 use Rattle.std.proofs.Common.{◌≡◌, inl, inr, ℕ, ◌+◌, ◌/◌, ◌<◌, ◌≤◌, List, [], ◌∷◌, ◌++◌, T, Bool, true, false, not, length, Some, refl, sym, ap, subst, ◌∙◌, arith, length-append, eqb→eq}
-use Rattle.std.specs.Prelude.{slice_get, ◌&&◌, ◌||◌, ◌==◌}
-use Rattle.std.specs.List.{AllByRecursion}
-use Rattle.pk_base.specs.Shape.{Shape, IsShape}
-use Rattle.pk_base.specs.Page.{page_at}
-use Rattle.pk_base.specs.Map.{Map}
-use Rattle.pk_law_work.specs.Rest.{Lowers, steps_of}
-use Rattle.pk_law_work.specs.Jobs.{freeze_rest}
+use Rattle.std.{specs.Prelude.slice_get, specs.Prelude.◌&&◌, specs.Prelude.◌||◌, specs.Prelude.◌==◌, specs.List.AllByRecursion}
+use Rattle.pk_base.{specs.Shape.Shape, specs.Shape.IsShape, specs.Page.page_at, specs.Map.Map}
+use Rattle.pk_law_work.{specs.Rest.Lowers, specs.Rest.steps_of, specs.Jobs.freeze_rest}
 use Rattle.pk_plan.specs.declared.owner.Owner.TheVariants.{Journal}
-use Rattle.pk_nand.specs.BoardState.{BoardState}
-use Rattle.pk_nand.specs.Calls.{IsReady}
-use Rattle.pk_nand.specs.Operations.{IsErasedBlock}
-use Rattle.pk_rootfmt.specs.Root.{Root, is_root, named, differ}
-use Rattle.pk_rootfmt.specs.Held.{Held}
-use Rattle.pk_model.specs.Found.{Found}
-use Rattle.pk_model.specs.Growth.{Goes}
-use Rattle.pk_model.specs.Crashes.{CrashFinds, background}
-use Rattle.pk_model.specs.Wear.{root_number}
-use Rattle.pk_model.proofs.Roots.{newest_sound}
-use Rattle.pk_model.proofs.Commits.{root_valid}
-use Rattle.pk_pool.specs.declared.state.BlockState.TheVariants.{Free, Ready, Owned}
-use Rattle.pk_pool.specs.Blocks.{Blocks, IsShared, IsSpare, PoolOnFlash, used_by, with_state}
-use Rattle.pk_pool.specs.Taking.{FailsToErase}
-use Rattle.pk_pool.specs.Unready.{unready}
-use Rattle.pk_pool.proofs.Counting.{take_pays}
-use Rattle.pk_pool.proofs.States.{set_is, free_is_not_root, ready_is_not_root}
-use Rattle.pk_pool.proofs.Sharing.{behind_roots}
-use Rattle.pk_root.specs.declared.next.Next.{Next}
-use Rattle.pk_root.specs.Laws.{SameFront}
-use Rattle.pk_root.proofs.Places.{InstallerOnFlash-by_same}
+use Rattle.pk_nand.{specs.BoardState.BoardState, specs.Calls.IsReady, specs.Operations.IsErasedBlock}
+use Rattle.pk_rootfmt.{specs.Root.Root, specs.Root.is_root, specs.Root.named, specs.Root.differ, specs.Held.Held}
+use Rattle.pk_model.{specs.Found.Found, specs.Growth.Goes, specs.Crashes.CrashFinds, specs.Crashes.background, specs.Wear.root_number, proofs.Roots.newest_sound, proofs.Commits.root_valid}
+use Rattle.pk_pool.{specs.declared.state.BlockState.TheVariants.Free, specs.declared.state.BlockState.TheVariants.Ready, specs.declared.state.BlockState.TheVariants.Owned, specs.Taking.FailsToErase}
+use Rattle.pk_pool.{specs.Blocks.Blocks, specs.Blocks.IsShared, specs.Blocks.IsSpare, specs.Blocks.PoolOnFlash, specs.Blocks.used_by, specs.Blocks.with_state, specs.Unready.unready}
+use Rattle.pk_pool.{proofs.Counting.take_pays, proofs.States.set_is, proofs.States.free_is_not_root, proofs.States.ready_is_not_root, proofs.Sharing.behind_roots}
+use Rattle.pk_root.{specs.declared.next.Next.Next, specs.Laws.SameFront, proofs.Places.InstallerOnFlash-by_same}
 use Rattle.pk_law_steps.proofs.Places.{In}
-use Rattle.pk_compact.specs.Freezing.{IsApart}
-use Rattle.pk_compact.specs.Steps.{AtMostErases}
-use Rattle.pk_compact.specs.declared.freezing.FreezeJob.{FreezeJob}
+use Rattle.pk_compact.{specs.Freezing.IsApart, specs.Steps.AtMostErases, specs.declared.freezing.FreezeJob.FreezeJob, proofs.Grammar.Known, proofs.Grammar.known, proofs.Apart.owned_not_spare}
 use Rattle.pk_compact.specs.FreezeSteps.{IsFreezing, IsTaken, FreezeGoesOn, taken_by, install_steps, freeze_left}
 use Rattle.pk_compact.proofs.Taking.{spare_before, leaves_others, not_behind, take_reaches, take_under, take_goes as erase_goes, erased_stays}
-use Rattle.pk_compact.proofs.Grammar.{Known, known}
-use Rattle.pk_compact.proofs.Numbering.{same_front, failed_front}
-use Rattle.pk_compact.proofs.Apart.{owned_not_spare}
-use Rattle.pk_compact.proofs.Pairs.{still_owned}
+use Rattle.pk_compact.{proofs.Numbering.same_front, proofs.Numbering.failed_front, proofs.Pairs.still_owned}
 
 -- a spare block is the journal's once it was taken
 now_owned : (pool : Blocks) (b : ℕ) → IsSpare pool b → slice_get (with_state pool b (Owned Journal)).states b ≡ Some (Owned Journal)

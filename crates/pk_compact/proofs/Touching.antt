@@ -1,26 +1,13 @@
 -- Calls that touch no page that is read.
 use Rattle.std.proofs.Common.{◌≡◌, ◌≢◌, inl, inr, ℕ, ◌/◌, List, [], Some, refl, sym, ap, subst, ◌∙◌}
-use Rattle.pk_base.specs.Shape.{Shape, IsShape}
-use Rattle.pk_base.specs.Page.{Flash}
-use Rattle.pk_base.specs.Map.{Map}
-use Rattle.pk_base.specs.Mark.{program, after}
-use Rattle.pk_nand.specs.BoardState.{BoardState}
-use Rattle.pk_nand.specs.Cut.{Interrupted}
-use Rattle.pk_nand.specs.Calls.{IsReady, after_program, ProgramFailed}
-use Rattle.pk_nand.proofs.Leaving.{interrupted_done}
-use Rattle.pk_nand.proofs.Touching.{elsewhere}
-use Rattle.pk_nand.proofs.Writing.{shape_is}
+use Rattle.pk_base.{specs.Shape.Shape, specs.Shape.IsShape, specs.Page.Flash, specs.Map.Map, specs.Mark.program, specs.Mark.after}
+use Rattle.pk_nand.{specs.BoardState.BoardState, specs.Cut.Interrupted, specs.Calls.IsReady, specs.Calls.after_program, specs.Calls.ProgramFailed, proofs.Leaving.interrupted_done}
+use Rattle.pk_nand.{proofs.Touching.elsewhere, proofs.Writing.shape_is}
 use Rattle.pk_rootfmt.specs.Root.{Root}
-use Rattle.pk_model.specs.Found.{Found}
-use Rattle.pk_model.specs.Growth.{Grows, Goes}
-use Rattle.pk_model.specs.Crashes.{CrashFinds, background}
-use Rattle.pk_model.specs.Spaces.{limits_at}
-use Rattle.pk_model.proofs.Growing.{top_limits}
+use Rattle.pk_model.{specs.Found.Found, specs.Growth.Grows, specs.Growth.Goes, specs.Crashes.CrashFinds, specs.Crashes.background, specs.Spaces.limits_at, proofs.Growing.top_limits}
 use Rattle.pk_model.proofs.Running.{Reaches-program, Goes-program}
-use Rattle.pk_law_steps.specs.Under.{IsUnder}
-use Rattle.pk_law_steps.proofs.Untouched.{erases, under_reads}
-use Rattle.pk_compact.specs.Laws.{IsUnread, CallLeaves, ProgramUnread, EraseUnread}
-use Rattle.pk_compact.proofs.Taking.{take_reaches, take_under, take_goes}
+use Rattle.pk_law_steps.{specs.Under.IsUnder, proofs.Untouched.erases, proofs.Untouched.under_reads}
+use Rattle.pk_compact.{specs.Laws.IsUnread, specs.Laws.CallLeaves, specs.Laws.ProgramUnread, specs.Laws.EraseUnread, proofs.Taking.take_reaches, proofs.Taking.take_under, proofs.Taking.take_goes}
 
 module _ (shape : Shape) (old : BoardState) (top : ℕ × Root) (found : Found) (m : Map) (block page : ℕ) (bytes : List ℕ)
     (is_shape : IsShape shape) (ready : IsReady old shape) (under : IsUnder shape old.pages [] top found m)

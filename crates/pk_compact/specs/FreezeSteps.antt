@@ -1,33 +1,19 @@
 -- A freeze in steps: what holds between them, and what each leaves.
 use Rattle.std.specs.Prelude.{◌≡◌, ◌≢◌, ◌⊎◌, ℕ, ◌+◌, ◌/◌, ◌<◌, ◌≤◌, List, [], ◌∷◌, ◌++◌, length, Bool, true, false, not, ◌==◌, if◌then◌else◌, slice_get, slice_index, Some, MatchBool}
 use Rattle.std.specs.List.{AllByRecursion}
-use Rattle.pk_base.specs.Shape.{Shape, root_pages}
-use Rattle.pk_base.specs.Page.{Flash, page_at, SameBehind}
-use Rattle.pk_base.specs.Map.{Map}
+use Rattle.pk_base.{specs.Shape.Shape, specs.Shape.root_pages, specs.Page.Flash, specs.Page.page_at, specs.Page.SameBehind, specs.Map.Map}
 use Rattle.pk_base.specs.declared.sizes.TheConstants.{ROOT_BLOCKS, EPOCH_BLOCKS}
-use Rattle.pk_law_work.specs.Rest.{Lowers, steps_of}
-use Rattle.pk_law_work.specs.Jobs.{freeze_rest}
+use Rattle.pk_law_work.{specs.Rest.Lowers, specs.Rest.steps_of, specs.Jobs.freeze_rest}
 use Rattle.pk_plan.specs.declared.owner.Owner.TheVariants.{Journal}
-use Rattle.pk_nand.specs.BoardState.{BoardState}
-use Rattle.pk_nand.specs.Operations.{IsErasedBlock}
-use Rattle.pk_rootfmt.specs.Root.{Root, named, differ, last_number}
-use Rattle.pk_rootfmt.specs.Held.{Held, two_of}
-use Rattle.pk_model.specs.Found.{Found}
-use Rattle.pk_model.specs.Laws.{AnyByRecursion}
-use Rattle.pk_model.specs.Growth.{Reaches, Goes}
-use Rattle.pk_model.specs.Crashes.{CrashFinds, background}
-use Rattle.pk_model.specs.Wear.{root_number}
-use Rattle.pk_pool.specs.declared.state.BlockState.TheVariants.{Owned}
+use Rattle.pk_nand.{specs.BoardState.BoardState, specs.Operations.IsErasedBlock}
+use Rattle.pk_rootfmt.{specs.Root.Root, specs.Root.named, specs.Root.differ, specs.Root.last_number, specs.Held.Held, specs.Held.two_of}
+use Rattle.pk_model.{specs.Found.Found, specs.Laws.AnyByRecursion, specs.Growth.Reaches, specs.Growth.Goes, specs.Crashes.CrashFinds, specs.Crashes.background, specs.Wear.root_number}
+use Rattle.pk_pool.{specs.declared.state.BlockState.TheVariants.Owned, specs.Unready.unready}
 use Rattle.pk_pool.specs.Blocks.{Blocks, used_by, with_state, given_back, IsSpare, PoolOnFlash}
-use Rattle.pk_pool.specs.Unready.{unready}
-use Rattle.pk_root.specs.declared.next.Next.{Next}
-use Rattle.pk_root.specs.declared.next.Next.TheVariants.{Erase, Program, Again}
+use Rattle.pk_root.{specs.declared.next.Next.Next, specs.declared.next.Next.TheVariants.Erase, specs.declared.next.Next.TheVariants.Program, specs.declared.next.Next.TheVariants.Again}
 use Rattle.pk_root.specs.Installing.{InstallerOnFlash, repeats_next}
-use Rattle.pk_law_steps.specs.Under.{IsUnder}
-use Rattle.pk_law_steps.specs.Roots.{frozen_root, frozen}
-use Rattle.pk_compact.specs.Freezing.{IsApart}
-use Rattle.pk_compact.specs.Installing.{IsHalf}
-use Rattle.pk_compact.specs.declared.freezing.FreezeJob.{FreezeJob}
+use Rattle.pk_law_steps.{specs.Under.IsUnder, specs.Roots.frozen_root, specs.Roots.frozen}
+use Rattle.pk_compact.{specs.Freezing.IsApart, specs.Installing.IsHalf, specs.declared.freezing.FreezeJob.FreezeJob}
 use Rattle.pk_compact.specs.declared.freezing.FreezeJob.TheVariants.{Idle, HasOne, HasTwo}
 
 -- the blocks that a freeze has taken for the epoch that it begins

@@ -1,10 +1,8 @@
 -- Blocks that a job may take.
 use Rattle.std.specs.Prelude.{◌≡◌, ◌≢◌, ℕ, ◌/◌, ◌<◌, ◌≤◌, []}
-use Rattle.pk_base.specs.Shape.{Shape}
-use Rattle.pk_base.specs.declared.sizes.TheConstants.{ROOT_BLOCKS}
+use Rattle.pk_base.{specs.Shape.Shape, specs.declared.sizes.TheConstants.ROOT_BLOCKS}
 use Rattle.pk_rootfmt.specs.Root.{Root, named}
-use Rattle.pk_model.specs.Found.{Found}
-use Rattle.pk_model.specs.Laws.{AnyByRecursion}
+use Rattle.pk_model.{specs.Found.Found, specs.Laws.AnyByRecursion}
 use Rattle.pk_pool.specs.Blocks.{Blocks, IsSpare}
 use Rattle.pk_law_steps.specs.Under.{IsValuePage, places}
 

@@ -1,20 +1,12 @@
 -- The install of a root that may follow the newest one, in three steps: the erase before it, if one is next, and its two programs.
 use Rattle.std.specs.Prelude.{◌≡◌, ℕ, ◌+◌, [], true, false}
-use Rattle.pk_base.specs.Shape.{Shape}
-use Rattle.pk_base.specs.Page.{Flash, SameBehind}
-use Rattle.pk_base.specs.Map.{Map}
+use Rattle.pk_base.{specs.Shape.Shape, specs.Page.Flash, specs.Page.SameBehind, specs.Map.Map}
 use Rattle.pk_nand.specs.BoardState.{BoardState}
 use Rattle.pk_rootfmt.specs.Root.{Root}
-use Rattle.pk_model.specs.Spaces.{limits_at}
-use Rattle.pk_model.specs.Found.{Found}
-use Rattle.pk_model.specs.Growth.{Reaches, Goes}
-use Rattle.pk_model.specs.Crashes.{CrashFinds, background}
-use Rattle.pk_model.specs.Wear.{root_number}
-use Rattle.pk_root.specs.declared.next.Next.{Next}
-use Rattle.pk_root.specs.declared.next.Next.TheVariants.{Again}
+use Rattle.pk_model.{specs.Spaces.limits_at, specs.Found.Found, specs.Growth.Reaches, specs.Growth.Goes, specs.Crashes.CrashFinds, specs.Crashes.background, specs.Wear.root_number}
+use Rattle.pk_root.{specs.declared.next.Next.Next, specs.declared.next.Next.TheVariants.Again}
 use Rattle.pk_root.specs.Installing.{InstallerOnFlash, programs_next, repeats_next, before_pair}
-use Rattle.pk_law_steps.specs.Under.{IsUnder}
-use Rattle.pk_law_steps.specs.Next.{IsNext}
+use Rattle.pk_law_steps.{specs.Under.IsUnder, specs.Next.IsNext}
 
 -- ---- the erase
 

@@ -1,20 +1,11 @@
 -- Which blocks nobody reads, and what may be done to them: the statements.
 use Rattle.std.specs.Prelude.{◌≡◌, ℕ, ◌/◌, ◌≤◌, List, []}
-use Rattle.pk_base.specs.Shape.{Shape, IsShape}
-use Rattle.pk_base.specs.Page.{Flash}
-use Rattle.pk_base.specs.Map.{Map}
-use Rattle.pk_base.specs.declared.sizes.TheConstants.{ROOT_BLOCKS}
-use Rattle.pk_nand.specs.BoardState.{BoardState}
-use Rattle.pk_nand.specs.Calls.{IsReady, after_program, ProgramFailed}
-use Rattle.pk_nand.specs.Operations.{after_erase, EraseFailed}
+use Rattle.pk_base.{specs.Shape.Shape, specs.Shape.IsShape, specs.Page.Flash, specs.Map.Map, specs.declared.sizes.TheConstants.ROOT_BLOCKS}
+use Rattle.pk_nand.{specs.BoardState.BoardState, specs.Calls.IsReady, specs.Calls.after_program, specs.Calls.ProgramFailed, specs.Operations.after_erase, specs.Operations.EraseFailed}
 use Rattle.pk_rootfmt.specs.Root.{Root, named}
-use Rattle.pk_model.specs.Found.{Found}
-use Rattle.pk_model.specs.Laws.{AnyByRecursion}
-use Rattle.pk_model.specs.Growth.{Reaches, Goes}
-use Rattle.pk_model.specs.Crashes.{CrashFinds, background}
+use Rattle.pk_model.{specs.Found.Found, specs.Laws.AnyByRecursion, specs.Growth.Reaches, specs.Growth.Goes, specs.Crashes.CrashFinds, specs.Crashes.background}
 use Rattle.pk_pool.specs.Blocks.{given_back, Blocks, IsSpare}
-use Rattle.pk_law_steps.specs.Under.{IsUnder, IsValuePage, places}
-use Rattle.pk_law_steps.specs.Merging.{IsMerged, merged_root, merged_found, freed_by}
+use Rattle.pk_law_steps.{specs.Under.IsUnder, specs.Under.IsValuePage, specs.Under.places, specs.Merging.IsMerged, specs.Merging.merged_root, specs.Merging.merged_found, specs.Merging.freed_by}
 use Rattle.pk_compact.specs.Freezing.{IsApart}
 
 -- No spare block is read after a merge, if blocks of its source and of its target's former run were freed.

@@ -1,20 +1,11 @@
 -- The install of a merge: when its root may be programmed, and what that leaves.
 use Rattle.std.specs.Prelude.{◌≡◌, ℕ, ◌+◌, ◌-◌, ◌<◌, ◌≤◌, List, [], ◌==◌, if◌then◌else◌, slice_set}
-use Rattle.pk_base.specs.Shape.{Shape}
-use Rattle.pk_base.specs.Page.{Flash, SameBehind}
-use Rattle.pk_base.specs.Map.{Map}
-use Rattle.pk_base.specs.Merge.{room}
+use Rattle.pk_base.{specs.Shape.Shape, specs.Page.Flash, specs.Page.SameBehind, specs.Map.Map, specs.Merge.room}
 use Rattle.pk_nand.specs.BoardState.{BoardState}
-use Rattle.pk_rootfmt.specs.Root.{Root, last_number}
-use Rattle.pk_rootfmt.specs.Held.{Held}
-use Rattle.pk_model.specs.Found.{Found}
-use Rattle.pk_model.specs.Growth.{Reaches, Goes}
-use Rattle.pk_model.specs.Crashes.{CrashFinds, background}
-use Rattle.pk_model.specs.Wear.{root_number}
-use Rattle.pk_root.specs.declared.next.Next.{Next}
-use Rattle.pk_root.specs.Installing.{InstallerOnFlash}
-use Rattle.pk_law_steps.specs.Under.{IsUnder}
-use Rattle.pk_law_steps.specs.Merging.{IsMerged, merged_root, merged_found}
+use Rattle.pk_rootfmt.{specs.Root.Root, specs.Root.last_number, specs.Held.Held}
+use Rattle.pk_model.{specs.Found.Found, specs.Growth.Reaches, specs.Growth.Goes, specs.Crashes.CrashFinds, specs.Crashes.background, specs.Wear.root_number}
+use Rattle.pk_root.{specs.declared.next.Next.Next, specs.Installing.InstallerOnFlash}
+use Rattle.pk_law_steps.{specs.Under.IsUnder, specs.Merging.IsMerged, specs.Merging.merged_root, specs.Merging.merged_found}
 use Rattle.pk_compact.specs.Installing.{IsHalf}
 
 -- the root without the source of a merge into this level: the older epoch, or the run above

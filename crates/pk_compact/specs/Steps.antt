@@ -1,13 +1,9 @@
 -- The steps of a freeze, and of an install.
 use Rattle.std.specs.Prelude.{◌≡◌, ◌⊎◌, ℕ, ◌+◌, List, [], Bool, if◌then◌else◌, Result, OnOk}
 use Rattle.pk_base.specs.Shape.{Shape}
-use Rattle.pk_nand.specs.declared.types.Fault.{Fault}
-use Rattle.pk_nand.specs.BoardState.{BoardState}
-use Rattle.pk_nand.specs.Operations.{after_erase}
-use Rattle.pk_nand.specs.Effects.{AtMostOneCall}
+use Rattle.pk_nand.{specs.declared.types.Fault.Fault, specs.BoardState.BoardState, specs.Operations.after_erase, specs.Effects.AtMostOneCall}
 use Rattle.pk_rootfmt.specs.Root.{Root}
-use Rattle.pk_model.specs.Growth.{Grows}
-use Rattle.pk_model.specs.Steps.{Step}
+use Rattle.pk_model.{specs.Growth.Grows, specs.Steps.Step}
 
 -- A step by at most one flash operation, whether it ended or the operation failed. If it ended, the tree of lists has grown.
 pub record StepByCall {T : Type 0} (Ended : T → Type 0) (Broken : Type 0) (shape : Shape) (most : ℕ) (old new : BoardState) (result : Result T Fault) : Type 0 where

@@ -1,16 +1,10 @@
 -- What a background step reports of the remaining work.
-use Rattle.std.proofs.Common.{◌≡◌}
-use Rattle.std.specs.Prelude.{◌↔◌}
+use Rattle.std.{proofs.Common.◌≡◌, specs.Prelude.◌↔◌}
 use Rattle.pk_nand.specs.BoardState.{BoardState}
 use Rattle.pk_pool.specs.Blocks.{IsShared}
-use Rattle.pk_call.specs.Sight.{IsIdle}
-use Rattle.pk_call.specs.Tick.{TellsIdle, LowersWork}
-use Rattle.pk_call.specs.declared.types.Ticked.{Ticked}
-use Rattle.pk_call.specs.declared.types.Ticked.TheVariants.{Idle}
-use Rattle.pk_parts.specs.Parts.{Parts, sight_of}
-use Rattle.pk_background.specs.Ticking.{MayTick, Advances}
-use Rattle.pk_parts.proofs.Unchanging.{for_its_map}
-use Rattle.pk_background.proofs.Ticking.{none_idle}
+use Rattle.pk_call.{specs.Sight.IsIdle, specs.Tick.TellsIdle, specs.Tick.LowersWork, specs.declared.types.Ticked.Ticked, specs.declared.types.Ticked.TheVariants.Idle}
+use Rattle.pk_parts.{specs.Parts.Parts, specs.Parts.sight_of, proofs.Unchanging.for_its_map}
+use Rattle.pk_background.{specs.Ticking.MayTick, specs.Ticking.Advances, proofs.Ticking.none_idle}
 
 -- ---- what the step answers
 

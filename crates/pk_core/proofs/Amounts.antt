@@ -1,15 +1,11 @@
 -- How many calls it takes to make room.
 use Rattle.std.proofs.Common.{◌≡◌, ℕ, ◌+◌, ◌*◌, ◌<◌, ◌≤◌, arith, inl, inr, false, leb-false}
-use Rattle.std.proofs.Math.Nat.{mul-le-mul_left, mul-le-mul_right}
-use Rattle.std.proofs.lemmas.Bool.{cases_lt}
-use Rattle.std.proofs.lemmas.Grind.{div_ceil_times}
-use Rattle.std.specs.Int.{div_ceil}
+use Rattle.std.{proofs.Math.Nat.mul-le-mul_left, proofs.Math.Nat.mul-le-mul_right, proofs.lemmas.Bool.cases_lt, proofs.lemmas.Grind.div_ceil_times, specs.Int.div_ceil}
 use Rattle.pk_base.specs.Shape.{Shape, IsShape, page_entries, dense, deepest}
-use Rattle.pk_law_work.specs.Calls.{room_calls}
+use Rattle.pk_law_work.{specs.Calls.room_calls, proofs.Emptying.emptying_most}
 use Rattle.pk_nand.specs.BoardState.{BoardState}
 use Rattle.pk_model.specs.Wear.{roots, is_worn}
 use Rattle.pk_core.specs.Spacing.{store_most}
-use Rattle.pk_law_work.proofs.Emptying.{emptying_most}
 
 -- blocks of which each has at most as many pages as one page has entries
 few_pages : (blocks pages e : ℕ) → pages ≤ e → 0 < e → div_ceil (blocks * pages) e ≤ blocks

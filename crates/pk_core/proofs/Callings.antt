@@ -1,20 +1,12 @@
 -- How many flash operations a command makes.
 use Rattle.std.proofs.Common.{◌≡◌, ℕ, ◌-◌, ◌≤◌, sym, ap, subst, ◌∙◌, arith, false}
 use Rattle.std.specs.Prelude.{if◌then◌else◌, ◌==◌}
-use Rattle.pk_base.specs.Shape.{Shape, IsShape, most_calls}
-use Rattle.pk_base.proofs.ShapeLemmas.{block_pages_positive}
-use Rattle.pk_nand.specs.BoardState.{BoardState}
-use Rattle.pk_nand.specs.Calls.{last_count}
-use Rattle.pk_nand.specs.Counts.{counted_by}
+use Rattle.pk_base.{specs.Shape.Shape, specs.Shape.IsShape, specs.Shape.most_calls, proofs.ShapeLemmas.block_pages_positive}
+use Rattle.pk_nand.{specs.BoardState.BoardState, specs.BoardState.shape_or_none, specs.Calls.last_count, specs.Counts.counted_by}
 use Rattle.pk_model.specs.Wear.{roots}
 use Rattle.pk_call.specs.Calling.{FewCalls, most_calls_of}
-use Rattle.pk_nand.specs.BoardState.{shape_or_none}
-use Rattle.pk_background.specs.Costs.{Spends}
-use Rattle.pk_parts.specs.Parts.{Parts, most_looks}
-use Rattle.pk_parts.specs.Agreeing.{DriveOnFlash}
-use Rattle.pk_parts.specs.Quiet.{ReadsOnly, ReadsFailing}
-use Rattle.pk_parts.proofs.Unchanging.{counted_by-min}
-use Rattle.pk_background.proofs.Callings.{spends_still}
+use Rattle.pk_background.{specs.Costs.Spends, proofs.Callings.spends_still}
+use Rattle.pk_parts.{specs.Parts.Parts, specs.Parts.most_looks, specs.Agreeing.DriveOnFlash, specs.Quiet.ReadsOnly, specs.Quiet.ReadsFailing, proofs.Unchanging.counted_by-min}
 
 -- ---- reads alone
 

@@ -1,13 +1,11 @@
 -- The result of a change of the map, by its outcome.
 use Rattle.std.proofs.Common.{◌≡◌, ℕ, ap, sym, ◌∙◌, arith, false, Result, Ok, Err}
 use Rattle.std.specs.Prelude.{OnOk}
-use Rattle.pk_nand.specs.declared.types.Fault.{Fault}
-use Rattle.pk_nand.specs.declared.types.Fault.TheVariants.{Reading, Stopped}
+use Rattle.pk_nand.{specs.declared.types.Fault.Fault, specs.declared.types.Fault.TheVariants.Reading, specs.declared.types.Fault.TheVariants.Stopped}
 use Rattle.pk_call.specs.declared.types.Outcome.{Outcome}
 use Rattle.pk_parts.specs.Parts.{Parts}
 use Rattle.pk_background.specs.Emptying.{OnRunning}
-use Rattle.pk_core.specs.Serving.{outcome_for}
-use Rattle.pk_core.proofs.Executing.{never}
+use Rattle.pk_core.{specs.Serving.outcome_for, proofs.Executing.never}
 
 read_error : ◌≡◌ {A = ℕ} 0x88 0 → ⊥
 read_error e = omega (arith, e)

@@ -1,19 +1,11 @@
 -- A commit between two commands: of a drive of which a pair is half made nothing is pending.
 use Rattle.std.proofs.Common.{◌≡◌, ◌∙◌, inl, refl, sym, ap, subst, Bool, true, false, [], Some, Ok, Err}
 use Rattle.std.specs.Prelude.{IsOk}
-use Rattle.pk_base.specs.Shape.{Shape}
-use Rattle.pk_base.specs.Map.{Map}
-use Rattle.pk_nand.specs.declared.types.Fault.{Fault}
-use Rattle.pk_nand.specs.BoardState.{BoardState}
-use Rattle.pk_nand.specs.Effects.{OnlyFlash}
-use Rattle.pk_nand.proofs.Reaching.{Reached-start}
-use Rattle.pk_model.specs.Growth.{Reaches, Goes}
-use Rattle.pk_model.specs.Crashes.{CrashFinds, commit}
-use Rattle.pk_parts.specs.Parts.{Parts, is_half}
-use Rattle.pk_parts.specs.Agreeing.{DriveOnFlash}
-use Rattle.pk_parts.specs.Moves.{StandsBetween, KeepsAll, BreaksAll}
+use Rattle.pk_base.{specs.Shape.Shape, specs.Map.Map}
+use Rattle.pk_nand.{specs.declared.types.Fault.Fault, specs.BoardState.BoardState, specs.Effects.OnlyFlash, proofs.Reaching.Reached-start}
+use Rattle.pk_model.{specs.Growth.Reaches, specs.Growth.Goes, specs.Crashes.CrashFinds, specs.Crashes.commit}
+use Rattle.pk_parts.{specs.Parts.Parts, specs.Parts.is_half, specs.Agreeing.DriveOnFlash, specs.Moves.StandsBetween, specs.Moves.KeepsAll, specs.Moves.BreaksAll, proofs.Standing.agrees_between}
 use Rattle.pk_parts.proofs.Halves.{not_made, stands, between, none_half}
-use Rattle.pk_parts.proofs.Standing.{agrees_between}
 
 -- The drive still represents the map, and the flash holds what it held, or the map, wherever the commit is cut.
 pub record Committed (d' : Parts) (shape : Shape) (m : Map) (old new : BoardState) : Type 0 where

@@ -1,49 +1,26 @@
 -- The numbers of a Report, and those of the map.
 use Rattle.std.proofs.Common.{◌≡◌, ℕ, ◌+◌, ◌*◌, ◌<◌, ◌≤◌, refl, sym, ap, subst, ◌∙◌, arith, List, [], ◌∷◌, ◌++◌, length, take, get_or, false, Option, Some, None, Ok, map, suc}
-use Rattle.std.specs.List.{flat_map, AllByRecursion}
-use Rattle.std.proofs.lemmas.List.{flat_map_more, take_more}
-use Rattle.pk_base.specs.Fields.{u32}
-use Rattle.pk_base.specs.Shape.{Shape, pinned}
-use Rattle.pk_base.specs.Page.{Flash, page_at}
-use Rattle.pk_base.specs.Map.{Map, live, pages_in}
-use Rattle.pk_model.specs.Laws.{IsHeldMap, IsStorable}
-use Rattle.pk_nand.specs.BoardState.{BoardState}
-use Rattle.pk_nvme.specs.Seen.{command_of}
-use Rattle.pk_rootfmt.specs.Root.{Root}
-use Rattle.pk_rootfmt.specs.Newest.{newest_root}
-use Rattle.pk_nvme.specs.Opcode.{op_of}
-use Rattle.pk_nvme.specs.declared.opcode.Opcode.{Opcode}
-use Rattle.pk_nvme.specs.declared.opcode.Opcode.TheVariants.{Flush, Retrieve, Report}
-use Rattle.pk_model.specs.Answer.{early, success}
-use Rattle.pk_model.specs.Found.{Found}
-use Rattle.pk_model.specs.Reading.{reading}
-use Rattle.pk_model.specs.Run.{Step}
-use Rattle.pk_law_steps.proofs.Untouched.{under_reads}
-use Rattle.pk_model.specs.Wear.{root_number, number_of}
-use Rattle.pk_model.specs.Spaces.{Terms, AreInSpaces, in_space, limits_at, terms_at}
-use Rattle.pk_model.proofs.HeldMap.{map_held}
-use Rattle.pk_call.specs.Sight.{InSpace, in_space_at, live_of_all}
-use Rattle.pk_call.specs.Drive.{CountsMap}
-use Rattle.pk_call.specs.Exec.{report_of}
-use Rattle.pk_call.specs.Seen.{reply_of}
-use Rattle.pk_call.specs.declared.types.Outcome.{Outcome}
-use Rattle.pk_parts.specs.Parts.{Parts, sight_of, counts_of, spaces_of, frames_of, terms_of, settled_parts, drive_limits, reported_from}
-use Rattle.pk_parts.specs.Agreeing.{DriveOnFlashWith, DriveOnFlash}
-use Rattle.pk_core.specs.Done.{Does}
-use Rattle.pk_core.specs.Quiet.{DoneWithout, DoneFor}
-use Rattle.pk_core.proofs.Unchanging.{same_early, does_reads, flush_step, report_step, ok_sound, other_within, AnswersAll, ReadsWithin}
-use Rattle.pk_parts.proofs.Using.{use_of_part}
-use Rattle.pk_parts.proofs.Unchanging.{own, for_its_map, reads_none, same_ok}
-use Rattle.pk_base.proofs.Logic.{some_same}
+use Rattle.std.{specs.List.flat_map, specs.List.AllByRecursion, proofs.lemmas.List.flat_map_more, proofs.lemmas.List.take_more, specs.FinMap.entries, proofs.lemmas.List.Sums.sum_by-cons}
+use Rattle.pk_base.{specs.Fields.u32, specs.Shape.Shape, specs.Shape.pinned, specs.Page.Flash, specs.Page.page_at, specs.Map.Map, specs.Map.live, specs.Map.pages_in, proofs.Logic.some_same}
 use Rattle.pk_base.specs.Key.{Key}
-use Rattle.pk_nvme.specs.declared.request.Request.{Request}
+use Rattle.pk_model.{specs.Laws.IsHeldMap, specs.Laws.IsStorable, specs.Answer.early, specs.Answer.success, specs.Found.Found, specs.Reading.reading, specs.Run.Step, proofs.HeldMap.map_held}
+use Rattle.pk_model.{specs.Wear.root_number, specs.Wear.number_of, specs.Spaces.Terms, specs.Spaces.AreInSpaces, specs.Spaces.in_space, specs.Spaces.limits_at, specs.Spaces.terms_at}
+use Rattle.pk_model.proofs.SpaceLemmas.{entries_in}
+use Rattle.pk_nand.specs.BoardState.{BoardState}
+use Rattle.pk_nvme.{specs.Seen.command_of, specs.Opcode.op_of, specs.declared.opcode.Opcode.Opcode, specs.declared.request.Request.Request}
+use Rattle.pk_nvme.specs.declared.opcode.Opcode.TheVariants.{Flush, Retrieve, Report}
+use Rattle.pk_rootfmt.{specs.Root.Root, specs.Newest.newest_root}
+use Rattle.pk_law_steps.proofs.Untouched.{under_reads}
+use Rattle.pk_call.{specs.Sight.InSpace, specs.Sight.in_space_at, specs.Sight.live_of_all, specs.Drive.CountsMap, specs.Exec.report_of, specs.Seen.reply_of, specs.declared.types.Outcome.Outcome}
+use Rattle.pk_parts.specs.Parts.{Parts, sight_of, counts_of, spaces_of, frames_of, terms_of, settled_parts, drive_limits, reported_from}
+use Rattle.pk_parts.{specs.Agreeing.DriveOnFlashWith, specs.Agreeing.DriveOnFlash, proofs.Using.use_of_part}
+use Rattle.pk_parts.proofs.Unchanging.{own, for_its_map, reads_none, same_ok}
+use Rattle.pk_parts.proofs.OwnLimits.{few_with, limits_on, limits_with, reported_here}
+use Rattle.pk_core.{specs.Done.Does, specs.Quiet.DoneWithout, specs.Quiet.DoneFor}
+use Rattle.pk_core.proofs.Unchanging.{same_early, does_reads, flush_step, report_step, ok_sound, other_within, AnswersAll, ReadsWithin}
 use Rattle.pk_space.specs.Uses.{Use, space_live}
 use Rattle.pk_law_isolation.proofs.Sums.{all_parts, space_pages, space_pages_sum}
-use Rattle.std.specs.FinMap.{entries}
-use Rattle.pk_model.proofs.SpaceLemmas.{entries_in}
-use Rattle.pk_parts.proofs.OwnLimits.{few_with, limits_on, limits_with, reported_here}
 use Rattle.pk_scan.proofs.ValuesHeld.{limit_few}
-use Rattle.std.proofs.lemmas.List.Sums.{sum_by-cons}
 
 pub numbers_more : (xs into new : List ℕ) (i d : ℕ) → i < length xs → take (4 * i + 4) new ≡ take (4 * i) into ++ u32 (get_or xs i d) → take (4 * i) into ≡ flat_map u32 (take i xs)
     → take (4 * (i + 1)) new ≡ flat_map u32 (take (i + 1) xs)

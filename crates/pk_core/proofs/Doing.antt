@@ -1,48 +1,19 @@
 -- A List meets the contract of a drive.
 use Rattle.std.proofs.Common.{◌≡◌, inl, inr, ℕ, ◌-◌, min, refl, sym, ap, subst, ◌∙◌, arith, Bool, true, false, List, [], ◌∷◌, length, take, Option, Some, None}
 use Rattle.std.specs.List.{AllByRecursion}
-use Rattle.pk_base.specs.Shape.{Shape, IsShape}
-use Rattle.pk_base.specs.Page.{Flash}
-use Rattle.pk_base.specs.Entry.{Entry}
-use Rattle.pk_base.specs.Map.{Map, IsMap, keys_from}
-use Rattle.pk_nvme.specs.declared.request.Request.{Request}
-use Rattle.pk_nvme.specs.Seen.{command_of}
-use Rattle.pk_nvme.specs.Command.{Command, key}
-use Rattle.pk_nand.specs.BoardState.{BoardState}
-use Rattle.pk_nand.proofs.Reaching.{Reached-start}
-use Rattle.pk_level.specs.Levels.{RunsOnFlash}
-use Rattle.pk_nvme.specs.Opcode.{op_of}
-use Rattle.pk_nvme.specs.declared.opcode.Opcode.{Opcode}
+use Rattle.pk_base.{specs.Shape.Shape, specs.Shape.IsShape, specs.Shape.most_calls, specs.Page.Flash, specs.Entry.Entry, specs.Map.Map, specs.Map.IsMap, specs.Map.keys_from}
+use Rattle.pk_nvme.{specs.declared.request.Request.Request, specs.Seen.command_of, specs.Command.Command, specs.Command.key, specs.Opcode.op_of, specs.declared.opcode.Opcode.Opcode}
 use Rattle.pk_nvme.specs.declared.opcode.Opcode.TheVariants.{Retrieve, List as ListKeys}
-use Rattle.pk_model.specs.Answer.{early, fitting, list_bytes}
-use Rattle.pk_model.specs.Run.{Step}
-use Rattle.pk_model.specs.Reading.{reading}
-use Rattle.pk_model.specs.Laws.{IsStorable}
-use Rattle.pk_model.proofs.HeldMap.{map_held}
-use Rattle.pk_model.proofs.Answering.{serves}
+use Rattle.pk_nand.{specs.BoardState.BoardState, proofs.Reaching.Reached-start, specs.Effects.OnlyFlash, specs.Effects.OnlyReading}
+use Rattle.pk_level.specs.Levels.{RunsOnFlash}
+use Rattle.pk_model.{specs.Answer.early, specs.Answer.fitting, specs.Answer.list_bytes, specs.Run.Step, specs.Reading.reading, specs.Laws.IsStorable, proofs.HeldMap.map_held, proofs.Answering.serves}
+use Rattle.pk_model.{specs.Crashes.CrashFinds, specs.Growth.Reaches, specs.Wear.roots, specs.Spaces.in_space, specs.Spaces.limits_at}
 use Rattle.pk_law_steps.proofs.Untouched.{under_reads}
-use Rattle.pk_nand.specs.Effects.{OnlyFlash, OnlyReading}
-use Rattle.pk_call.specs.Call.{command_on}
-use Rattle.pk_call.specs.Exec.{ExecStands}
-use Rattle.pk_model.specs.Crashes.{CrashFinds}
-use Rattle.pk_model.specs.Growth.{Reaches}
-use Rattle.pk_call.specs.Seen.{reply_of}
-use Rattle.pk_model.specs.Wear.{roots}
-use Rattle.pk_call.specs.declared.types.Outcome.{Outcome}
-use Rattle.pk_parts.specs.Parts.{Parts, drive_limits, sight_of, settled_parts, terms_of}
-use Rattle.pk_parts.specs.Agreeing.{DriveOnFlash}
-use Rattle.pk_base.specs.Shape.{most_calls}
-use Rattle.pk_call.specs.Calling.{FewCalls}
-use Rattle.pk_core.specs.Done.{Does, Executes}
-use Rattle.pk_core.specs.Quiet.{OnlyLooks}
-use Rattle.pk_core.specs.Serving.{IsServable}
-use Rattle.pk_core.proofs.Callings.{few_of_shape}
-use Rattle.pk_core.proofs.Executing.{executes_walked}
+use Rattle.pk_call.{specs.Call.command_on, specs.Exec.ExecStands, specs.Seen.reply_of, specs.declared.types.Outcome.Outcome, specs.Calling.FewCalls}
+use Rattle.pk_parts.{specs.Parts.Parts, specs.Parts.drive_limits, specs.Parts.sight_of, specs.Parts.settled_parts, specs.Parts.terms_of, specs.Agreeing.DriveOnFlash, proofs.Unchanging.for_its_map}
+use Rattle.pk_core.{specs.Done.Does, specs.Done.Executes, specs.Quiet.OnlyLooks, specs.Serving.IsServable, proofs.Callings.few_of_shape, proofs.Executing.executes_walked}
+use Rattle.pk_core.{specs.Listed.first_listed, specs.Listed.ListsInto, specs.Listed.own_keys, proofs.Replies.keys_own, proofs.Replies.keys_listed}
 use Rattle.pk_index.specs.Keys.{keys_there}
-use Rattle.pk_core.specs.Listed.{first_listed, ListsInto, own_keys}
-use Rattle.pk_core.proofs.Replies.{keys_own, keys_listed}
-use Rattle.pk_model.specs.Spaces.{in_space, limits_at}
-use Rattle.pk_parts.proofs.Unchanging.{for_its_map}
 
 some_same : (x y : Shape) → ◌≡◌ {A = Option Shape} (Some x) (Some y) → x ≡ y
 some_same x y e = cc

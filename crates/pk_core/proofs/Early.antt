@@ -1,20 +1,11 @@
 -- A command that is refused by the checks that read it alone.
 use Rattle.std.proofs.Common.{◌≡◌, ◌≤◌, inl, ℕ, length, refl, sym, ap, subst, ◌∙◌, arith, false, List, Some}
-use Rattle.pk_nvme.specs.Command.{Command}
-use Rattle.pk_nvme.specs.Reply.{refusal}
-use Rattle.pk_nand.specs.BoardState.{BoardState, shape_of as shape_told, shape_or_none}
-use Rattle.pk_nand.specs.Calls.{last_count}
-use Rattle.pk_model.specs.Answer.{early}
-use Rattle.pk_model.proofs.Answering.{refuses_early}
-use Rattle.pk_call.specs.Seen.{reply_of}
-use Rattle.pk_call.specs.declared.types.Outcome.{Outcome}
-use Rattle.pk_parts.specs.Parts.{Parts, drive_limits, sight_of}
-use Rattle.pk_parts.specs.Agreeing.{DriveOnFlash}
-use Rattle.pk_parts.proofs.Unchanging.{reads_none}
-use Rattle.pk_core.specs.Done.{Does}
-use Rattle.pk_core.specs.Quiet.{eleven}
-use Rattle.pk_core.proofs.Standing.{stands_for, own_limits}
-use Rattle.pk_core.proofs.Statuses.{early_sound}
+use Rattle.pk_nvme.{specs.Command.Command, specs.Reply.refusal}
+use Rattle.pk_nand.{specs.BoardState.BoardState, specs.BoardState.shape_of as shape_told, specs.BoardState.shape_or_none, specs.Calls.last_count}
+use Rattle.pk_model.{specs.Answer.early, proofs.Answering.refuses_early}
+use Rattle.pk_call.{specs.Seen.reply_of, specs.declared.types.Outcome.Outcome}
+use Rattle.pk_parts.{specs.Parts.Parts, specs.Parts.drive_limits, specs.Parts.sight_of, specs.Agreeing.DriveOnFlash, proofs.Unchanging.reads_none}
+use Rattle.pk_core.{specs.Done.Does, specs.Quiet.eleven, proofs.Standing.stands_for, proofs.Standing.own_limits, proofs.Statuses.early_sound}
 use Rattle.pk_core.proofs.Unchanging.{AnswersAll, does_reads}
 
 -- the board has the drive's shape

@@ -1,19 +1,12 @@
 -- Commands that ended.
 use Rattle.std.proofs.Common.{◌≡◌, inl, inr, ℕ, refl, sym, ap, subst, ◌∙◌, Bool, true, false, List, [], ◌<◌, length, Option}
-use Rattle.pk_base.specs.Shape.{Shape, page_entries}
-use Rattle.pk_base.specs.Page.{Flash}
-use Rattle.pk_nvme.specs.Command.{Command}
-use Rattle.pk_nvme.specs.declared.request.Request.{Request}
+use Rattle.pk_base.{specs.Shape.Shape, specs.Shape.page_entries, specs.Page.Flash, proofs.ShapeLemmas.entries_some}
+use Rattle.pk_nvme.{specs.Command.Command, specs.declared.request.Request.Request}
 use Rattle.pk_nand.specs.BoardState.{BoardState}
 use Rattle.pk_walk.specs.Walking.{Walk}
-use Rattle.pk_call.specs.Seen.{reply_of}
-use Rattle.pk_call.specs.declared.types.Outcome.{Outcome}
-use Rattle.pk_parts.specs.Parts.{Parts, sight_of}
-use Rattle.pk_core.specs.Agreeing.{DriveOnFlashBetween}
-use Rattle.pk_parts.specs.Agreeing.{DriveOnFlash}
-use Rattle.pk_core.specs.Done.{Does, Executes}
-use Rattle.pk_core.specs.Serving.{IsServable}
-use Rattle.pk_base.proofs.ShapeLemmas.{entries_some}
+use Rattle.pk_call.{specs.Seen.reply_of, specs.declared.types.Outcome.Outcome}
+use Rattle.pk_parts.{specs.Parts.Parts, specs.Parts.sight_of, specs.Agreeing.DriveOnFlash}
+use Rattle.pk_core.{specs.Agreeing.DriveOnFlashBetween, specs.Done.Does, specs.Done.Executes, specs.Serving.IsServable}
 
 -- one that did not change the drive and the pages of its board
 pub executes_quiet : (d e : Parts) (old new : BoardState) (r : Request) (c : Command) (o : Outcome) (into : List ℕ) (reads : ℕ) → IsServable d old r → e ≡ d → new.pages ≡ old.pages → o.stopped ≡ false

@@ -1,28 +1,16 @@
 -- A flash with a first root in pages 0 and 1 and all other pages Erased holds the empty map, and this root is its newest.
 use Rattle.std.proofs.Common.{◌≡◌, ◌⊎◌, inr, ℕ, zero, suc, ◌+◌, ◌*◌, ◌/◌, ◌%◌, ◌<◌, ◌≤◌, refl, sym, ap, subst, ◌∙◌, arith, true, List, [], ◌∷◌, length, length-set, nat_le, min, slice_index, slice_set}
 use Rattle.std.proofs.Common.{Some, None, Ok, le→leb, zero-mul, mul-le-mul_right}
-use Rattle.std.proofs.Math.Nat.{zero-div, zero-mod}
-use Rattle.std.specs.FinMap.{empty}
-use Rattle.pk_base.specs.Shape.{Shape, IsShape, page_count, page_entries, run_pages, buffer}
+use Rattle.std.{proofs.Math.Nat.zero-div, proofs.Math.Nat.zero-mod, specs.FinMap.empty}
+use Rattle.pk_base.{specs.Shape.Shape, specs.Shape.IsShape, specs.Shape.page_count, specs.Shape.page_entries, specs.Shape.run_pages, specs.Shape.buffer, proofs.Logic.is_true}
 use Rattle.pk_base.specs.Page.{Page, Flash, page_at, erased, whole, page_in, page_of_pair, commit_at}
 use Rattle.pk_jrnfmt.specs.Epoch.{epoch}
 use Rattle.pk_meta.specs.Run.{run}
-use Rattle.pk_nand.specs.BoardState.{BoardState}
-use Rattle.pk_nand.specs.Calls.{IsReady, ProgramsFailed, after_programs}
-use Rattle.pk_nand.specs.Pairs.{programs_of_pair}
+use Rattle.pk_nand.{specs.BoardState.BoardState, specs.Calls.IsReady, specs.Calls.ProgramsFailed, specs.Calls.after_programs, specs.Pairs.programs_of_pair}
 use Rattle.pk_nand.proofs.Leaving.{page_at-slice_set, page_at-slice_set_same}
-use Rattle.pk_rootfmt.specs.Root.{Root, root_bytes, is_root}
-use Rattle.pk_rootfmt.specs.Held.{first_with}
-use Rattle.pk_rootfmt.specs.Newest.{newest_root, root_of}
-use Rattle.pk_rootfmt.proofs.AgainLemmas.{reads_back}
-use Rattle.pk_model.specs.Found.{Found, found_under, older_epoch, newest_epoch, runs_from}
-use Rattle.pk_model.specs.Values.{values_of}
-use Rattle.pk_model.specs.Reading.{Holds, map_under, reading_of}
-use Rattle.pk_model.specs.Laws.{IsWholePage}
-use Rattle.pk_model.proofs.Roots.{newest_complete, inside}
-use Rattle.pk_model.proofs.Commits.{ends}
-use Rattle.pk_base.proofs.Logic.{is_true}
-use Rattle.pk_model.specs.RootLimits.{root_spaces}
+use Rattle.pk_rootfmt.{specs.Root.Root, specs.Root.root_bytes, specs.Root.is_root, specs.Held.first_with, specs.Newest.newest_root, specs.Newest.root_of, proofs.AgainLemmas.reads_back}
+use Rattle.pk_model.{specs.Found.Found, specs.Found.found_under, specs.Found.older_epoch, specs.Found.newest_epoch, specs.Found.runs_from, specs.Values.values_of, specs.Laws.IsWholePage}
+use Rattle.pk_model.{specs.Reading.Holds, specs.Reading.map_under, specs.Reading.reading_of, proofs.Roots.newest_complete, proofs.Roots.inside, proofs.Commits.ends, specs.RootLimits.root_spaces}
 
 -- what is found under the first root
 abbrev nothing : Found

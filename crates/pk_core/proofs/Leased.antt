@@ -1,25 +1,17 @@
 -- How many frames are leased: at least one for each page of the pinned levels, and at most one for each page of the levels that may have some.
 use Rattle.std.proofs.Common.{◌≡◌, ℕ, zero, suc, ◌+◌, ◌-◌, ◌≤◌, ◌<◌, Bool, true, false, List, [], ◌∷◌, ◌++◌, length, map, take, sum, refl, ap, sym, subst, ◌∙◌, arith, append-nil, length-append}
 use Rattle.std.proofs.lemmas.List.Sums.{sum_by-cons}
-use Rattle.pk_base.specs.Shape.{Shape, run_pages, pinned}
+use Rattle.pk_base.{specs.Shape.Shape, specs.Shape.run_pages, specs.Shape.pinned, specs.Page.Flash, specs.Map.Map, specs.Entry.Entry}
 use Rattle.pk_adapt.specs.Adapted.{adapted}
-use Rattle.pk_base.specs.Page.{Flash}
-use Rattle.pk_base.specs.Map.{Map}
-use Rattle.pk_base.specs.Entry.{Entry}
 use Rattle.pk_rootfmt.specs.Root.{Root}
-use Rattle.pk_pin.specs.Frames.{Frames, leased_frames}
-use Rattle.pk_pin.proofs.Leases.{leases_counted}
+use Rattle.pk_pin.{specs.Frames.Frames, specs.Frames.leased_frames, proofs.Leases.leases_counted}
 use Rattle.pk_run.specs.Kept.{Kept}
-use Rattle.pk_level.specs.Levels.{IsLevels, AreOfLevels, RunsOnFlash}
-use Rattle.pk_level.specs.Arenas.{AreBareAbove, last_level, leases_of}
+use Rattle.pk_level.{specs.Levels.IsLevels, specs.Levels.AreOfLevels, specs.Levels.RunsOnFlash, specs.Arenas.AreBareAbove, specs.Arenas.last_level, specs.Arenas.leases_of}
 use Rattle.pk_model.specs.Found.{Found}
 use Rattle.pk_law_steps.specs.Under.{IsUnder}
 use Rattle.pk_scan.specs.Opened.{HaveBlocks}
-use Rattle.pk_schedule.specs.Index.{merging, output}
-use Rattle.pk_schedule.proofs.OutputFrames.{most_output, output_most}
-use Rattle.pk_parts.specs.Parts.{Parts, frames_of, index_of}
-use Rattle.pk_parts.specs.Agreeing.{DriveOnFlashWith}
-use Rattle.pk_parts.proofs.Holding.{entries_of, pages_are}
+use Rattle.pk_schedule.{specs.Index.merging, specs.Index.output, proofs.OutputFrames.most_output, proofs.OutputFrames.output_most}
+use Rattle.pk_parts.{specs.Parts.Parts, specs.Parts.frames_of, specs.Parts.index_of, specs.Agreeing.DriveOnFlashWith, proofs.Holding.entries_of, proofs.Holding.pages_are}
 
 module _ (shape : Shape) (flash : Flash) (arena : Frames) where
   -- this many levels are pinned after this one, itself included

@@ -1,10 +1,7 @@
 -- What a List is answered, and how many pages were read for it.
 use Rattle.std.proofs.Common.{◌≡◌, inl, inr, ℕ, zero, suc, ◌+◌, ◌<◌, ◌≤◌, min, refl, sym, ap, subst, ◌∙◌, arith, false, List, take, Option}
-use Rattle.pk_nand.specs.BoardState.{BoardState}
-use Rattle.pk_nand.specs.Calls.{counted, last_count}
-use Rattle.pk_nand.specs.Counts.{counted_by}
-use Rattle.pk_call.specs.Calling.{FewCalls}
-use Rattle.pk_call.specs.declared.types.Outcome.{Outcome}
+use Rattle.pk_nand.{specs.BoardState.BoardState, specs.Calls.counted, specs.Calls.last_count, specs.Counts.counted_by}
+use Rattle.pk_call.{specs.Calling.FewCalls, specs.declared.types.Outcome.Outcome}
 use Rattle.pk_walk.specs.Walking.{Reads, ReadsFail}
 use Rattle.pk_core.specs.Listed.{ListsInto}
 

@@ -1,36 +1,23 @@
 -- Keys that a walk gives, listed one after another.
-use Rattle.std.proofs.Common.{◌≡◌, ℕ, ◌+◌, ◌-◌, ◌<◌, ◌≤◌, refl, sym, ap, subst, ◌∙◌, arith, Bool, true, false, nat_le, min, List, [], ◌∷◌, ◌++◌, length, take, drop, flat_map, if◌then◌else◌, ◌==◌, Option}
-use Rattle.std.proofs.Common.{Some, None, T, leb-false, leb→le}
+use Rattle.std.proofs.Common.{◌≡◌, ℕ, ◌+◌, ◌-◌, ◌<◌, ◌≤◌, refl, sym, ap, subst, ◌∙◌, arith, Bool, true, false, nat_le, min, List, [], ◌∷◌, ◌++◌, length, take, drop, flat_map, if◌then◌else◌, ◌==◌}
+use Rattle.std.proofs.Common.{Option, Some, None, T, leb-false, leb→le}
 use Rattle.std.proofs.lemmas.List.{append_assoc, append-nil, flat_map_more, drop-append-le, length-take-le, drop-take, length-append}
 use Rattle.std.proofs.Math.Seq.{take-add}
-use Rattle.pk_base.specs.Key.{Key, space_of}
-use Rattle.pk_base.specs.Shape.{Shape}
-use Rattle.pk_base.specs.Entry.{Entry, Place, key_of}
-use Rattle.pk_base.specs.Seen.{entry as seen}
+use Rattle.pk_base.{specs.Key.Key, specs.Key.space_of, specs.Shape.Shape, specs.Entry.Entry, specs.Entry.Place, specs.Entry.key_of, specs.Seen.entry as seen, specs.Fields.u32, specs.Page.Flash}
 use Rattle.pk_base.specs.declared.entry.Entry.{Entry as RustEntry}
-use Rattle.pk_base.specs.Fields.{u32}
-use Rattle.pk_base.specs.Page.{Flash}
-use Rattle.pk_nand.specs.BoardState.{BoardState}
-use Rattle.pk_nand.specs.Calls.{IsReady}
-use Rattle.pk_nand.specs.Operations.{ReadFailed}
-use Rattle.pk_nand.specs.Counts.{after_reads}
+use Rattle.pk_nand.{specs.BoardState.BoardState, specs.Calls.IsReady, specs.Operations.ReadFailed, specs.Counts.after_reads}
 use Rattle.pk_pin.specs.Frames.{Frames}
 use Rattle.pk_run.specs.Kept.{Kept}
-use Rattle.pk_level.specs.Levels.{Levels, RunsOnFlash}
-use Rattle.pk_level.proofs.Looking.{reads_more}
+use Rattle.pk_level.{specs.Levels.Levels, specs.Levels.RunsOnFlash, proofs.Looking.reads_more}
 use Rattle.pk_log.specs.State.{LogState}
 use Rattle.pk_model.specs.Answer.{listed, fitting, list_bytes}
-use Rattle.pk_walk.specs.Visible.{visible, is_wanted, wanted}
+use Rattle.pk_walk.{specs.Visible.visible, specs.Visible.is_wanted, specs.Visible.wanted, proofs.Walks.one_of_each, proofs.Seeking.Reads-none, proofs.Seeking.Reads-more}
 use Rattle.pk_walk.specs.Walking.{Walk, IsLeft, WalkGives, Reads, ReadsFail, pages_read, most_read}
-use Rattle.pk_walk.proofs.Walks.{one_of_each}
-use Rattle.pk_walk.proofs.Seeking.{Reads-none, Reads-more}
 use Rattle.pk_index.specs.Keys.{MayWalk, Walked, keys_of, keys_there}
-use Rattle.pk_parts.specs.Parts.{Parts}
-use Rattle.pk_parts.specs.Agreeing.{DriveOnFlash}
-use Rattle.pk_parts.proofs.Unchanging.{agrees_ready}
+use Rattle.pk_parts.{specs.Parts.Parts, specs.Agreeing.DriveOnFlash, proofs.Unchanging.agrees_ready}
 use Rattle.pk_core.specs.declared.filled.Filled.{Filled}
-use Rattle.pk_call.specs.declared.types.Outcome.{Outcome}
 use Rattle.pk_core.specs.Listed.{OffersKey, OffersFirst, OffersNext, Lists, ListsAll, ListsInto, own_keys}
+use Rattle.pk_call.specs.declared.types.Outcome.{Outcome}
 
 -- ---- one more key, or none
 

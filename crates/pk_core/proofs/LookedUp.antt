@@ -1,32 +1,17 @@
 -- A command after the lookup of its key.
 use Rattle.std.proofs.Common.{◌≡◌, ◌≢◌, ℕ, ◌+◌, ◌-◌, ◌≤◌, refl, sym, ap, subst, arith, false, List, [], Option, Some, Result, Ok, Err}
 use Rattle.std.specs.Prelude.{OnOk}
-use Rattle.pk_base.specs.Entry.{Place}
-use Rattle.pk_base.specs.Key.{Key}
-use Rattle.pk_base.specs.Shape.{charge}
-use Rattle.pk_nvme.specs.Command.{Command, key}
-use Rattle.pk_nvme.specs.Opcode.{op_of}
-use Rattle.pk_nvme.specs.declared.opcode.Opcode.TheVariants.{Retrieve}
-use Rattle.pk_nvme.specs.Seen.{command_of}
-use Rattle.pk_nvme.specs.declared.request.Request.{Request}
-use Rattle.pk_nand.specs.declared.types.Fault.{Fault}
-use Rattle.pk_nand.specs.BoardState.{BoardState}
-use Rattle.pk_nand.specs.Calls.{last_count}
+use Rattle.pk_base.{specs.Entry.Place, specs.Key.Key, specs.Shape.charge}
+use Rattle.pk_nvme.{specs.Command.Command, specs.Command.key, specs.Opcode.op_of, specs.declared.opcode.Opcode.TheVariants.Retrieve, specs.Seen.command_of, specs.declared.request.Request.Request}
+use Rattle.pk_nand.{specs.declared.types.Fault.Fault, specs.BoardState.BoardState, specs.Calls.last_count}
 use Rattle.pk_call.specs.declared.types.Outcome.{Outcome}
-use Rattle.pk_parts.specs.Parts.{Parts, is_half, most_looks}
+use Rattle.pk_parts.{specs.Parts.Parts, specs.Parts.is_half, specs.Parts.most_looks, specs.Quiet.ReadsOnly, specs.Quiet.ReadsFailing, specs.Quiet.Looks}
+use Rattle.pk_parts.{specs.Staying.Stays, specs.Staying.StaysOrOpens, specs.Staying.IsNoted, proofs.Staying.stays_opens, proofs.Staying.stays_same}
 use Rattle.pk_background.specs.Emptying.{OnRunning}
-use Rattle.pk_core.specs.Done.{Executes}
-use Rattle.pk_parts.specs.Quiet.{ReadsOnly, ReadsFailing, Looks}
-use Rattle.pk_core.specs.Serving.{IsServable, IsCounted, outcome_for}
-use Rattle.pk_parts.specs.Staying.{Stays, StaysOrOpens, IsNoted}
-use Rattle.pk_core.specs.Programming.{ReadsNone}
-use Rattle.pk_changes.specs.Programming.{PutsQuietly, TakesQuietly, ReadsQuietly}
-use Rattle.pk_core.specs.LookedUp.{IsLookedUp, StoresOver, DeletesAt}
-use Rattle.pk_core.proofs.Came.{came_running, came_served}
-use Rattle.pk_core.proofs.Executing.{executes_quiet}
-use Rattle.pk_core.proofs.Served.{looks_behind, does_behind}
-use Rattle.pk_parts.proofs.Staying.{stays_opens, stays_same}
+use Rattle.pk_core.{specs.Done.Executes, specs.Serving.IsServable, specs.Serving.IsCounted, specs.Serving.outcome_for, specs.Programming.ReadsNone, proofs.Came.came_running, proofs.Came.came_served}
+use Rattle.pk_core.{specs.LookedUp.IsLookedUp, specs.LookedUp.StoresOver, specs.LookedUp.DeletesAt, proofs.Executing.executes_quiet, proofs.Served.looks_behind, proofs.Served.does_behind}
 use Rattle.pk_core.proofs.Unchanging.{unread_look}
+use Rattle.pk_changes.specs.Programming.{PutsQuietly, TakesQuietly, ReadsQuietly}
 
 -- the lookup did not change the drive
 pub looked_up : (d e : Parts) (old mid : BoardState) (r : Request) (k : Key) (p : Option Place) (before : ℕ) → IsServable d old r → k ≡ key (command_of r []) → before ≡ old.reads

@@ -1,31 +1,18 @@
 -- A value that was stored, as the contract of a drive sees it.
 use Rattle.std.proofs.Common.{◌≡◌, inl, inr, ℕ, ◌+◌, ◌*◌, ◌/◌, ◌≤◌, sym, ap, subst, ◌∙◌, ◌⊎◌, arith, true, false, List, [], ◌∷◌, ◌++◌, reverse, Option, Some, None, cond}
-use Rattle.std.proofs.lemmas.Bool.{le-leb}
-use Rattle.std.specs.Prelude.{MatchOption}
-use Rattle.std.specs.List.{flat_map}
-use Rattle.std.specs.Ordering.{eq_by_cmp}
-use Rattle.std.specs.FinMap.Entries.{find}
-use Rattle.pk_base.specs.Shape.{Shape, charge}
-use Rattle.pk_base.specs.Page.{Flash}
-use Rattle.pk_base.specs.Entry.{Entry, Place}
-use Rattle.pk_base.specs.Key.{Key, key_cmp}
-use Rattle.pk_base.specs.Firsts.{firsts}
+use Rattle.std.{proofs.lemmas.Bool.le-leb, specs.Prelude.MatchOption, specs.List.flat_map, specs.Ordering.eq_by_cmp, specs.FinMap.Entries.find}
+use Rattle.pk_base.{specs.Shape.Shape, specs.Shape.charge, specs.Page.Flash, specs.Entry.Entry, specs.Entry.Place, specs.Key.Key, specs.Key.key_cmp, specs.Firsts.firsts}
+use Rattle.pk_base.proofs.Logic.{not_both, some_same}
 use Rattle.pk_buf.specs.Table.{Table}
 use Rattle.pk_nvme.specs.Command.{Command, key}
-use Rattle.pk_nand.specs.BoardState.{BoardState}
-use Rattle.pk_nand.specs.Effects.{OnlyFlash}
+use Rattle.pk_nand.{specs.BoardState.BoardState, specs.Effects.OnlyFlash}
 use Rattle.pk_pool.specs.Blocks.{Blocks, freed}
-use Rattle.pk_model.specs.Found.{Found, entries_in_order}
-use Rattle.pk_call.specs.Sight.{free_pages}
-use Rattle.pk_model.proofs.Lookups.{find-firsts}
-use Rattle.pk_values.specs.State.{OpenBlock, fits_open, has_left}
-use Rattle.pk_values.specs.Placed.{IsOpenIn}
-use Rattle.pk_call.specs.Moving.{HasOpenRoom, StoresIn, Stores}
-use Rattle.pk_parts.specs.Parts.{Parts, sight_of, block_if_open}
-use Rattle.pk_parts.specs.Agreeing.{DriveOnFlash}
+use Rattle.pk_model.{specs.Found.Found, specs.Found.entries_in_order, proofs.Lookups.find-firsts}
+use Rattle.pk_call.{specs.Sight.free_pages, specs.Moving.HasOpenRoom, specs.Moving.StoresIn, specs.Moving.Stores}
+use Rattle.pk_values.{specs.State.OpenBlock, specs.State.fits_open, specs.State.has_left, specs.Placed.IsOpenIn}
+use Rattle.pk_parts.{specs.Parts.Parts, specs.Parts.sight_of, specs.Parts.block_if_open, specs.Agreeing.DriveOnFlash}
 use Rattle.pk_parts.specs.Staying.{IsNoted, SameUse, OpensOne, MakesRoom}
 use Rattle.pk_background.proofs.Ticking.{count_free}
-use Rattle.pk_base.proofs.Logic.{not_both, some_same}
 
 -- ---- what is seen of it
 

@@ -1,25 +1,12 @@
 -- A drive after the reads of its opening.
 use Rattle.std.proofs.Common.{◌≡◌, ℕ, ◌<◌, ◌≤◌, Some, List, [], length, refl, sym, ap, subst, ◌∙◌, arith}
-use Rattle.pk_base.specs.Shape.{Shape, IsShape, page_entries}
-use Rattle.pk_base.specs.Page.{Flash, page_at}
-use Rattle.pk_base.specs.Entry.{Entry}
-use Rattle.pk_base.specs.Map.{Map}
+use Rattle.pk_base.{specs.Shape.Shape, specs.Shape.IsShape, specs.Shape.page_entries, specs.Page.Flash, specs.Page.page_at, specs.Entry.Entry, specs.Map.Map}
 use Rattle.pk_rootfmt.specs.Root.{Root}
-use Rattle.pk_model.specs.Found.{Found, found_under}
-use Rattle.pk_model.specs.Tree.{Tree, IsTree}
-use Rattle.pk_nand.specs.BoardState.{BoardState}
-use Rattle.pk_nand.specs.Calls.{IsReady}
-use Rattle.pk_nand.specs.Counts.{after_reads}
-use Rattle.pk_call.specs.Drive.{HoldsMap}
-use Rattle.pk_call.specs.Steady.{live_blocks}
-use Rattle.pk_parts.specs.Parts.{Parts, sight_of}
-use Rattle.pk_parts.specs.Agreeing.{DriveOnFlash}
-use Rattle.pk_parts.specs.Moves.{StandsFor}
-use Rattle.pk_parts.specs.Opening.{OpenedOn}
-use Rattle.pk_parts.proofs.Halves.{between}
-use Rattle.pk_parts.proofs.Standing.{agrees_so}
+use Rattle.pk_model.{specs.Found.Found, specs.Found.found_under, specs.Tree.Tree, specs.Tree.IsTree, specs.Spaces.terms_at}
+use Rattle.pk_nand.{specs.BoardState.BoardState, specs.Calls.IsReady, specs.Counts.after_reads}
+use Rattle.pk_call.{specs.Drive.HoldsMap, specs.Steady.live_blocks}
+use Rattle.pk_parts.{specs.Parts.Parts, specs.Parts.sight_of, specs.Agreeing.DriveOnFlash, specs.Moves.StandsFor, specs.Opening.OpenedOn, proofs.Halves.between, proofs.Standing.agrees_so}
 use Rattle.pk_core.proofs.Standing.{still_stands}
-use Rattle.pk_model.specs.Spaces.{terms_at}
 
 -- ---- what contracts say of it
 

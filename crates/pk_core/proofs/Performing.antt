@@ -1,21 +1,13 @@
 -- What a command leaves of epochs and blocks, by its opcode.
 use Rattle.std.proofs.Common.{◌≡◌, inl, refl, ℕ, ◌≤◌, ap, sym, subst, arith, List, true, false}
 use Rattle.pk_base.specs.Shape.{charge}
-use Rattle.pk_nvme.specs.Command.{key}
-use Rattle.pk_nvme.specs.Seen.{command_of}
-use Rattle.pk_nvme.specs.declared.request.Request.{Request}
-use Rattle.pk_nand.specs.BoardState.{BoardState}
-use Rattle.pk_nand.specs.Effects.{OnlyReading}
-use Rattle.pk_call.specs.Calling.{FewCalls, most_calls_of, only_looks}
-use Rattle.pk_call.specs.declared.types.Outcome.{Outcome}
-use Rattle.pk_parts.specs.Parts.{Parts, sight_of, is_half}
-use Rattle.pk_parts.specs.Staying.{Stays, StaysOrOpens, StaysOrFrees, IsNoted}
-use Rattle.pk_core.specs.Programming.{QuietStore, QuietDelete}
-use Rattle.pk_core.specs.Performing.{Performs}
-use Rattle.pk_core.specs.Stepping.{Lessens}
+use Rattle.pk_nvme.{specs.Command.key, specs.Seen.command_of, specs.declared.request.Request.Request}
+use Rattle.pk_nand.{specs.BoardState.BoardState, specs.Effects.OnlyReading}
+use Rattle.pk_call.{specs.Calling.FewCalls, specs.Calling.most_calls_of, specs.Calling.only_looks, specs.declared.types.Outcome.Outcome}
+use Rattle.pk_parts.{specs.Parts.Parts, specs.Parts.sight_of, specs.Parts.is_half, specs.Staying.Stays, specs.Staying.StaysOrOpens, specs.Staying.StaysOrFrees, specs.Staying.IsNoted}
 use Rattle.pk_parts.proofs.Staying.{stays_frees}
+use Rattle.pk_core.{specs.Programming.QuietStore, specs.Programming.QuietDelete, specs.Performing.Performs, specs.Stepping.Lessens, proofs.Callings.few_for_tick}
 use Rattle.pk_core.proofs.Sights.{store_changes, delete_changes, tick_changes, delete_no_store, store_raises, delete_raises, looks_raises, tick_raises}
-use Rattle.pk_core.proofs.Callings.{few_for_tick}
 
 module _ (d e : Parts) (old new : BoardState) (r : Request) (v : List ℕ) (o : Outcome) where
   -- nothing that is seen of it changed

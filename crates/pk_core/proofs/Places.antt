@@ -1,8 +1,6 @@
 -- The blocks of a flash whose states pass a test.
 use Rattle.std.proofs.Common.{◌≡◌, inl, inr, ℕ, zero, suc, ◌+◌, refl, sym, ap, subst, ◌∙◌, arith, Bool, true, false, cond, T, List, [], ◌∷◌, length, Some}
-use Rattle.std.specs.Prelude.{slice_get, count_by}
-use Rattle.std.specs.List.{AllByRecursion}
-use Rattle.std.proofs.lemmas.List.Sums.{sum_by-cons}
+use Rattle.std.{specs.Prelude.slice_get, specs.Prelude.count_by, specs.List.AllByRecursion, proofs.lemmas.List.Sums.sum_by-cons}
 use Rattle.pk_rootfmt.specs.Root.{differ}
 use Rattle.pk_pool.specs.declared.state.BlockState.{BlockState}
 use Rattle.pk_law_steps.proofs.Places.{In, differ_cons}

@@ -1,33 +1,20 @@
 -- When a Store and a Delete wait for nothing, and what they program after their lookup.
 use Rattle.std.proofs.Common.{◌≡◌, ◌≢◌, inl, inr, ℕ, ◌+◌, ◌-◌, ◌*◌, ◌<◌, ◌≤◌, refl, sym, ap, subst, ◌∙◌, arith, Bool, true, false, not, ◌&&◌, ◌||◌, ◌==◌, List, [], ◌∷◌, ◌++◌, ◌⊎◌, length, reverse}
 use Rattle.std.proofs.Common.{Option, Some, None, Result, Ok, is_some, cond}
-use Rattle.std.specs.Prelude.{IsSome, if◌then◌else◌}
-use Rattle.std.specs.FinMap.Entries.{find}
-use Rattle.std.specs.Ordering.{eq_by_cmp}
-use Rattle.std.proofs.lemmas.List.{reverse-append}
+use Rattle.std.{specs.Prelude.IsSome, specs.Prelude.if◌then◌else◌, specs.FinMap.Entries.find, specs.Ordering.eq_by_cmp, proofs.lemmas.List.reverse-append}
 use Rattle.std.proofs.lemmas.Bool.{ne_eqb, cases_lt}
-use Rattle.pk_base.specs.Shape.{Shape, IsShape, charge, buffer, epoch_commits}
-use Rattle.pk_base.specs.Page.{Flash, page_at, commit_page, erased}
-use Rattle.pk_base.specs.Entry.{Entry}
-use Rattle.pk_base.specs.Key.{Key, key_cmp}
-use Rattle.pk_base.specs.Firsts.{firsts}
-use Rattle.pk_base.specs.Map.{Map}
+use Rattle.pk_base.{specs.Shape.Shape, specs.Shape.IsShape, specs.Shape.charge, specs.Shape.buffer, specs.Shape.epoch_commits, specs.Entry.Entry, specs.Key.Key, specs.Key.key_cmp, specs.Firsts.firsts}
+use Rattle.pk_base.{specs.Page.Flash, specs.Page.page_at, specs.Page.commit_page, specs.Page.erased, specs.Map.Map, proofs.ShapeLemmas.block_pages_positive, specs.Refusal.Refusal}
 use Rattle.pk_buf.specs.Table.{Table}
 use Rattle.pk_rootfmt.specs.Root.{Root}
-use Rattle.pk_nand.specs.BoardState.{BoardState}
-use Rattle.pk_nand.specs.Counts.{counted_by}
-use Rattle.pk_jrn.specs.Epochs.{JournalEpoch, left_of, pages_of}
-use Rattle.pk_jrn.proofs.Puts.{firsts-reverse, find-firsts}
-use Rattle.pk_base.proofs.ShapeLemmas.{block_pages_positive}
-use Rattle.pk_base.specs.Refusal.{Refusal}
+use Rattle.pk_nand.{specs.BoardState.BoardState, specs.Counts.counted_by}
+use Rattle.pk_jrn.{specs.Epochs.JournalEpoch, specs.Epochs.left_of, specs.Epochs.pages_of, proofs.Puts.firsts-reverse, proofs.Puts.find-firsts}
 use Rattle.pk_log.specs.State.{needs_freeze}
 use Rattle.pk_model.specs.Found.{Found, found_under}
 use Rattle.pk_values.specs.State.{fits_open}
 use Rattle.pk_call.specs.Moving.{IsQuiet, commits_for}
-use Rattle.pk_parts.specs.Parts.{Parts, sight_of, is_half, settled_parts, most_looks}
-use Rattle.pk_parts.specs.Agreeing.{DriveOnFlashWith}
+use Rattle.pk_parts.{specs.Parts.Parts, specs.Parts.sight_of, specs.Parts.is_half, specs.Parts.settled_parts, specs.Parts.most_looks, specs.Agreeing.DriveOnFlashWith, specs.Quiet.ReadsOnly}
 use Rattle.pk_changes.specs.Programming.{Programs}
-use Rattle.pk_parts.specs.Quiet.{ReadsOnly}
 
 -- ---- a key that needs no freeze
 

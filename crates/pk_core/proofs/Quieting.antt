@@ -1,20 +1,14 @@
 -- A Store and a Delete that wait for nothing, as the contract of a drive has them.
 use Rattle.std.proofs.Common.{◌≡◌, ℕ, ◌+◌, ◌-◌, ◌≤◌, sym, ap, subst, ◌∙◌, List, true}
 use Rattle.pk_base.specs.Shape.{charge, pinned}
-use Rattle.pk_nvme.specs.Command.{key}
-use Rattle.pk_nvme.specs.Seen.{command_of}
-use Rattle.pk_nvme.specs.declared.request.Request.{Request}
+use Rattle.pk_nvme.{specs.Command.key, specs.Seen.command_of, specs.declared.request.Request.Request}
 use Rattle.pk_nand.specs.BoardState.{BoardState, shape_or_none}
 use Rattle.pk_pool.specs.Blocks.{freed}
 use Rattle.pk_values.specs.State.{fits_open}
-use Rattle.pk_call.specs.Moving.{IsQuiet, HasOpenRoom, Quietly, commits_for}
-use Rattle.pk_call.specs.declared.types.Outcome.{Outcome}
-use Rattle.pk_parts.specs.Parts.{Parts, sight_of, frames_of}
-use Rattle.pk_parts.specs.Agreeing.{DriveOnFlash}
-use Rattle.pk_core.specs.Programming.{QuietStore, QuietDelete}
+use Rattle.pk_call.{specs.Moving.IsQuiet, specs.Moving.HasOpenRoom, specs.Moving.Quietly, specs.Moving.commits_for, specs.declared.types.Outcome.Outcome}
+use Rattle.pk_parts.{specs.Parts.Parts, specs.Parts.sight_of, specs.Parts.frames_of, specs.Agreeing.DriveOnFlash}
+use Rattle.pk_core.{specs.Programming.QuietStore, specs.Programming.QuietDelete, proofs.Noted.left_is, proofs.Programming.quiet_needs_none}
 use Rattle.pk_changes.specs.Programming.{Programs}
-use Rattle.pk_core.proofs.Noted.{left_is}
-use Rattle.pk_core.proofs.Programming.{quiet_needs_none}
 
 module _ (d : Parts) (old new : BoardState) (a : DriveOnFlash d old.shape old.pages) (r : Request) (v : List ℕ) (o : Outcome) where
   -- the shape of the board is the drive's

@@ -1,34 +1,18 @@
 -- A command that ended, in the records of the drive's contract.
 use Rattle.std.proofs.Common.{◌≡◌, ◌≢◌, ◌≤◌, inl, inr, ℕ, ap, ◌∙◌, sym, refl, arith, false, List, length, take, Some}
-use Rattle.std.proofs.lemmas.Bool.{cases_eq}
-use Rattle.std.specs.Prelude.{IsSome}
+use Rattle.std.{proofs.lemmas.Bool.cases_eq, specs.Prelude.IsSome}
 use Rattle.pk_base.specs.Shape.{charge}
-use Rattle.pk_nvme.specs.Seen.{command_of}
-use Rattle.pk_nvme.specs.declared.request.Request.{Request}
-use Rattle.pk_nand.specs.BoardState.{BoardState, shape_of}
-use Rattle.pk_nand.specs.Calls.{last_count}
-use Rattle.pk_model.specs.Answer.{early}
-use Rattle.pk_call.specs.Answering.{AnswersCommand, CountsCalls, SettlesBackground, ShowsItself, WaitsForNothing}
-use Rattle.pk_call.specs.Exec.{report_of}
-use Rattle.pk_call.specs.Running.{LeavesDrive}
-use Rattle.pk_call.specs.declared.types.Outcome.{Outcome}
-use Rattle.pk_parts.specs.Parts.{Parts, drive_limits, IsParts, sight_of}
+use Rattle.pk_nvme.{specs.Seen.command_of, specs.declared.request.Request.Request}
+use Rattle.pk_nand.{specs.BoardState.BoardState, specs.BoardState.shape_of, specs.Calls.last_count}
+use Rattle.pk_model.{specs.Answer.early, specs.Spaces.limits_at}
+use Rattle.pk_call.{specs.Answering.AnswersCommand, specs.Answering.CountsCalls, specs.Answering.SettlesBackground, specs.Answering.ShowsItself, specs.Answering.WaitsForNothing, specs.Exec.report_of}
+use Rattle.pk_call.{specs.Running.LeavesDrive, specs.declared.types.Outcome.Outcome, specs.Sight.in_space_at}
+use Rattle.pk_parts.{specs.Parts.Parts, specs.Parts.drive_limits, specs.Parts.IsParts, specs.Parts.sight_of, proofs.Staying.stays_same, proofs.Staying.stays_opens}
 use Rattle.pk_background.proofs.Callings.{few_within, few_none}
-use Rattle.pk_parts.proofs.Staying.{stays_same, stays_opens}
-use Rattle.pk_core.specs.Agreeing.{DriveOnFlashBetween}
-use Rattle.pk_core.specs.Done.{Executes}
-use Rattle.pk_core.specs.Performing.{Performs}
-use Rattle.pk_core.proofs.Callings.{few_told}
-use Rattle.pk_core.proofs.Due.{merges_next}
-use Rattle.pk_core.proofs.Early.{refused_done}
-use Rattle.pk_core.proofs.Noted.{stores_all}
-use Rattle.pk_core.proofs.Quieting.{quietly_stores, quietly_deletes}
-use Rattle.pk_core.proofs.Settling.{settles_there, rests_there}
+use Rattle.pk_core.{specs.Agreeing.DriveOnFlashBetween, specs.Done.Executes, specs.Performing.Performs, proofs.Callings.few_told, proofs.Due.merges_next, proofs.Early.refused_done}
+use Rattle.pk_core.{proofs.Noted.stores_all, proofs.Quieting.quietly_stores, proofs.Quieting.quietly_deletes, proofs.Settling.settles_there, proofs.Settling.rests_there, proofs.Steadying.steadies}
 use Rattle.pk_core.proofs.Statuses.{early_refuses, early_sound, told_refused, told_sound, zero_runs}
 use Rattle.pk_core.proofs.Staying.{keeps_fresh, blocks_grow}
-use Rattle.pk_core.proofs.Steadying.{steadies}
-use Rattle.pk_model.specs.Spaces.{limits_at}
-use Rattle.pk_call.specs.Sight.{in_space_at}
 
 -- what is known of it
 pub record HasEnded (d e : Parts) (old new : BoardState) (r : Request) (v : List ℕ) (o : Outcome) (into : List ℕ) : Type 0 where

@@ -1,32 +1,18 @@
 -- The keys that a List gives are those of the map.
-use Rattle.std.proofs.Common.{◌≡◌, ◌==◌, ℕ, suc, ◌<◌, ◌≤◌, Bool, true, false, T, cond, refl, sym, ap, subst, ◌∙◌, not, List, [], ◌∷◌, ◌++◌, length, map, reverse, Option, if◌then◌else◌, arith, eq-eqb, ne_eqb}
-use Rattle.std.proofs.lemmas.Cmp.{ranked}
-use Rattle.std.specs.declared.cmp.Ordering.TheVariants.{Less, Equal, Greater}
-use Rattle.std.proofs.lemmas.Bool.Decides.{nat_tests}
-use Rattle.std.specs.List.{flat_map, AllByRecursion}
+use Rattle.std.proofs.Common.{◌≡◌, ◌==◌, ℕ, suc, ◌<◌, ◌≤◌, Bool, true, false, T, cond, refl, sym, ap, subst, ◌∙◌, not, List, [], ◌∷◌, ◌++◌, length, map, reverse, Option, if◌then◌else◌, arith, eq-eqb}
+use Rattle.std.proofs.Common.{ne_eqb}
+use Rattle.std.{proofs.lemmas.Cmp.ranked, specs.declared.cmp.Ordering.TheVariants.Less, specs.declared.cmp.Ordering.TheVariants.Equal, specs.declared.cmp.Ordering.TheVariants.Greater}
+use Rattle.std.{proofs.lemmas.Bool.Decides.nat_tests, specs.List.flat_map, specs.List.AllByRecursion, specs.FinMap.entries, specs.FinMap.entries_sorted}
 use Rattle.std.specs.Ordering.{MatchOrdering, nat_cmp, is_lt, ordering_then}
-use Rattle.std.specs.FinMap.{entries, entries_sorted}
 use Rattle.std.specs.FinMap.Entries.{find, is_sorted, below_all, where_key}
-use Rattle.pk_base.specs.Fields.{AreBytes}
-use Rattle.pk_base.specs.Key.{Key, IsKey, key_cmp, space_of}
-use Rattle.pk_base.proofs.KeyLemmas.{least_key}
-use Rattle.pk_base.proofs.Logic.{left_part, right_part}
-use Rattle.pk_model.specs.Spaces.{in_space}
-use Rattle.pk_model.proofs.SpaceLemmas.{entries_in}
-use Rattle.pk_base.specs.Shape.{Shape, IsShape}
-use Rattle.pk_base.specs.Page.{Flash}
-use Rattle.pk_base.specs.Entry.{Entry, Place}
-use Rattle.pk_base.specs.Firsts.{firsts}
-use Rattle.pk_base.specs.Map.{Map, IsMap, keys_from}
-use Rattle.pk_rootfmt.specs.Root.{Root}
-use Rattle.pk_model.specs.Found.{Found, entries_in_order}
-use Rattle.pk_model.proofs.Lookups.{flat, find-firsts}
+use Rattle.pk_base.{specs.Fields.AreBytes, specs.Key.Key, specs.Key.IsKey, specs.Key.key_cmp, specs.Key.space_of, proofs.KeyLemmas.least_key, proofs.Logic.left_part, proofs.Logic.right_part}
+use Rattle.pk_base.{specs.Shape.Shape, specs.Shape.IsShape, specs.Page.Flash, specs.Entry.Entry, specs.Entry.Place, specs.Firsts.firsts, specs.Map.Map, specs.Map.IsMap, specs.Map.keys_from}
+use Rattle.pk_model.{specs.Spaces.in_space, proofs.SpaceLemmas.entries_in, specs.Found.Found, specs.Found.entries_in_order, proofs.Lookups.flat, proofs.Lookups.find-firsts}
 use Rattle.pk_model.proofs.Merges.{first_some, first_some_assoc, find-append_lists, same_placed}
-use Rattle.pk_law_steps.specs.Under.{places}
-use Rattle.pk_law_steps.proofs.Counting.{counts}
+use Rattle.pk_rootfmt.specs.Root.{Root}
+use Rattle.pk_law_steps.{specs.Under.places, proofs.Counting.counts}
 use Rattle.pk_walk.specs.Visible.{visible}
-use Rattle.pk_parts.specs.Parts.{Parts}
-use Rattle.pk_parts.specs.Agreeing.{DriveOnFlashWith}
+use Rattle.pk_parts.{specs.Parts.Parts, specs.Agreeing.DriveOnFlashWith}
 use Rattle.pk_index.specs.Keys.{keys_of, not_below, keys_there}
 use Rattle.pk_core.specs.Listed.{least_in, own_keys}
 

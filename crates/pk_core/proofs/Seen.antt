@@ -1,22 +1,16 @@
 -- What is seen of a drive is the same as if the blocks that leave were free.
 use Rattle.std.proofs.Common.{◌≡◌, ℕ, ◌-◌, refl, sym, ◌∙◌, Bool, not, ◌&&◌, ◌==◌, length, count_by, Option}
-use Rattle.pk_base.specs.Page.{Flash}
-use Rattle.pk_base.specs.Shape.{Shape, data_blocks, most_pages}
+use Rattle.pk_base.{specs.Page.Flash, specs.Shape.Shape, specs.Shape.data_blocks, specs.Shape.most_pages}
 use Rattle.pk_plan.specs.declared.owner.Owner.TheVariants.{Values}
-use Rattle.pk_pool.specs.Blocks.{is_ready, used_by, freed}
-use Rattle.pk_pool.specs.Unready.{unready}
-use Rattle.pk_pool.proofs.Leaving.{freed_unready}
+use Rattle.pk_pool.{specs.Blocks.is_ready, specs.Blocks.used_by, specs.Blocks.freed, specs.Unready.unready, proofs.Leaving.freed_unready}
 use Rattle.pk_call.specs.Sight.{Sight}
-use Rattle.pk_law_work.specs.Backlog.{Backlog, is_tight}
-use Rattle.pk_law_work.specs.Work.{work}
+use Rattle.pk_law_work.{specs.Backlog.Backlog, specs.Backlog.is_tight, specs.Work.work}
 use Rattle.pk_jrn.specs.Epochs.{left_of}
 use Rattle.pk_values.specs.State.{fits_open}
-use Rattle.pk_schedule.specs.declared.phase.Phase.{Phase}
-use Rattle.pk_schedule.specs.declared.phase.Phase.TheVariants.{Idle, Running, Ready}
+use Rattle.pk_schedule.{specs.declared.phase.Phase.Phase, specs.declared.phase.Phase.TheVariants.Idle, specs.declared.phase.Phase.TheVariants.Running, specs.declared.phase.Phase.TheVariants.Ready}
 use Rattle.pk_schedule.specs.Steps.{backlog_of as backlog_of_index, merge_left}
 use Rattle.pk_parts.specs.Parts.{Parts, index_of, outputs_of, settled_parts, counts_of, sight_of, reclaim_left, has_moves}
-use Rattle.pk_parts.specs.Agreeing.{DriveOnFlash}
-use Rattle.pk_parts.proofs.Halves.{counted_of}
+use Rattle.pk_parts.{specs.Agreeing.DriveOnFlash, proofs.Halves.counted_of}
 use Rattle.pk_background.proofs.Ticking.{ready_freed}
 
 -- by the numbers of blocks for values, of those that are ready and of those that are not, and what remains of the merge

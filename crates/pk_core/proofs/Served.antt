@@ -1,67 +1,31 @@
 -- The answers of commands that change the map.
-use Rattle.std.proofs.Common.{◌≡◌, ◌≢◌, inl, inr, ℕ, ◌+◌, ◌-◌, ◌/◌, ◌%◌, ◌<◌, ◌≤◌, refl, sym, ap, subst, ◌∙◌, arith, Bool, true, false, not, ◌&&◌, ◌||◌, ◌==◌, List, [], length, nat_le, is_some}
-use Rattle.std.proofs.Common.{◌∷◌}
+use Rattle.std.proofs.Common.{◌≡◌, ◌≢◌, inl, inr, ℕ, ◌+◌, ◌-◌, ◌/◌, ◌%◌, ◌<◌, ◌≤◌, refl, sym, ap, subst, ◌∙◌, arith, Bool, true, false, not, ◌&&◌, ◌||◌, ◌==◌, List, [], length, nat_le, is_some, ◌∷◌}
 use Rattle.std.proofs.Common.{min, take, Option, Some, None, Result, Ok, Err, leb-true}
-use Rattle.std.specs.Prelude.{MatchOption}
-use Rattle.std.specs.FinMap.{get, insert, remove, contains_key}
-use Rattle.pk_base.specs.Choices.{or_else}
-use Rattle.pk_base.specs.Entry.{Place}
-use Rattle.pk_base.specs.Fields.{AreBytes}
-use Rattle.pk_base.specs.Key.{Key, IsKey, space_of}
-use Rattle.pk_base.specs.Shape.{Shape, charge, greatest, page_entries}
-use Rattle.pk_base.specs.Page.{Flash}
-use Rattle.pk_base.specs.Map.{Map, live, pages_if_some}
-use Rattle.pk_nvme.specs.Command.{Command, key}
-use Rattle.pk_nvme.specs.Reply.{Reply, refusal}
-use Rattle.pk_nvme.specs.Seen.{command_of}
-use Rattle.pk_nvme.specs.declared.request.Request.{Request}
-use Rattle.pk_nand.specs.declared.types.Fault.{Fault}
-use Rattle.pk_nand.specs.declared.types.Fault.TheVariants.{Reading, Stopped}
-use Rattle.pk_nand.specs.BoardState.{BoardState, shape_of}
-use Rattle.pk_nand.specs.Calls.{last_count}
-use Rattle.pk_nvme.specs.Opcode.{op_of}
+use Rattle.std.{specs.Prelude.MatchOption, specs.FinMap.get, specs.FinMap.insert, specs.FinMap.remove, specs.FinMap.contains_key}
+use Rattle.pk_base.{specs.Choices.or_else, specs.Entry.Place, specs.Fields.AreBytes, specs.Key.Key, specs.Key.IsKey, specs.Key.space_of, specs.Page.Flash}
+use Rattle.pk_base.{specs.Shape.Shape, specs.Shape.charge, specs.Shape.greatest, specs.Shape.page_entries, specs.Map.Map, specs.Map.live, specs.Map.pages_if_some}
+use Rattle.pk_nvme.{specs.Command.Command, specs.Command.key, specs.Reply.Reply, specs.Reply.refusal, specs.Seen.command_of, specs.declared.request.Request.Request, specs.Opcode.op_of}
 use Rattle.pk_nvme.specs.declared.opcode.Opcode.{Opcode}
 use Rattle.pk_nvme.specs.declared.opcode.Opcode.TheVariants.{Store, Retrieve, Delete}
-use Rattle.pk_model.specs.Answer.{early, check, late_of, success, map_after}
-use Rattle.pk_model.specs.Run.{Step}
-use Rattle.pk_call.specs.Sight.{Sight}
-use Rattle.pk_model.proofs.Answering.{serves, store_sized, IsSpace, Serves, key_spaced}
-use Rattle.pk_model.proofs.Machines.{store_check, live_stored}
-use Rattle.pk_nand.specs.Effects.{NoFault, OnlyFlash}
-use Rattle.pk_call.specs.Call.{command_on}
-use Rattle.pk_model.specs.Growth.{Reaches, Goes}
-use Rattle.pk_call.specs.Exec.{Executed, most_installs, most_store_roots}
-use Rattle.pk_model.specs.Crashes.{CrashFinds, commit, change}
-use Rattle.pk_call.specs.Seen.{reply_of as shown}
-use Rattle.pk_model.specs.Wear.{roots}
-use Rattle.pk_call.specs.declared.types.Outcome.{Outcome}
-use Rattle.pk_model.proofs.Growing.{weaken, weaken_went, reached_limits}
-use Rattle.pk_parts.specs.Parts.{Parts, sight_of, frames_of, terms_of, drive_limits}
-use Rattle.pk_parts.specs.Agreeing.{DriveOnFlash}
-use Rattle.pk_core.specs.Done.{Does, Executes}
-use Rattle.pk_parts.specs.Finding.{IsPlaceIn}
-use Rattle.pk_parts.specs.Moves.{StandsFor, StandsBetween}
-use Rattle.pk_parts.specs.Stopping.{StoppedOn}
-use Rattle.pk_background.specs.Emptying.{Unread, Halts, OnRunning}
-use Rattle.pk_core.specs.Quiet.{eleven}
-use Rattle.pk_parts.specs.Quiet.{ReadsOnly, Looks}
-use Rattle.pk_changes.specs.Changes.{Changes, StaysBetween}
-use Rattle.pk_core.specs.Whole.{MayPutBetween, MayStoreBetween, MayTakeBetween, CanPutBetween, CanTakeBetween, StoresWhole, TakesWhole}
-use Rattle.pk_background.specs.Spacing.{SameMap}
-use Rattle.pk_parts.proofs.OwnLimits.{limits_on}
-use Rattle.pk_parts.proofs.Halves.{between}
-use Rattle.pk_core.specs.Serving.{IsServable, IsCounted, outcome_for}
-use Rattle.pk_changes.specs.Noting.{pages_at}
-use Rattle.pk_space.specs.Uses.{space_live}
-use Rattle.pk_parts.proofs.Standing.{agrees_so}
-use Rattle.pk_core.proofs.Early.{told_shape}
-use Rattle.pk_core.proofs.Unchanging.{unread_step, refused_step, value_of, same_early, does_reads, other_within, AnswersAll, ReadsWithin}
-use Rattle.pk_parts.proofs.Unchanging.{own, looked, for_its_map, reads_none, agrees_ready}
-use Rattle.pk_model.specs.Spaces.{Terms, limit_of, limits_at, in_space}
+use Rattle.pk_nand.{specs.declared.types.Fault.Fault, specs.declared.types.Fault.TheVariants.Reading, specs.declared.types.Fault.TheVariants.Stopped, specs.Calls.last_count}
+use Rattle.pk_nand.{specs.BoardState.BoardState, specs.BoardState.shape_of, specs.Effects.NoFault, specs.Effects.OnlyFlash}
+use Rattle.pk_model.{specs.Answer.early, specs.Answer.check, specs.Answer.late_of, specs.Answer.success, specs.Answer.map_after, specs.Run.Step, specs.Growth.Reaches, specs.Growth.Goes}
+use Rattle.pk_model.{proofs.Answering.serves, proofs.Answering.store_sized, proofs.Answering.IsSpace, proofs.Answering.Serves, proofs.Answering.key_spaced, specs.Wear.roots}
+use Rattle.pk_model.{proofs.Machines.store_check, proofs.Machines.live_stored, specs.Crashes.CrashFinds, specs.Crashes.commit, specs.Crashes.change}
+use Rattle.pk_model.{proofs.Growing.weaken, proofs.Growing.weaken_went, proofs.Growing.reached_limits, specs.Spaces.Terms, specs.Spaces.limit_of, specs.Spaces.limits_at, specs.Spaces.in_space}
 use Rattle.pk_model.proofs.SpaceLemmas.{get_own, in_space-insert}
-use Rattle.pk_core.proofs.SpaceRoom.{has_room_for}
-use Rattle.pk_core.proofs.Counting.{live_own}
-use Rattle.pk_core.proofs.Standing.{still_stands}
+use Rattle.pk_call.{specs.Sight.Sight, specs.Call.command_on, specs.Exec.Executed, specs.Exec.most_installs, specs.Exec.most_store_roots, specs.Seen.reply_of as shown}
+use Rattle.pk_call.specs.declared.types.Outcome.{Outcome}
+use Rattle.pk_parts.{specs.Parts.Parts, specs.Parts.sight_of, specs.Parts.frames_of, specs.Parts.terms_of, specs.Parts.drive_limits, specs.Agreeing.DriveOnFlash, specs.Finding.IsPlaceIn}
+use Rattle.pk_parts.{specs.Moves.StandsFor, specs.Moves.StandsBetween, specs.Stopping.StoppedOn, specs.Quiet.ReadsOnly, specs.Quiet.Looks, proofs.OwnLimits.limits_on, proofs.Halves.between}
+use Rattle.pk_parts.{proofs.Standing.agrees_so, proofs.Unchanging.own, proofs.Unchanging.looked, proofs.Unchanging.for_its_map, proofs.Unchanging.reads_none, proofs.Unchanging.agrees_ready}
+use Rattle.pk_core.{specs.Done.Does, specs.Done.Executes, specs.Quiet.eleven, specs.Serving.IsServable, specs.Serving.IsCounted, specs.Serving.outcome_for, proofs.Early.told_shape}
+use Rattle.pk_core.specs.Whole.{MayPutBetween, MayStoreBetween, MayTakeBetween, CanPutBetween, CanTakeBetween, StoresWhole, TakesWhole}
+use Rattle.pk_core.proofs.Unchanging.{unread_step, refused_step, value_of, same_early, does_reads, other_within, AnswersAll, ReadsWithin}
+use Rattle.pk_core.{proofs.SpaceRoom.has_room_for, proofs.Counting.live_own, proofs.Standing.still_stands}
+use Rattle.pk_background.{specs.Emptying.Unread, specs.Emptying.Halts, specs.Emptying.OnRunning, specs.Spacing.SameMap}
+use Rattle.pk_changes.{specs.Changes.Changes, specs.Changes.StaysBetween, specs.Noting.pages_at}
+use Rattle.pk_space.specs.Uses.{space_live}
 
 -- ---- what a Store asks
 

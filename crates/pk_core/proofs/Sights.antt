@@ -1,11 +1,8 @@
 -- How what is seen of a drive changes in a call.
 use Rattle.std.proofs.Common.{◌≡◌, ℕ, ◌≤◌, refl, sym, ap, subst, ◌∙◌, arith, Bool, true, false, not, ◌||◌, ◌==◌}
-use Rattle.pk_nand.specs.BoardState.{BoardState}
-use Rattle.pk_nand.specs.Calls.{last_count}
-use Rattle.pk_nand.specs.Effects.{OnlyReading, Works, Stops}
+use Rattle.pk_nand.{specs.BoardState.BoardState, specs.Calls.last_count, specs.Effects.OnlyReading, specs.Effects.Works, specs.Effects.Stops}
 use Rattle.pk_nvme.specs.declared.request.Request.{Request}
-use Rattle.pk_call.specs.Calling.{only_looks}
-use Rattle.pk_call.specs.Settling.{may_raise}
+use Rattle.pk_call.{specs.Calling.only_looks, specs.Settling.may_raise}
 use Rattle.pk_parts.specs.Quiet.{ReadsOnly, ReadsFailing}
 
 -- ---- what only reads

@@ -1,19 +1,11 @@
 -- A value that its namespace has room for has room among all values.
 use Rattle.std.proofs.Common.{◌≡◌, ℕ, ◌≤◌, ◌==◌, true, false, List, length, sym, ap, subst, ◌∙◌, arith, eqb-true, refl}
-use Rattle.std.specs.FinMap.{insert, entries, entries-insert}
-use Rattle.std.specs.List.{AllByRecursion}
-use Rattle.pk_base.specs.Key.{Key, space_of}
-use Rattle.pk_base.specs.Map.{Map, live}
+use Rattle.std.{specs.FinMap.insert, specs.FinMap.entries, specs.FinMap.entries-insert, specs.List.AllByRecursion}
+use Rattle.pk_base.{specs.Key.Key, specs.Key.space_of, specs.Map.Map, specs.Map.live}
 use Rattle.pk_nand.specs.BoardState.{BoardState}
 use Rattle.pk_law_isolation.proofs.Sums.{within_sum}
-use Rattle.pk_model.specs.Spaces.{AreInSpaces, in_space, limit_of}
-use Rattle.pk_model.proofs.Entries.{all_put}
-use Rattle.pk_model.proofs.MapLemmas.{key_total}
-use Rattle.pk_model.proofs.SpaceLemmas.{in_space-insert-other}
-use Rattle.pk_parts.specs.Parts.{Parts, drive_limits}
-use Rattle.pk_parts.specs.Agreeing.{DriveOnFlash}
-use Rattle.pk_parts.proofs.OwnLimits.{limits_on, limits_sum}
-use Rattle.pk_parts.proofs.Unchanging.{held_own}
+use Rattle.pk_model.{specs.Spaces.AreInSpaces, specs.Spaces.in_space, specs.Spaces.limit_of, proofs.Entries.all_put, proofs.MapLemmas.key_total, proofs.SpaceLemmas.in_space-insert-other}
+use Rattle.pk_parts.{specs.Parts.Parts, specs.Parts.drive_limits, specs.Agreeing.DriveOnFlash, proofs.OwnLimits.limits_on, proofs.OwnLimits.limits_sum, proofs.Unchanging.held_own}
 use Rattle.pk_changes.specs.Changes.{HasRoomFor}
 
 -- a key of one of so many namespaces

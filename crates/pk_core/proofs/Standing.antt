@@ -1,17 +1,11 @@
 -- A drive that agrees with its board represents the map that the board holds.
 use Rattle.std.proofs.Common.{◌≡◌, refl, sym, ap, subst, ◌∙◌, Option, Some, unwrap_or}
-use Rattle.pk_base.specs.Shape.{Shape}
-use Rattle.pk_base.specs.Page.{Flash}
-use Rattle.pk_base.specs.Map.{Map}
+use Rattle.pk_base.{specs.Shape.Shape, specs.Page.Flash, specs.Map.Map, proofs.Logic.ok_same}
 use Rattle.pk_nand.specs.BoardState.{BoardState}
 use Rattle.pk_model.specs.Spaces.{Terms, limits_at}
 use Rattle.pk_call.specs.Drive.{HoldsMap}
-use Rattle.pk_parts.specs.Parts.{Parts, drive_limits, sight_of, frames_of, terms_of}
-use Rattle.pk_parts.specs.Agreeing.{DriveOnFlash}
-use Rattle.pk_parts.specs.Moves.{StandsBetween}
-use Rattle.pk_parts.proofs.OwnLimits.{limits_between}
-use Rattle.pk_parts.proofs.Standing.{reads_between, stands_between}
-use Rattle.pk_base.proofs.Logic.{ok_same}
+use Rattle.pk_parts.{specs.Parts.Parts, specs.Parts.drive_limits, specs.Parts.sight_of, specs.Parts.frames_of, specs.Parts.terms_of, specs.Agreeing.DriveOnFlash, specs.Moves.StandsBetween}
+use Rattle.pk_parts.{proofs.OwnLimits.limits_between, proofs.Standing.reads_between, proofs.Standing.stands_between}
 
 same_shape : (x y : Shape) → Some x ≡ Some y → x ≡ y
 same_shape x y e = ap (λ o. unwrap_or o x) e

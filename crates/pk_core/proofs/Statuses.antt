@@ -1,15 +1,10 @@
 -- What refuses a command is no success.
 use Rattle.std.proofs.Common.{◌≡◌, ◌≢◌, ℕ, ◌/◌, ◌%◌, refl, sym, ap, subst, ◌∙◌, arith, Bool, true, false, not, ◌&&◌, ◌||◌, ◌==◌, nat_le, Option, Some, None}
-use Rattle.pk_base.specs.Choices.{or_else}
-use Rattle.pk_base.specs.Shape.{Shape, greatest}
-use Rattle.pk_nvme.specs.Command.{Command}
-use Rattle.pk_nvme.specs.declared.opcode.Opcode.{Opcode}
+use Rattle.pk_base.{specs.Choices.or_else, specs.Shape.Shape, specs.Shape.greatest, proofs.Logic.some_same}
+use Rattle.pk_nvme.{specs.Command.Command, specs.declared.opcode.Opcode.Opcode, specs.Opcode.op_of}
 use Rattle.pk_nvme.specs.declared.opcode.Opcode.TheVariants.{Flush, Store, Retrieve, List as ListKeys, Delete, Exist, Tick, Report}
-use Rattle.pk_nvme.specs.Opcode.{op_of}
-use Rattle.pk_model.specs.Answer.{check, is_namespace, is_key_length, size_fault, fault_of, early}
-use Rattle.pk_model.proofs.Machines.{store_check}
+use Rattle.pk_model.{specs.Answer.check, specs.Answer.is_namespace, specs.Answer.is_key_length, specs.Answer.size_fault, specs.Answer.fault_of, specs.Answer.early, proofs.Machines.store_check}
 use Rattle.pk_call.specs.declared.types.Outcome.{Outcome}
-use Rattle.pk_base.proofs.Logic.{some_same}
 
 none_some : (x : ℕ) → ◌≡◌ {A = Option ℕ} None (Some x) → ⊥
 none_some x e = cc

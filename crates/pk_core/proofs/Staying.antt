@@ -1,16 +1,11 @@
 -- What of a drive is unchanged, as the contract of a drive sees it.
 use Rattle.std.proofs.Common.{◌≡◌, ◌⊎◌, inl, inr, ℕ, sym, ap, subst, ◌∙◌, arith, Option, Some}
-use Rattle.pk_base.specs.Shape.{charge}
-use Rattle.pk_base.specs.Page.{page_at}
-use Rattle.pk_rootfmt.specs.Root.{Root}
-use Rattle.pk_rootfmt.specs.Newest.{newest_root}
-use Rattle.pk_nand.specs.BoardState.{BoardState, shape_of, shape_or_none}
-use Rattle.pk_nand.specs.Effects.{OnlyFlash}
+use Rattle.pk_base.{specs.Shape.charge, specs.Page.page_at}
+use Rattle.pk_rootfmt.{specs.Root.Root, specs.Newest.newest_root}
+use Rattle.pk_nand.{specs.BoardState.BoardState, specs.BoardState.shape_of, specs.BoardState.shape_or_none, specs.Effects.OnlyFlash}
 use Rattle.pk_call.specs.Moving.{KeepsFresh, BlocksGrow}
-use Rattle.pk_parts.specs.Parts.{Parts, sight_of}
-use Rattle.pk_parts.specs.Agreeing.{DriveOnFlash}
+use Rattle.pk_parts.{specs.Parts.Parts, specs.Parts.sight_of, specs.Agreeing.DriveOnFlash, proofs.Staying.fresh_then}
 use Rattle.pk_parts.specs.Staying.{StaysFresh, SameUse, OpensOne, MakesRoom, Stays, StaysOrOpens, StaysOrFrees}
-use Rattle.pk_parts.proofs.Staying.{fresh_then}
 
 -- ---- background steps
 

@@ -1,63 +1,35 @@
 -- A drive that agrees with its flash is steady: its numbers are those of what is on the flash.
-use Rattle.std.proofs.Common.{◌≡◌, ◌≢◌, inl, inr, ℕ, ◌+◌, ◌*◌, ◌/◌, ◌<◌, ◌≤◌, refl, sym, ap, subst, ◌∙◌, arith, true, false, List, [], ◌∷◌, ◌++◌, length, map, Option, Some, None}
+use Rattle.std.proofs.Common.{◌≡◌, ◌≢◌, inl, inr, ℕ, ◌+◌, ◌*◌, ◌/◌, ◌<◌, ◌≤◌, refl, sym, ap, subst, ◌∙◌, arith, true, false, List, [], ◌∷◌, ◌++◌, length, map, Option, Some, None, div-add-mod', mod-lt}
 use Rattle.std.specs.Prelude.{slice_get, slice_index_or, count_by, MatchOption, IfSome, ◌%◌, ◌&&◌, not}
-use Rattle.std.specs.List.{concat}
-use Rattle.std.proofs.Common.{div-add-mod', mod-lt}
-use Rattle.std.proofs.lemmas.Option.{slice_get_within}
-use Rattle.pk_base.specs.Shape.{Shape, IsShape, page_entries, pinned, run_pages}
+use Rattle.std.{specs.List.concat, proofs.lemmas.Option.slice_get_within}
+use Rattle.pk_base.{specs.Shape.Shape, specs.Shape.IsShape, specs.Shape.page_entries, specs.Shape.pinned, specs.Shape.run_pages, specs.Page.Flash, specs.Entry.Entry, specs.Map.Map}
+use Rattle.pk_base.{specs.Firsts.firsts, specs.Merge.next_merge, proofs.ShapeLemmas.block_pages_positive, proofs.ShapeLemmas.entries_some, proofs.Logic.is_true, proofs.Logic.some_same}
 use Rattle.pk_adapt.specs.Adapted.{adapted}
-use Rattle.pk_base.specs.Page.{Flash}
-use Rattle.pk_base.specs.Entry.{Entry}
-use Rattle.pk_base.specs.Map.{Map}
-use Rattle.pk_base.specs.Firsts.{firsts}
-use Rattle.pk_base.specs.Merge.{next_merge}
-use Rattle.pk_base.proofs.ShapeLemmas.{block_pages_positive, entries_some}
 use Rattle.pk_buf.specs.Table.{Table}
 use Rattle.pk_rootfmt.specs.Root.{Root, differ}
-use Rattle.pk_plan.specs.declared.owner.Owner.{Owner}
-use Rattle.pk_plan.specs.declared.owner.Owner.TheVariants.{Journal, Meta, Values}
+use Rattle.pk_plan.{specs.declared.owner.Owner.Owner, specs.declared.owner.Owner.TheVariants.Journal, specs.declared.owner.Owner.TheVariants.Meta, specs.declared.owner.Owner.TheVariants.Values}
 use Rattle.pk_pin.specs.Frames.{leased_frames}
-use Rattle.pk_pool.specs.declared.state.BlockState.{BlockState}
+use Rattle.pk_pool.{specs.declared.state.BlockState.BlockState, specs.Blocks.Blocks, specs.Blocks.is_ready, specs.Blocks.is_owned_by, proofs.States.ready_is_not_root, proofs.Leaving.shared_freed}
 use Rattle.pk_pool.specs.declared.state.BlockState.TheVariants.{Root as RootBlock, Free, Ready, Owned, Leaving}
-use Rattle.pk_nand.specs.Operations.{IsErasedBlock}
-use Rattle.pk_pool.specs.Blocks.{Blocks, is_ready, is_owned_by}
-use Rattle.pk_pool.proofs.States.{ready_is_not_root}
-use Rattle.pk_pool.proofs.Leaving.{shared_freed}
 use Rattle.pk_pool.proofs.Sharing.{behind_roots}
+use Rattle.pk_nand.{specs.Operations.IsErasedBlock, specs.BoardState.BoardState, specs.Effects.OnlyFlash}
 use Rattle.pk_run.specs.Kept.{Kept, empty}
 use Rattle.pk_jrn.proofs.Puts.{firsts-reverse}
-use Rattle.pk_model.specs.Found.{Found}
-use Rattle.pk_model.specs.Values.{all_pages}
-use Rattle.pk_call.specs.Sight.{Sight, entries_of_runs, most_work, pages_of_each}
-use Rattle.pk_law_steps.specs.Under.{IsValuePage, places}
-use Rattle.pk_law_steps.proofs.Places.{In, in_append, few_blocks, in_value}
-use Rattle.pk_live.proofs.Ranges.{has}
-use Rattle.pk_values.specs.Placed.{HoldsValues, IsOpenIn}
-use Rattle.pk_values.specs.Laws.{is_for_values}
-use Rattle.pk_values.proofs.Outputs.{no_member, freed, freed_is, used_freed}
-use Rattle.pk_law_work.specs.Rest.{whole_merge, whole_reclaim}
-use Rattle.pk_schedule.specs.Steps.{backlog_of as backlog_of_index}
-use Rattle.pk_parts.proofs.Reclaiming.{reclaim_within}
-use Rattle.pk_values.specs.State.{OpenBlock}
-use Rattle.pk_nand.specs.BoardState.{BoardState}
-use Rattle.pk_nand.specs.Effects.{OnlyFlash}
+use Rattle.pk_model.{specs.Found.Found, specs.Values.all_pages}
+use Rattle.pk_call.{specs.Sight.Sight, specs.Sight.entries_of_runs, specs.Sight.most_work, specs.Sight.pages_of_each, specs.Exec.IsNextMerge}
 use Rattle.pk_call.specs.Steady.{Steadies, IsSteady, IsReadyBlock, HasReady, live_blocks, output_frames, pages_of_runs}
-use Rattle.pk_law_work.specs.Backlog.{IsBacklog, due_level}
-use Rattle.pk_law_work.specs.Work.{work}
-use Rattle.pk_law_work.proofs.Within.{work_most}
-use Rattle.pk_schedule.specs.declared.phase.Phase.{Phase}
+use Rattle.pk_law_steps.{specs.Under.IsValuePage, specs.Under.places, proofs.Places.In, proofs.Places.in_append, proofs.Places.few_blocks, proofs.Places.in_value}
+use Rattle.pk_live.proofs.Ranges.{has}
+use Rattle.pk_values.{specs.Placed.HoldsValues, specs.Placed.IsOpenIn, specs.Laws.is_for_values, proofs.Outputs.no_member, proofs.Outputs.freed, proofs.Outputs.freed_is, proofs.Outputs.used_freed}
+use Rattle.pk_values.specs.State.{OpenBlock}
+use Rattle.pk_law_work.{specs.Rest.whole_merge, specs.Rest.whole_reclaim, specs.Backlog.IsBacklog, specs.Backlog.due_level, specs.Work.work, proofs.Within.work_most}
+use Rattle.pk_schedule.{specs.Steps.backlog_of as backlog_of_index, specs.declared.phase.Phase.Phase, specs.Index.Index, specs.Index.MergeStands, specs.Index.merging}
 use Rattle.pk_schedule.specs.declared.phase.Phase.TheVariants.{Idle, Running, Ready as ReadyToInstall}
-use Rattle.pk_schedule.specs.Index.{Index, MergeStands, merging}
 use Rattle.pk_schedule.proofs.Backlogs.{index_backlog, four, entries_are}
-use Rattle.pk_call.specs.Exec.{IsNextMerge}
+use Rattle.pk_parts.{proofs.Reclaiming.reclaim_within, specs.Agreeing.DriveOnFlashWith, specs.Agreeing.DriveOnFlash, proofs.Holding.counts_of_four}
 use Rattle.pk_parts.specs.Parts.{Parts, IsParts, sight_of, counts_of, block_if_open, frames_of, index_of, outputs_of, backlog_of, is_reclaim_due, reclaim_left, settled_parts}
-use Rattle.pk_core.specs.Agreeing.{DriveOnFlashBetween}
-use Rattle.pk_parts.specs.Agreeing.{DriveOnFlashWith, DriveOnFlash}
-use Rattle.pk_parts.proofs.Holding.{counts_of_four}
-use Rattle.pk_core.proofs.Leased.{leased_least, leased_most}
-use Rattle.pk_core.proofs.Seen.{seen_same}
+use Rattle.pk_core.{specs.Agreeing.DriveOnFlashBetween, proofs.Leased.leased_least, proofs.Leased.leased_most, proofs.Seen.seen_same}
 use Rattle.pk_core.proofs.Places.{blocks_from, many_blocks, has_state, blocks_differ, block_in, all_in}
-use Rattle.pk_base.proofs.Logic.{is_true, some_same}
 
 -- ---- the blocks that are erased
 

@@ -1,53 +1,23 @@
 -- Background steps one after another.
 use Rattle.std.proofs.Common.{◌≡◌, ◌≢◌, inl, inr, ℕ, ◌+◌, ◌-◌, ◌<◌, ◌≤◌, refl, sym, ap, subst, ◌∙◌, arith, Bool, true, false, List, [], ◌++◌, Option, Some, None, Ok, length}
-use Rattle.pk_base.specs.Shape.{Shape}
 use Rattle.std.proofs.lemmas.Bool.{leb-false}
-use Rattle.pk_base.specs.Page.{Flash, page_at}
-use Rattle.pk_base.specs.Map.{Map}
-use Rattle.pk_base.specs.Mark.{all_posted}
-use Rattle.pk_nvme.specs.Command.{Command}
-use Rattle.pk_nvme.specs.Reply.{Reply, refusal}
-use Rattle.pk_nvme.specs.Seen.{command_of}
-use Rattle.pk_nvme.specs.declared.request.Request.{Request}
-use Rattle.pk_nand.specs.BoardState.{BoardState, shape_or_none}
-use Rattle.pk_nand.specs.Calls.{Rose, last_count}
-use Rattle.pk_nand.proofs.Reaching.{Reached-start}
-use Rattle.pk_nvme.specs.Opcode.{op_of}
-use Rattle.pk_nvme.specs.declared.opcode.Opcode.{Opcode}
-use Rattle.pk_nvme.specs.declared.opcode.Opcode.TheVariants.{Retrieve, Tick}
-use Rattle.pk_model.specs.Answer.{early, success}
-use Rattle.pk_model.specs.Reading.{reading}
-use Rattle.pk_model.specs.Run.{Step}
-use Rattle.pk_call.specs.Sight.{Sight}
-use Rattle.pk_model.proofs.Answering.{serves}
-use Rattle.pk_rootfmt.specs.Root.{Root}
-use Rattle.pk_rootfmt.specs.Newest.{newest_root}
-use Rattle.pk_model.specs.Wear.{number_of, root_number, roots, is_worn}
-use Rattle.pk_call.specs.Call.{command_on}
-use Rattle.pk_call.specs.Drive.{HoldsMap}
+use Rattle.pk_base.{specs.Shape.Shape, specs.Page.Flash, specs.Page.page_at, specs.Map.Map, specs.Mark.all_posted}
+use Rattle.pk_nvme.{specs.Command.Command, specs.Reply.Reply, specs.Reply.refusal, specs.Seen.command_of, specs.declared.request.Request.Request, specs.Opcode.op_of}
+use Rattle.pk_nvme.{specs.declared.opcode.Opcode.Opcode, specs.declared.opcode.Opcode.TheVariants.Retrieve, specs.declared.opcode.Opcode.TheVariants.Tick}
+use Rattle.pk_nand.{specs.BoardState.BoardState, specs.BoardState.shape_or_none, specs.Calls.Rose, specs.Calls.last_count, proofs.Reaching.Reached-start, proofs.Effects.only_then}
 use Rattle.pk_nand.specs.Effects.{NoFault, AtMostOneCall, made_no_call, made_read, made_program, made_erase}
-use Rattle.pk_model.specs.Crashes.{CrashFinds, background}
-use Rattle.pk_call.specs.Exec.{most_installs}
-use Rattle.pk_call.specs.Seen.{stopped_by, reply_of}
-use Rattle.pk_call.specs.declared.types.Outcome.{Outcome}
-use Rattle.pk_call.specs.declared.types.Ticked.{Ticked}
-use Rattle.pk_call.specs.declared.types.Ticked.TheVariants.{Worked, Idle, Fault}
+use Rattle.pk_model.{specs.Answer.early, specs.Answer.success, specs.Reading.reading, specs.Run.Step, proofs.Answering.serves, specs.Crashes.CrashFinds, specs.Crashes.background, specs.Spaces.Terms}
+use Rattle.pk_model.specs.Wear.{number_of, root_number, roots, is_worn}
 use Rattle.pk_model.proofs.Growing.{weaken, weaken_went, at_end, Reaches-then, Goes-then}
-use Rattle.pk_parts.specs.Parts.{Parts, drive_limits, sight_of, terms_of}
-use Rattle.pk_parts.specs.Agreeing.{DriveOnFlash}
-use Rattle.pk_core.specs.Done.{Does}
-use Rattle.pk_core.specs.Quiet.{eleven}
-use Rattle.pk_parts.specs.Staying.{StaysOrFrees}
-use Rattle.pk_background.specs.Ticking.{MayTick, Ticks, HasNoStep, Advances}
-use Rattle.pk_core.specs.Stepping.{has_failed, BackgroundSteps, outcome_of}
-use Rattle.pk_core.proofs.Unchanging.{same_early, unread_step}
-use Rattle.pk_parts.proofs.Unchanging.{for_its_map}
-use Rattle.pk_core.proofs.Staying.{frees_then}
+use Rattle.pk_call.{specs.Sight.Sight, specs.Call.command_on, specs.Drive.HoldsMap, specs.Exec.most_installs, specs.Seen.stopped_by, specs.Seen.reply_of, specs.declared.types.Outcome.Outcome}
+use Rattle.pk_call.{specs.declared.types.Ticked.Ticked, specs.declared.types.Ticked.TheVariants.Worked, specs.declared.types.Ticked.TheVariants.Idle, specs.declared.types.Ticked.TheVariants.Fault}
+use Rattle.pk_rootfmt.{specs.Root.Root, specs.Newest.newest_root}
+use Rattle.pk_parts.{specs.Parts.Parts, specs.Parts.drive_limits, specs.Parts.sight_of, specs.Parts.terms_of, specs.Agreeing.DriveOnFlash, specs.Staying.StaysOrFrees, proofs.Unchanging.for_its_map}
 use Rattle.pk_parts.proofs.Staying.{stays_same, stays_frees}
+use Rattle.pk_core.{specs.Done.Does, specs.Quiet.eleven, specs.Stepping.has_failed, specs.Stepping.BackgroundSteps, specs.Stepping.outcome_of, proofs.Staying.frees_then}
+use Rattle.pk_core.proofs.Unchanging.{same_early, unread_step}
+use Rattle.pk_background.{specs.Ticking.MayTick, specs.Ticking.Ticks, specs.Ticking.HasNoStep, specs.Ticking.Advances, proofs.Ticking.yes_no}
 use Rattle.pk_background.proofs.Callings.{few_more, spends_same, spends_within}
-use Rattle.pk_background.proofs.Ticking.{yes_no}
-use Rattle.pk_nand.proofs.Effects.{only_then}
-use Rattle.pk_model.specs.Spaces.{Terms}
 
 -- the drive agrees with its board after this many steps, of which none failed
 pub record Ongoing (first : Parts) (old : BoardState) (d : Parts) (board : BoardState) (made : ℕ) : Type 0 where

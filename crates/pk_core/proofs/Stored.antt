@@ -1,51 +1,28 @@
 -- A key gets a value, wherever that has room.
 use Rattle.std.proofs.Common.{◌≡◌, inr, ℕ, ◌+◌, ◌-◌, ◌≤◌, ◌<◌, Bool, true, false, List, [], length, refl, sym, ap, subst, ◌∙◌, arith, nat_le, Option, Result, Ok, Err}
-use Rattle.std.specs.Prelude.{◌&&◌, not, OnOk}
-use Rattle.std.specs.FinMap.{insert}
-use Rattle.std.specs.FinMap.Entries.{find}
-use Rattle.pk_base.specs.Entry.{Entry, Place}
-use Rattle.pk_base.specs.Key.{Key, key_cmp}
-use Rattle.pk_base.specs.Page.{Flash}
-use Rattle.pk_base.specs.Map.{Map}
+use Rattle.std.{specs.Prelude.◌&&◌, specs.Prelude.not, specs.Prelude.OnOk, specs.FinMap.insert, specs.FinMap.Entries.find}
+use Rattle.pk_base.{specs.Entry.Entry, specs.Entry.Place, specs.Key.Key, specs.Key.key_cmp, specs.Page.Flash, specs.Map.Map, proofs.ShapeLemmas.entries_some}
 use Rattle.pk_base.specs.Shape.{Shape, IsShape, data_blocks, charge, greatest, page_entries}
 use Rattle.pk_plan.specs.declared.owner.Owner.TheVariants.{Values}
 use Rattle.pk_pool.specs.Blocks.{used_by}
-use Rattle.pk_nand.specs.declared.types.Fault.{Fault}
-use Rattle.pk_nand.specs.declared.types.Fault.TheVariants.{Reading, Stopped}
-use Rattle.pk_nand.specs.BoardState.{BoardState}
-use Rattle.pk_nand.specs.Calls.{IsReady, last_count}
-use Rattle.pk_nand.specs.Effects.{OnlyFlash}
-use Rattle.pk_model.specs.Found.{Found}
-use Rattle.pk_model.specs.Growth.{Reaches, Goes}
-use Rattle.pk_model.specs.Crashes.{CrashFinds, commit, change}
-use Rattle.pk_model.specs.Wear.{roots, is_worn}
+use Rattle.pk_nand.{specs.declared.types.Fault.Fault, specs.declared.types.Fault.TheVariants.Reading, specs.declared.types.Fault.TheVariants.Stopped, specs.BoardState.BoardState}
+use Rattle.pk_nand.{specs.Calls.IsReady, specs.Calls.last_count, specs.Effects.OnlyFlash}
+use Rattle.pk_model.{specs.Found.Found, specs.Growth.Reaches, specs.Growth.Goes, specs.Crashes.CrashFinds, specs.Crashes.commit, specs.Crashes.change, specs.Wear.roots, specs.Wear.is_worn}
 use Rattle.pk_law_work.specs.Calls.{room_calls, space_calls}
 use Rattle.pk_law_steps.specs.Under.{places}
 use Rattle.pk_log.specs.State.{needs_freeze}
 use Rattle.pk_values.specs.State.{fits_open}
-use Rattle.pk_parts.specs.Parts.{Parts, counts_of, most_looks}
-use Rattle.pk_parts.specs.Agreeing.{DriveOnFlash}
-use Rattle.pk_parts.specs.Moves.{StandsFor, KeepsAll, BreaksAll}
-use Rattle.pk_background.specs.Emptying.{StepOrRead, OnRunning}
-use Rattle.pk_parts.specs.Staying.{StaysFresh, StaysOrOpens}
-use Rattle.pk_parts.specs.Quiet.{ReadsOnly, ReadsFailing, Looks}
-use Rattle.pk_changes.specs.Changes.{MayPut, CanPut, PutsAll, FailsToPut, PutsOrReads, StaysBetween}
-use Rattle.pk_core.specs.Programming.{ReadsNone}
-use Rattle.pk_changes.specs.Programming.{PutsQuietly}
-use Rattle.pk_background.specs.Reclaiming.{CannotRead}
-use Rattle.pk_core.specs.Spacing.{MayStore, StoresAll, FailsToStore, StoresOrReads, CanStore, store_most}
+use Rattle.pk_parts.{specs.Parts.Parts, specs.Parts.counts_of, specs.Parts.most_looks, specs.Agreeing.DriveOnFlash, specs.Moves.StandsFor, specs.Moves.KeepsAll, specs.Moves.BreaksAll}
+use Rattle.pk_parts.{specs.Staying.StaysFresh, specs.Staying.StaysOrOpens, specs.Quiet.ReadsOnly, specs.Quiet.ReadsFailing, specs.Quiet.Looks, proofs.Keeping.board_has, proofs.Staying.fresh_then}
+use Rattle.pk_parts.proofs.Standing.{found_once, agrees_so}
+use Rattle.pk_background.{specs.Emptying.StepOrRead, specs.Emptying.OnRunning, specs.Reclaiming.CannotRead, proofs.SpaceSteps.wanted_full, proofs.Stored.blocks_most, proofs.Stored.blocks_at}
 use Rattle.pk_background.specs.Spacing.{SameMapAll, MovesOrReads, StaysSame, needs}
-use Rattle.pk_core.proofs.Amounts.{store_few, numbers_last}
-use Rattle.pk_changes.proofs.Changing.{kept_goes}
-use Rattle.pk_parts.proofs.Keeping.{board_has}
-use Rattle.pk_changes.proofs.Putting.{later_reaches, later_goes, room_after}
 use Rattle.pk_background.proofs.ReadSteps.{Passes, passes_none, reading_then, reading_failed, running_says}
 use Rattle.pk_background.proofs.SameMaps.{same_of, same_unread, passes_moved, SameMapAll-then}
-use Rattle.pk_background.proofs.SpaceSteps.{wanted_full}
-use Rattle.pk_parts.proofs.Standing.{found_once, agrees_so}
-use Rattle.pk_parts.proofs.Staying.{fresh_then}
-use Rattle.pk_background.proofs.Stored.{blocks_most, blocks_at}
-use Rattle.pk_base.proofs.ShapeLemmas.{entries_some}
+use Rattle.pk_changes.{specs.Changes.MayPut, specs.Changes.CanPut, specs.Changes.PutsAll, specs.Changes.FailsToPut, specs.Changes.PutsOrReads, specs.Changes.StaysBetween, proofs.Changing.kept_goes}
+use Rattle.pk_changes.{specs.Programming.PutsQuietly, proofs.Putting.later_reaches, proofs.Putting.later_goes, proofs.Putting.room_after}
+use Rattle.pk_core.{specs.Programming.ReadsNone, proofs.Amounts.store_few, proofs.Amounts.numbers_last}
+use Rattle.pk_core.specs.Spacing.{MayStore, StoresAll, FailsToStore, StoresOrReads, CanStore, store_most}
 
 true_false : true ≡ false → ⊥
 true_false e = cc

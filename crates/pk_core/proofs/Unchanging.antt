@@ -1,57 +1,25 @@
 -- Commands that only read: what they leave of the board, and what they answer.
 use Rattle.std.proofs.Common.{◌≡◌, ◌≢◌, inl, inr, ℕ, ◌+◌, ◌-◌, ◌≤◌, refl, sym, ap, subst, ◌∙◌, arith, min, cond, List, [], ◌∷◌, length, take, true, false, Option, Some, None, unwrap_or}
-use Rattle.std.specs.Prelude.{is_some}
-use Rattle.std.proofs.lemmas.List.{take_min}
-use Rattle.std.specs.List.{AllByRecursion, flat_map}
-use Rattle.pk_base.specs.Fields.{u32}
-use Rattle.std.specs.Ordering.{eq_by_cmp}
-use Rattle.std.specs.FinMap.{get}
-use Rattle.std.specs.FinMap.Entries.{find}
-use Rattle.pk_base.specs.Key.{Key, IsKey, key_cmp}
-use Rattle.pk_base.specs.Shape.{Shape, IsShape, greatest, pinned, fetched}
-use Rattle.pk_base.specs.Page.{Flash, page_at}
-use Rattle.pk_base.proofs.ShapeLemmas.{fetched_charge, charge_most}
-use Rattle.pk_base.specs.Entry.{Place}
-use Rattle.pk_base.specs.EntryChecks.{IsPlace}
-use Rattle.pk_base.specs.Map.{Map}
-use Rattle.pk_nvme.specs.Command.{Command, key}
-use Rattle.pk_nvme.specs.Reply.{Reply, refusal}
-use Rattle.pk_nvme.specs.Seen.{command_of}
-use Rattle.pk_nvme.specs.declared.request.Request.{Request}
-use Rattle.pk_rootfmt.specs.Root.{Root}
-use Rattle.pk_segfmt.specs.Head.{IsHead}
-use Rattle.pk_segfmt.proofs.StoredLemmas.{value_found}
-use Rattle.pk_seg.specs.Stored.{IsFront}
-use Rattle.pk_seg.specs.Counts.{ReadsFailed}
-use Rattle.pk_nand.specs.BoardState.{BoardState}
-use Rattle.pk_nand.specs.Calls.{last_count}
-use Rattle.pk_nand.specs.Counts.{after_reads}
-use Rattle.pk_nand.proofs.Reaching.{Reached-start}
-use Rattle.pk_nvme.specs.Opcode.{op_of}
+use Rattle.std.{specs.Prelude.is_some, proofs.lemmas.List.take_min, specs.List.AllByRecursion, specs.List.flat_map, specs.Ordering.eq_by_cmp, specs.FinMap.get, specs.FinMap.Entries.find}
+use Rattle.pk_base.{specs.Fields.u32, specs.Key.Key, specs.Key.IsKey, specs.Key.key_cmp, specs.Shape.Shape, specs.Shape.IsShape, specs.Shape.greatest, specs.Shape.pinned, specs.Shape.fetched}
+use Rattle.pk_base.{specs.Page.Flash, specs.Page.page_at, proofs.ShapeLemmas.fetched_charge, proofs.ShapeLemmas.charge_most, specs.Entry.Place, specs.EntryChecks.IsPlace, specs.Map.Map}
+use Rattle.pk_nvme.{specs.Command.Command, specs.Command.key, specs.Reply.Reply, specs.Reply.refusal, specs.Seen.command_of, specs.declared.request.Request.Request, specs.Opcode.op_of}
 use Rattle.pk_nvme.specs.declared.opcode.Opcode.{Opcode}
 use Rattle.pk_nvme.specs.declared.opcode.Opcode.TheVariants.{Flush, Retrieve, Exist, Report}
-use Rattle.pk_model.specs.Answer.{early, fault_of, late_of, success, reply_of, check, effect}
-use Rattle.pk_model.specs.Bounds.{most_reads, most_reads_of}
-use Rattle.pk_model.specs.Found.{Found}
-use Rattle.pk_model.specs.Run.{Step}
-use Rattle.pk_call.specs.Sight.{Sight, Counts, InSpace, levels_held}
-use Rattle.pk_model.proofs.Answering.{refuses_late, serves}
-use Rattle.pk_model.proofs.SpaceLemmas.{get_own}
-use Rattle.pk_law_steps.specs.Under.{places}
-use Rattle.pk_call.specs.Call.{command_on}
-use Rattle.pk_call.specs.Drive.{HoldsMap, CountsMap}
-use Rattle.pk_call.specs.Seen.{reply_of as shown}
-use Rattle.pk_call.specs.declared.types.Outcome.{Outcome}
-use Rattle.pk_call.specs.Exec.{most_reads_beyond, most_unheld_reads, report_of}
-use Rattle.pk_model.specs.Crashes.{CrashFinds}
-use Rattle.pk_parts.specs.Parts.{Parts, drive_limits, sight_of, frames_of, most_looks, settled_parts, terms_of}
-use Rattle.pk_parts.specs.Agreeing.{DriveOnFlashWith, DriveOnFlash}
-use Rattle.pk_parts.specs.Finding.{IsPlaceIn}
-use Rattle.pk_core.specs.Done.{Does}
-use Rattle.pk_core.specs.Quiet.{ValueThere, eleven}
-use Rattle.pk_parts.specs.Quiet.{ReadsOnly, ReadsFailing, Looks}
-use Rattle.pk_parts.proofs.Unchanging.{reads_more, reads_break, own, for_its_map, looked}
+use Rattle.pk_rootfmt.specs.Root.{Root}
+use Rattle.pk_segfmt.{specs.Head.IsHead, proofs.StoredLemmas.value_found}
+use Rattle.pk_seg.{specs.Stored.IsFront, specs.Counts.ReadsFailed}
+use Rattle.pk_nand.{specs.BoardState.BoardState, specs.Calls.last_count, specs.Counts.after_reads, proofs.Reaching.Reached-start}
+use Rattle.pk_model.{specs.Answer.early, specs.Answer.fault_of, specs.Answer.late_of, specs.Answer.success, specs.Answer.reply_of, specs.Answer.check, specs.Answer.effect, specs.Found.Found}
+use Rattle.pk_model.{specs.Bounds.most_reads, specs.Bounds.most_reads_of, specs.Run.Step, proofs.Answering.refuses_late, proofs.Answering.serves, proofs.SpaceLemmas.get_own, specs.Crashes.CrashFinds}
 use Rattle.pk_model.specs.Spaces.{Terms, limit_of, in_space}
+use Rattle.pk_call.{specs.Sight.Sight, specs.Sight.Counts, specs.Sight.InSpace, specs.Sight.levels_held, specs.Call.command_on, specs.Drive.HoldsMap, specs.Drive.CountsMap}
+use Rattle.pk_call.{specs.Seen.reply_of as shown, specs.declared.types.Outcome.Outcome, specs.Exec.most_reads_beyond, specs.Exec.most_unheld_reads, specs.Exec.report_of}
+use Rattle.pk_law_steps.specs.Under.{places}
+use Rattle.pk_parts.specs.Parts.{Parts, drive_limits, sight_of, frames_of, most_looks, settled_parts, terms_of}
+use Rattle.pk_parts.{specs.Agreeing.DriveOnFlashWith, specs.Agreeing.DriveOnFlash, specs.Finding.IsPlaceIn, specs.Quiet.ReadsOnly, specs.Quiet.ReadsFailing, specs.Quiet.Looks}
+use Rattle.pk_parts.proofs.Unchanging.{reads_more, reads_break, own, for_its_map, looked}
+use Rattle.pk_core.{specs.Done.Does, specs.Quiet.ValueThere, specs.Quiet.eleven}
 
 -- ---- the clauses of a command that only reads
 

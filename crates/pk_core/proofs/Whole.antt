@@ -1,49 +1,28 @@
 -- The second program of a pair that is half made, before a change of the map.
 use Rattle.std.proofs.Common.{◌≡◌, ◌⊎◌, inl, inr, ℕ, ◌+◌, ◌≤◌, ◌<◌, refl, sym, ap, subst, ◌∙◌, arith, Bool, true, false, nat_le, List, [], length, Option, Some, Result, Ok, Err}
-use Rattle.std.specs.Prelude.{IsOk, OnOk}
-use Rattle.std.specs.FinMap.{insert, remove}
-use Rattle.std.specs.FinMap.Entries.{find}
-use Rattle.pk_base.specs.Entry.{Entry, Place}
-use Rattle.pk_base.specs.Key.{Key, key_cmp, space_of}
-use Rattle.pk_base.specs.Page.{Flash}
-use Rattle.pk_base.specs.Map.{Map}
+use Rattle.std.{specs.Prelude.IsOk, specs.Prelude.OnOk, specs.FinMap.insert, specs.FinMap.remove, specs.FinMap.Entries.find}
+use Rattle.pk_base.{specs.Entry.Entry, specs.Entry.Place, specs.Key.Key, specs.Key.key_cmp, specs.Key.space_of, specs.Page.Flash, specs.Map.Map}
 use Rattle.pk_base.specs.Shape.{Shape, charge, greatest, page_entries}
-use Rattle.pk_nand.specs.declared.types.Fault.{Fault}
-use Rattle.pk_nand.specs.declared.types.Fault.TheVariants.{Reading, Stopped}
-use Rattle.pk_nand.specs.BoardState.{BoardState}
-use Rattle.pk_nand.specs.Calls.{IsReady}
+use Rattle.pk_nand.{specs.declared.types.Fault.Fault, specs.declared.types.Fault.TheVariants.Reading, specs.declared.types.Fault.TheVariants.Stopped, specs.BoardState.BoardState, specs.Calls.IsReady}
 use Rattle.pk_nand.specs.Effects.{NoFault, OnlyFlash}
-use Rattle.pk_model.specs.Spaces.{limits_at}
-use Rattle.pk_model.specs.Found.{Found}
-use Rattle.pk_model.specs.Reading.{reading}
-use Rattle.pk_model.specs.Growth.{Reaches, Goes}
-use Rattle.pk_model.specs.Crashes.{CrashFinds, background, commit, change}
-use Rattle.pk_model.specs.Wear.{roots, is_worn}
-use Rattle.pk_model.proofs.Growing.{weaken, weaken_went, at_end}
+use Rattle.pk_model.{specs.Spaces.limits_at, specs.Found.Found, specs.Reading.reading, specs.Growth.Reaches, specs.Growth.Goes, specs.Wear.roots, specs.Wear.is_worn}
+use Rattle.pk_model.{specs.Crashes.CrashFinds, specs.Crashes.background, specs.Crashes.commit, specs.Crashes.change, proofs.Growing.weaken, proofs.Growing.weaken_went, proofs.Growing.at_end}
 use Rattle.pk_law_work.specs.Calls.{commit_calls, pair_calls, room_calls, room_roots, store_roots}
 use Rattle.pk_call.specs.Calling.{FewCalls}
 use Rattle.pk_law_steps.specs.Under.{places}
 use Rattle.pk_log.specs.State.{LogState}
-use Rattle.pk_parts.specs.Parts.{Parts, frames_of, is_half}
-use Rattle.pk_parts.specs.Moves.{StandsFor, StandsBetween, KeepsAll}
-use Rattle.pk_background.specs.Emptying.{StepOrRead, OnRunning}
-use Rattle.pk_background.specs.Pairing.{FinishesHalf, FailsToFinish, FinishesOr}
-use Rattle.pk_parts.specs.Staying.{Stays, StaysOrOpens}
+use Rattle.pk_parts.{specs.Parts.Parts, specs.Parts.frames_of, specs.Parts.is_half, specs.Moves.StandsFor, specs.Moves.StandsBetween, specs.Moves.KeepsAll, proofs.Keeping.KeepsAll-none}
+use Rattle.pk_parts.{specs.Staying.Stays, specs.Staying.StaysOrOpens, proofs.Halves.whole_of, proofs.Halves.with_whole, proofs.Halves.not_made, proofs.Halves.is_whole}
+use Rattle.pk_parts.proofs.Staying.{opens_behind, stays_same, stays_then}
+use Rattle.pk_background.{specs.Emptying.StepOrRead, specs.Emptying.OnRunning, specs.Pairing.FinishesHalf, specs.Pairing.FailsToFinish, specs.Pairing.FinishesOr, specs.Spacing.SameMapAll}
+use Rattle.pk_background.{specs.Costs.Spends, specs.Costs.space_and_put_calls, proofs.Callings.few_program, proofs.Callings.few_same, proofs.Callings.spends_then}
+use Rattle.pk_background.{proofs.ReadSteps.Passes, proofs.ReadSteps.reading_then, proofs.ReadSteps.running_says, proofs.SameMaps.SameMap-then, proofs.SameMaps.same_of}
 use Rattle.pk_changes.specs.Programming.{PutsQuietly, TakesQuietly, ReadsQuietly}
-use Rattle.pk_background.specs.Costs.{Spends, space_and_put_calls}
 use Rattle.pk_changes.specs.Changes.{MayPut, MayTake, CanPut, CanTake, TakesAll, FailsToTake, TakesOrReads, StaysBetween, HasRoomFor}
-use Rattle.pk_background.specs.Spacing.{SameMapAll}
-use Rattle.pk_core.specs.Programming.{ReadsNone}
-use Rattle.pk_core.specs.Spacing.{MayStore, StoresAll, FailsToStore, StoresOrReads, store_most}
+use Rattle.pk_changes.proofs.Putting.{later_reaches, later_goes, room_after, spaced_after}
+use Rattle.pk_core.{specs.Programming.ReadsNone, specs.Spacing.MayStore, specs.Spacing.StoresAll, specs.Spacing.FailsToStore, specs.Spacing.StoresOrReads, specs.Spacing.store_most}
 use Rattle.pk_core.specs.Whole.{MayStoreBetween, MayTakeBetween, SameMapBetween, StoresBetween, FailsToStoreBetween, TakesBetween, FailsToTakeBetween, StoresWhole, TakesWhole, CanPutBetween}
 use Rattle.pk_core.specs.Whole.{CanTakeBetween}
-use Rattle.pk_background.proofs.Callings.{few_program, few_same, spends_then}
-use Rattle.pk_parts.proofs.Halves.{whole_of, with_whole, not_made, is_whole}
-use Rattle.pk_parts.proofs.Keeping.{KeepsAll-none}
-use Rattle.pk_changes.proofs.Putting.{later_reaches, later_goes, room_after, spaced_after}
-use Rattle.pk_background.proofs.ReadSteps.{Passes, reading_then, running_says}
-use Rattle.pk_background.proofs.SameMaps.{SameMap-then, same_of}
-use Rattle.pk_parts.proofs.Staying.{opens_behind, stays_same, stays_then}
 
 -- ---- the pair is whole
 

@@ -1,21 +1,12 @@
 -- The limits that the root of a drive has.
 use Rattle.std.proofs.Common.{◌≡◌, ℕ, ◌+◌, ◌-◌, ◌*◌, ◌≤◌, refl, sym, ap, ◌∙◌, arith, Bool, true, false, List, [], ◌∷◌, length, slice_index, nat_le, nat_lt, ◌==◌, ◌||◌, not, sum, le→leb, if◌then◌else◌}
 use Rattle.std.proofs.Common.{Some, OnOk, Result, Ok, Err, subst}
-use Rattle.std.proofs.lemmas.List.Sums.{sum_by-cons}
-use Rattle.std.specs.Prelude.{bytes_eq}
-use Rattle.std.proofs.lemmas.Bool.Decides.{nat_tests}
-use Rattle.pk_base.specs.Shape.{Shape, limit, meta_blocks}
-use Rattle.pk_base.specs.Page.{Flash, page_at}
-use Rattle.pk_base.specs.declared.sizes.TheConstants.{MOST_SPACES}
-use Rattle.pk_base.proofs.Logic.{is_true}
-use Rattle.pk_space.specs.Limits.{AcceptsLimits, has_zero, has_no_room}
-use Rattle.pk_space.specs.declared.limits.TheConstants.{LIMITS_LIST_FROM}
-use Rattle.pk_rootfmt.specs.Root.{fit_in, has_limits_room, are_limits, limits_of, written_limits}
-use Rattle.pk_rootfmt.specs.Held.{first_with}
-use Rattle.pk_rootfmt.specs.Newest.{newest_root, limits_if}
+use Rattle.std.{proofs.lemmas.List.Sums.sum_by-cons, specs.Prelude.bytes_eq, proofs.lemmas.Bool.Decides.nat_tests}
+use Rattle.pk_base.{specs.Shape.Shape, specs.Shape.limit, specs.Shape.meta_blocks, specs.Page.Flash, specs.Page.page_at, specs.declared.sizes.TheConstants.MOST_SPACES, proofs.Logic.is_true}
+use Rattle.pk_space.{specs.Limits.AcceptsLimits, specs.Limits.has_zero, specs.Limits.has_no_room, specs.declared.limits.TheConstants.LIMITS_LIST_FROM}
+use Rattle.pk_rootfmt.{specs.Root.fit_in, specs.Root.has_limits_room, specs.Root.are_limits, specs.Root.limits_of, specs.Root.written_limits, specs.Held.first_with, proofs.LimitLemmas.by_test}
+use Rattle.pk_rootfmt.{specs.Newest.newest_root, specs.Newest.limits_if, proofs.PageLemmas.same_bytes}
 use Rattle.pk_model.specs.Spaces.{limits_at}
-use Rattle.pk_rootfmt.proofs.LimitLemmas.{by_test}
-use Rattle.pk_rootfmt.proofs.PageLemmas.{same_bytes}
 
 -- limits that a drive may have are those of a root, unless they are the one limit of the shape
 fits : (left : ℕ) (ls : List ℕ) → has_zero ls ≡ false → sum ls ≤ left → fit_in left ls ≡ true

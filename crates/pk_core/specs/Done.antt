@@ -1,19 +1,10 @@
 -- What a command did to a drive and its board: the clauses of the drive's contract, as one record.
 use Rattle.std.specs.Prelude.{◌≡◌, ◌≢◌, ℕ, ◌+◌, ◌≤◌, Bool, true, false, List}
-use Rattle.pk_nvme.specs.declared.status.TheConstants.{UNRECOVERED_ERROR}
-use Rattle.pk_nvme.specs.Command.{Command}
-use Rattle.pk_nvme.specs.Reply.{Reply}
-use Rattle.pk_nand.specs.BoardState.{BoardState}
-use Rattle.pk_nand.specs.Calls.{Rose, last_count}
-use Rattle.pk_call.specs.Sight.{Sight}
-use Rattle.pk_model.specs.Wear.{roots}
-use Rattle.pk_nand.specs.Effects.{OnlyFlash, NoFault}
-use Rattle.pk_call.specs.Call.{command_on}
-use Rattle.pk_call.specs.Meter.{reads_after}
-use Rattle.pk_call.specs.Seen.{reply_of}
-use Rattle.pk_call.specs.declared.types.Outcome.{Outcome}
-use Rattle.pk_call.specs.Exec.{ExecStands, most_installs}
+use Rattle.pk_nvme.{specs.declared.status.TheConstants.UNRECOVERED_ERROR, specs.Command.Command, specs.Reply.Reply}
+use Rattle.pk_nand.{specs.BoardState.BoardState, specs.Calls.Rose, specs.Calls.last_count, specs.Effects.OnlyFlash, specs.Effects.NoFault}
+use Rattle.pk_call.{specs.Sight.Sight, specs.Call.command_on, specs.Meter.reads_after, specs.Seen.reply_of, specs.declared.types.Outcome.Outcome, specs.Exec.ExecStands, specs.Exec.most_installs}
 use Rattle.pk_call.specs.Running.{FoundAfterCrash}
+use Rattle.pk_model.specs.Wear.{roots}
 use Rattle.pk_parts.specs.Parts.{Parts, sight_of}
 use Rattle.pk_core.specs.Agreeing.{DriveOnFlashBetween}
 

@@ -1,20 +1,15 @@
 -- The data of a List: keys that follow their number in a buffer.
 use Rattle.std.specs.Prelude.{◌≡◌, ◌⊎◌, false, ℕ, ◌+◌, ◌-◌, ◌<◌, ◌≤◌, List, [], ◌∷◌, ◌++◌, length, take, drop, flat_map, ◌==◌, if◌then◌else◌, Option, Some, None}
-use Rattle.pk_nvme.specs.declared.limits.TheConstants.{COUNT_BYTES, MOST_LIST_BYTES}
+use Rattle.pk_nvme.{specs.declared.limits.TheConstants.COUNT_BYTES, specs.declared.limits.TheConstants.MOST_LIST_BYTES, specs.Command.Command}
 use Rattle.pk_nvme.specs.declared.status.TheConstants.{SUCCESSFUL_COMPLETION, UNRECOVERED_ERROR}
-use Rattle.pk_base.specs.Key.{Key, bytes_of, space_of}
-use Rattle.pk_base.specs.Entry.{Place}
-use Rattle.pk_nand.specs.BoardState.{BoardState}
-use Rattle.pk_nand.specs.Calls.{Rose, last_count}
+use Rattle.pk_base.{specs.Key.Key, specs.Key.bytes_of, specs.Key.space_of, specs.Entry.Place}
+use Rattle.pk_nand.{specs.BoardState.BoardState, specs.Calls.Rose, specs.Calls.last_count, specs.Effects.NoFault}
 use Rattle.pk_pin.specs.Frames.{Frames}
 use Rattle.pk_level.specs.Levels.{Levels}
 use Rattle.pk_walk.specs.Walking.{Walk, IsLeft}
 use Rattle.pk_log.specs.State.{LogState}
 use Rattle.pk_index.specs.Keys.{keys_of}
-use Rattle.pk_nand.specs.Effects.{NoFault}
-use Rattle.pk_call.specs.Meter.{reads_after}
-use Rattle.pk_call.specs.declared.types.Outcome.{Outcome}
-use Rattle.pk_nvme.specs.Command.{Command}
+use Rattle.pk_call.{specs.Meter.reads_after, specs.declared.types.Outcome.Outcome}
 use Rattle.pk_model.specs.Answer.{listed, item_bytes, fitting}
 use Rattle.pk_core.specs.declared.filled.Filled.{Filled}
 

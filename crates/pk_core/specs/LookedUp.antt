@@ -1,18 +1,11 @@
 -- A Store or a Delete after the lookup of its key.
 use Rattle.std.specs.Prelude.{◌≡◌, ℕ, [], Option, false}
-use Rattle.pk_base.specs.Entry.{Place}
-use Rattle.pk_base.specs.Key.{Key}
-use Rattle.pk_nvme.specs.Command.{key}
-use Rattle.pk_nvme.specs.Seen.{command_of}
-use Rattle.pk_nvme.specs.declared.status.TheConstants.{SUCCESSFUL_COMPLETION}
-use Rattle.pk_nvme.specs.declared.request.Request.{Request}
+use Rattle.pk_base.{specs.Entry.Place, specs.Key.Key}
+use Rattle.pk_nvme.{specs.Command.key, specs.Seen.command_of, specs.declared.status.TheConstants.SUCCESSFUL_COMPLETION, specs.declared.request.Request.Request}
 use Rattle.pk_nand.specs.BoardState.{BoardState}
 use Rattle.pk_call.specs.declared.types.Outcome.{Outcome}
-use Rattle.pk_parts.specs.Parts.{Parts, is_half}
-use Rattle.pk_parts.specs.Quiet.{Looks}
-use Rattle.pk_core.specs.Serving.{IsServable, IsReadSince}
-use Rattle.pk_parts.specs.Staying.{Stays, StaysOrOpens, IsNoted}
-use Rattle.pk_core.specs.Programming.{ReadsNone}
+use Rattle.pk_parts.{specs.Parts.Parts, specs.Parts.is_half, specs.Quiet.Looks, specs.Staying.Stays, specs.Staying.StaysOrOpens, specs.Staying.IsNoted}
+use Rattle.pk_core.{specs.Serving.IsServable, specs.Serving.IsReadSince, specs.Programming.ReadsNone}
 use Rattle.pk_changes.specs.Programming.{PutsQuietly, TakesQuietly, ReadsQuietly}
 
 -- The drive serves the request, and its key has its value at this place, as was found since the board had this count of reads.

@@ -1,22 +1,14 @@
 -- What a command leaves of epochs, blocks and background work, which pages it programs, and how many flash operations it makes.
 use Rattle.std.specs.Prelude.{◌≡◌, ◌≢◌, ◌≤◌, ℕ, List, take, true, false}
-use Rattle.pk_nvme.specs.declared.opcode.TheConstants.{STORE, DELETE, TICK}
-use Rattle.pk_nvme.specs.declared.status.TheConstants.{SUCCESSFUL_COMPLETION, UNRECOVERED_ERROR}
+use Rattle.pk_nvme.{specs.declared.opcode.TheConstants.STORE, specs.declared.opcode.TheConstants.DELETE, specs.declared.opcode.TheConstants.TICK, specs.Command.key, specs.Seen.command_of}
+use Rattle.pk_nvme.{specs.declared.status.TheConstants.SUCCESSFUL_COMPLETION, specs.declared.status.TheConstants.UNRECOVERED_ERROR, specs.declared.request.Request.Request}
 use Rattle.pk_base.specs.Shape.{charge}
-use Rattle.pk_nvme.specs.Command.{key}
-use Rattle.pk_nvme.specs.Seen.{command_of}
-use Rattle.pk_nvme.specs.declared.request.Request.{Request}
-use Rattle.pk_nand.specs.BoardState.{BoardState}
-use Rattle.pk_nand.specs.Effects.{OnlyReading}
-use Rattle.pk_call.specs.Exec.{report_of}
-use Rattle.pk_call.specs.Calling.{FewCalls, most_calls_of, only_looks}
-use Rattle.pk_call.specs.Settling.{may_raise}
-use Rattle.pk_call.specs.declared.types.Outcome.{Outcome}
+use Rattle.pk_nand.{specs.BoardState.BoardState, specs.Effects.OnlyReading}
+use Rattle.pk_call.{specs.Exec.report_of, specs.Calling.FewCalls, specs.Calling.most_calls_of, specs.Calling.only_looks, specs.Settling.may_raise, specs.declared.types.Outcome.Outcome}
 use Rattle.pk_call.specs.Sight.{in_space_at}
 use Rattle.pk_parts.specs.Parts.{Parts, counts_of, spaces_of, sight_of, is_half}
 use Rattle.pk_parts.specs.Staying.{StaysFresh, Stays, StaysOrOpens, IsNoted}
-use Rattle.pk_core.specs.Programming.{QuietStore, QuietDelete}
-use Rattle.pk_core.specs.Stepping.{Lessens}
+use Rattle.pk_core.{specs.Programming.QuietStore, specs.Programming.QuietDelete, specs.Stepping.Lessens}
 
 -- A command came to this outcome. A Store alone may take a block more, beside it a Tick another open block; what only looks changes nothing.
 -- A Store or a Delete alone may raise the background work, and makes a pair whole that was half made; a Tick lowers the work.

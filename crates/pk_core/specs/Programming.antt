@@ -1,16 +1,11 @@
 -- How many pages a Store or a Delete programs that waits for nothing.
 use Rattle.std.specs.Prelude.{◌≡◌, ℕ, ◌+◌, ◌-◌, ◌≤◌, List, [], true, false}
-use Rattle.pk_nvme.specs.declared.status.TheConstants.{SUCCESSFUL_COMPLETION}
-use Rattle.pk_base.specs.Key.{Key}
-use Rattle.pk_base.specs.Shape.{charge}
-use Rattle.pk_nvme.specs.Command.{key}
-use Rattle.pk_nvme.specs.Seen.{command_of}
-use Rattle.pk_nvme.specs.declared.request.Request.{Request}
+use Rattle.pk_nvme.{specs.declared.status.TheConstants.SUCCESSFUL_COMPLETION, specs.Command.key, specs.Seen.command_of, specs.declared.request.Request.Request}
+use Rattle.pk_base.{specs.Key.Key, specs.Shape.charge}
 use Rattle.pk_nand.specs.BoardState.{BoardState}
 use Rattle.pk_log.specs.State.{needs_freeze}
 use Rattle.pk_values.specs.State.{fits_open}
-use Rattle.pk_call.specs.Moving.{commits_for}
-use Rattle.pk_call.specs.declared.types.Outcome.{Outcome}
+use Rattle.pk_call.{specs.Moving.commits_for, specs.declared.types.Outcome.Outcome}
 use Rattle.pk_parts.specs.Parts.{Parts, sight_of, is_half}
 use Rattle.pk_changes.specs.Programming.{Programs, ReadsQuietly}
 

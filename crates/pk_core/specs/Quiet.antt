@@ -1,23 +1,13 @@
 -- Commands that only read.
 use Rattle.std.specs.Prelude.{◌≡◌, ℕ, ◌≤◌, List, [], ◌∷◌, length, Some, None}
 use Rattle.std.specs.FinMap.{get}
-use Rattle.pk_base.specs.Entry.{Place}
-use Rattle.pk_base.specs.Key.{Key}
-use Rattle.pk_base.specs.Shape.{Shape, greatest, most_calls}
-use Rattle.pk_base.specs.Page.{Flash}
-use Rattle.pk_base.specs.Map.{Map}
-use Rattle.pk_nvme.specs.Seen.{command_of}
-use Rattle.pk_nvme.specs.declared.request.Request.{Request}
-use Rattle.pk_nand.specs.BoardState.{BoardState}
-use Rattle.pk_nand.specs.Calls.{last_count}
-use Rattle.pk_nand.specs.Effects.{OnlyReading}
+use Rattle.pk_base.{specs.Entry.Place, specs.Key.Key, specs.Shape.Shape, specs.Shape.greatest, specs.Shape.most_calls, specs.Page.Flash, specs.Map.Map}
+use Rattle.pk_nvme.{specs.Seen.command_of, specs.declared.request.Request.Request}
+use Rattle.pk_nand.{specs.BoardState.BoardState, specs.Calls.last_count, specs.Effects.OnlyReading}
 use Rattle.pk_seg.specs.Stored.{IsFront}
 use Rattle.pk_model.specs.Answer.{early}
-use Rattle.pk_call.specs.Calling.{FewCalls}
-use Rattle.pk_call.specs.Seen.{reply_of}
-use Rattle.pk_call.specs.declared.types.Outcome.{Outcome}
-use Rattle.pk_parts.specs.Parts.{Parts, drive_limits, sight_of}
-use Rattle.pk_parts.specs.Agreeing.{DriveOnFlash}
+use Rattle.pk_call.{specs.Calling.FewCalls, specs.Seen.reply_of, specs.declared.types.Outcome.Outcome}
+use Rattle.pk_parts.{specs.Parts.Parts, specs.Parts.drive_limits, specs.Parts.sight_of, specs.Agreeing.DriveOnFlash}
 use Rattle.pk_core.specs.Done.{Does}
 
 -- A command changed nothing of the drive but the walk of a List, and made few calls, of which each was a read.

@@ -1,19 +1,12 @@
 -- Commands that change the map: what a drive needs to serve one.
 use Rattle.std.specs.Prelude.{◌≡◌, ◌≤◌, ◌<◌, ℕ, [], length, ◌+◌, true, false, None, Result, Ok, Err}
-use Rattle.pk_base.specs.declared.sizes.TheConstants.{MOST_SPACES}
-use Rattle.pk_base.specs.Shape.{page_entries}
-use Rattle.pk_nvme.specs.Seen.{command_of}
-use Rattle.pk_nvme.specs.declared.status.TheConstants.{SUCCESSFUL_COMPLETION, UNRECOVERED_ERROR}
-use Rattle.pk_nvme.specs.declared.request.Request.{Request}
-use Rattle.pk_nand.specs.declared.types.Fault.{Fault}
-use Rattle.pk_nand.specs.declared.types.Fault.TheVariants.{Reading, Stopped}
-use Rattle.pk_nand.specs.BoardState.{BoardState}
+use Rattle.pk_base.{specs.declared.sizes.TheConstants.MOST_SPACES, specs.Shape.page_entries}
+use Rattle.pk_nvme.{specs.Seen.command_of, specs.declared.status.TheConstants.SUCCESSFUL_COMPLETION, specs.declared.status.TheConstants.UNRECOVERED_ERROR, specs.declared.request.Request.Request}
+use Rattle.pk_nand.{specs.declared.types.Fault.Fault, specs.declared.types.Fault.TheVariants.Reading, specs.declared.types.Fault.TheVariants.Stopped, specs.BoardState.BoardState}
 use Rattle.pk_nand.specs.Calls.{last_count}
-use Rattle.pk_model.specs.Answer.{early}
-use Rattle.pk_model.specs.Wear.{is_worn}
+use Rattle.pk_model.{specs.Answer.early, specs.Wear.is_worn}
 use Rattle.pk_call.specs.declared.types.Outcome.{Outcome}
-use Rattle.pk_parts.specs.Parts.{Parts, drive_limits}
-use Rattle.pk_parts.specs.Agreeing.{DriveOnFlash}
+use Rattle.pk_parts.{specs.Parts.Parts, specs.Parts.drive_limits, specs.Agreeing.DriveOnFlash}
 
 -- The drive matches its board, runs and is not worn out, and the request passed the checks that read it alone.
 pub record IsServable (d : Parts) (board : BoardState) (r : Request) : Type 0 where

@@ -1,22 +1,12 @@
 -- A value is stored, wherever the former one of its key is.
-use Rattle.std.specs.Prelude.{ℕ, ◌+◌, ◌≤◌, ◌<◌, List, length, Result}
-use Rattle.std.specs.FinMap.{insert}
-use Rattle.pk_base.specs.Fields.{AreBytes}
-use Rattle.pk_base.specs.Key.{Key}
-use Rattle.pk_base.specs.Page.{Flash}
-use Rattle.pk_base.specs.Shape.{Shape, greatest, page_entries}
-use Rattle.pk_base.specs.Map.{Map}
-use Rattle.pk_nand.specs.declared.types.Fault.{Fault}
-use Rattle.pk_nand.specs.BoardState.{BoardState}
-use Rattle.pk_nand.specs.Calls.{IsReady}
+use Rattle.std.{specs.Prelude.ℕ, specs.Prelude.◌+◌, specs.Prelude.◌≤◌, specs.Prelude.◌<◌, specs.Prelude.List, specs.Prelude.length, specs.Prelude.Result, specs.FinMap.insert}
+use Rattle.pk_base.{specs.Fields.AreBytes, specs.Key.Key, specs.Page.Flash, specs.Shape.Shape, specs.Shape.greatest, specs.Shape.page_entries, specs.Map.Map}
+use Rattle.pk_nand.{specs.declared.types.Fault.Fault, specs.BoardState.BoardState, specs.Calls.IsReady}
 use Rattle.pk_law_work.specs.Calls.{room_calls, space_calls}
-use Rattle.pk_model.specs.Growth.{Goes}
-use Rattle.pk_model.specs.Crashes.{CrashFinds, change}
-use Rattle.pk_parts.specs.Parts.{Parts}
-use Rattle.pk_parts.specs.Moves.{StandsFor}
+use Rattle.pk_model.{specs.Growth.Goes, specs.Crashes.CrashFinds, specs.Crashes.change}
+use Rattle.pk_parts.{specs.Parts.Parts, specs.Moves.StandsFor}
 use Rattle.pk_changes.specs.Changes.{Changes, HasRoomFor}
-use Rattle.pk_background.specs.Emptying.{StepOrRead}
-use Rattle.pk_background.specs.Spacing.{SameMapAll}
+use Rattle.pk_background.{specs.Emptying.StepOrRead, specs.Spacing.SameMapAll}
 
 -- ---- a value is stored, wherever the former one of its key is
 

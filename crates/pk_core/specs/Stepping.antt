@@ -1,20 +1,12 @@
 -- Background steps one after another, and the answer of the command that requests them.
 use Rattle.std.specs.Prelude.{◌≡◌, ℕ, ◌+◌, ◌≤◌, ◌⊎◌, Bool, true, false}
 use Rattle.pk_nvme.specs.declared.status.TheConstants.{SUCCESSFUL_COMPLETION, UNRECOVERED_ERROR}
-use Rattle.pk_nand.specs.BoardState.{BoardState}
-use Rattle.pk_nand.specs.Calls.{Rose, last_count}
-use Rattle.pk_call.specs.Sight.{Sight}
-use Rattle.pk_nand.specs.Effects.{OnlyFlash, NoFault}
-use Rattle.pk_model.specs.Crashes.{background}
-use Rattle.pk_call.specs.Call.{KeepsMap}
-use Rattle.pk_call.specs.Running.{FoundAfterCrash}
-use Rattle.pk_call.specs.Seen.{stopped_by}
-use Rattle.pk_call.specs.declared.types.Ticked.{Ticked}
+use Rattle.pk_nand.{specs.BoardState.BoardState, specs.Calls.Rose, specs.Calls.last_count, specs.Effects.OnlyFlash, specs.Effects.NoFault}
+use Rattle.pk_call.{specs.Sight.Sight, specs.Call.KeepsMap, specs.Running.FoundAfterCrash, specs.Seen.stopped_by, specs.declared.types.Ticked.Ticked, specs.declared.types.Outcome.Outcome}
 use Rattle.pk_call.specs.declared.types.Ticked.TheVariants.{Worked, Idle, Fault}
-use Rattle.pk_call.specs.declared.types.Outcome.{Outcome}
-use Rattle.pk_background.specs.Costs.{Spends}
+use Rattle.pk_model.specs.Crashes.{background}
+use Rattle.pk_background.{specs.Costs.Spends, specs.Ticking.HasNoStep}
 use Rattle.pk_parts.specs.Parts.{Parts, sight_of}
-use Rattle.pk_background.specs.Ticking.{HasNoStep}
 
 -- a flash operation failed
 abbrev pub has_failed : Ticked → Bool

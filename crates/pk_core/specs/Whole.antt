@@ -1,25 +1,14 @@
 -- Changes of the map, before which a pair may be half made.
 use Rattle.std.specs.Prelude.{◌≡◌, ◌≤◌, ◌<◌, ℕ, List, length, Option, Some, Result}
-use Rattle.std.specs.FinMap.{insert, remove}
-use Rattle.std.specs.FinMap.Entries.{find}
-use Rattle.pk_base.specs.Entry.{Place}
-use Rattle.pk_base.specs.Fields.{AreBytes}
-use Rattle.pk_base.specs.Key.{Key, key_cmp, space_of}
-use Rattle.pk_base.specs.Shape.{Shape, greatest, page_entries}
-use Rattle.pk_base.specs.Page.{Flash}
+use Rattle.std.{specs.FinMap.insert, specs.FinMap.remove, specs.FinMap.Entries.find}
+use Rattle.pk_base.{specs.Entry.Place, specs.Fields.AreBytes, specs.Key.Key, specs.Key.key_cmp, specs.Key.space_of, specs.Shape.Shape, specs.Shape.greatest, specs.Shape.page_entries, specs.Page.Flash}
 use Rattle.pk_base.specs.Map.{Map}
-use Rattle.pk_nand.specs.BoardState.{BoardState}
-use Rattle.pk_nand.specs.declared.types.Fault.{Fault}
-use Rattle.pk_nand.specs.Calls.{IsReady}
-use Rattle.pk_model.specs.Spaces.{limits_at}
-use Rattle.pk_model.specs.Growth.{Goes}
-use Rattle.pk_model.specs.Crashes.{CrashFinds, change}
+use Rattle.pk_nand.{specs.BoardState.BoardState, specs.declared.types.Fault.Fault, specs.Calls.IsReady}
+use Rattle.pk_model.{specs.Spaces.limits_at, specs.Growth.Goes, specs.Crashes.CrashFinds, specs.Crashes.change}
 use Rattle.pk_law_steps.specs.Under.{places}
-use Rattle.pk_parts.specs.Parts.{Parts}
-use Rattle.pk_parts.specs.Moves.{StandsBetween}
+use Rattle.pk_parts.{specs.Parts.Parts, specs.Moves.StandsBetween}
 use Rattle.pk_changes.specs.Changes.{Changes, HasRoomFor}
-use Rattle.pk_background.specs.Emptying.{StepOrRead}
-use Rattle.pk_background.specs.Spacing.{SameMap}
+use Rattle.pk_background.{specs.Emptying.StepOrRead, specs.Spacing.SameMap}
 
 -- A key may get a value: its value stood at this place until now, or there was none, and there is room for the new one.
 pub record MayPutBetween (d : Parts) (shape : Shape) (flash : Flash) (m : Map) (key : Key) (value : List ℕ) (old : Option Place) : Type 0 where

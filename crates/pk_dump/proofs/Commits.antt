@@ -1,10 +1,7 @@
 -- Bytes that are not the commit that is looked for.
 use Rattle.std.proofs.Common.{◌≡◌, ◌<◌, ◌^◌, ℕ, List, length, Option, Some, None, Result, Ok, Err, refl, sym, ◌∙◌, ap}
-use Rattle.pk_base.specs.Shape.{Shape, epoch_commits}
-use Rattle.pk_base.specs.Entry.{Entry}
-use Rattle.pk_jrnfmt.specs.Page.{journal_entries}
-use Rattle.pk_jrnfmt.specs.declared.JrnHead.{JrnHead}
-use Rattle.pk_jrnfmt.specs.declared.BadJournal.{BadJournal}
+use Rattle.pk_base.{specs.Shape.Shape, specs.Shape.epoch_commits, specs.Entry.Entry}
+use Rattle.pk_jrnfmt.{specs.Page.journal_entries, specs.declared.JrnHead.JrnHead, specs.declared.BadJournal.BadJournal}
 
 -- there is none if none can be
 pub none_unless : {A : Type 0} (o : Option A) → ((x : A) → o ≡ Some x → ⊥) → o ≡ None

@@ -1,16 +1,9 @@
 -- Pages that are read into memory, one after another.
 use Rattle.std.proofs.Common.{◌≡◌, ◌<◌, ◌+◌, ℕ, List, length, zero, suc, arith, take, ◌++◌, [], ◌∷◌, All, refl, sym, ◌∙◌, ap}
-use Rattle.std.proofs.Math.Numerals.{add-one}
-use Rattle.std.proofs.lemmas.List.{map-append}
-use Rattle.std.proofs.lemmas.List.Elements.{All-append}
-use Rattle.std.proofs.lemmas.Option.{unwrap_or-slice_get}
+use Rattle.std.{proofs.Math.Numerals.add-one, proofs.lemmas.List.map-append, proofs.lemmas.List.Elements.All-append, proofs.lemmas.Option.unwrap_or-slice_get}
 use Rattle.pk_scan.proofs.Exact.{take_next}
-use Rattle.pk_base.specs.Shape.{Shape}
-use Rattle.pk_base.specs.Page.{Page, Flash, page_at, erased, whole, torn, IsFlash}
-use Rattle.pk_nand.specs.Seen.{answer, state, states}
-use Rattle.pk_nand.specs.Operations.{filled}
-use Rattle.pk_nand.specs.declared.types.PageState.{PageState}
-use Rattle.pk_nand.specs.declared.types.PageRead.{PageRead}
+use Rattle.pk_base.{specs.Shape.Shape, specs.Page.Page, specs.Page.Flash, specs.Page.page_at, specs.Page.erased, specs.Page.whole, specs.Page.torn, specs.Page.IsFlash}
+use Rattle.pk_nand.{specs.Seen.answer, specs.Seen.state, specs.Seen.states, specs.Operations.filled, specs.declared.types.PageState.PageState, specs.declared.types.PageRead.PageRead}
 use Rattle.pk_dump.specs.Pages.{IsFullPage, AreFull, read_as}
 
 -- what a read finds and leaves in the buffer is the page

@@ -1,11 +1,9 @@
 -- What is found on a flash, before it is printed.
 use Rattle.std.specs.Prelude.{◌≡◌, None, Some, MatchOption}
-use Rattle.pk_base.specs.Shape.{Shape}
-use Rattle.pk_base.specs.Page.{Flash, page_at}
+use Rattle.pk_base.{specs.Shape.Shape, specs.Page.Flash, specs.Page.page_at}
 use Rattle.pk_rootfmt.specs.Newest.{newest_root}
 use Rattle.pk_nand.specs.Seen.{states}
-use Rattle.pk_dump.specs.Readings.{IsReadingOf}
-use Rattle.pk_dump.specs.declared.finding.Finding.{Finding}
+use Rattle.pk_dump.{specs.Readings.IsReadingOf, specs.declared.finding.Finding.Finding}
 
 -- Its pages, the newest root with its page, and how reading it ends.
 pub record IsFindingOf (shape : Shape) (flash : Flash) (found : Finding) : Type 0 where

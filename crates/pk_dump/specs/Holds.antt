@@ -1,13 +1,10 @@
 -- What a page holds at its place in an epoch or a run, as the reading of a flash has it.
 use Rattle.std.specs.Prelude.{◌≡◌, ℕ, List, length, Option, Some, None}
-use Rattle.pk_base.specs.Shape.{Shape}
-use Rattle.pk_base.specs.Entry.{Entry}
-use Rattle.pk_base.specs.Page.{Page, erased, whole, torn}
+use Rattle.pk_base.{specs.Shape.Shape, specs.Entry.Entry, specs.Page.Page, specs.Page.erased, specs.Page.whole, specs.Page.torn}
 use Rattle.pk_jrnfmt.specs.Page.{journal_entries}
 use Rattle.pk_meta.specs.Page.{meta_entries}
-use Rattle.pk_dump.specs.declared.held.Held.{Held}
+use Rattle.pk_dump.{specs.declared.held.Held.Held, specs.declared.run.Wanted.Wanted}
 use Rattle.pk_dump.specs.declared.held.Held.TheVariants.{Erased, Torn, Wrong, Entries}
-use Rattle.pk_dump.specs.declared.run.Wanted.{Wanted}
 
 -- The page is printed as what it is, by the entries that are read of its bytes if it is whole.
 abbrev pub PagePrinted : (List ℕ → Option (List Entry)) → Page → Held → Type 0

@@ -1,10 +1,8 @@
 -- What a root names: its epochs, and the pages of its runs.
 use Rattle.std.specs.Prelude.{ℕ, ◌-◌, ◌*◌, min, Option, option_map}
 use Rattle.pk_base.specs.Shape.{Shape, page_entries}
-use Rattle.pk_rootfmt.specs.Root.{Root}
-use Rattle.pk_rootfmt.specs.Held.{two_of, older_of}
-use Rattle.pk_dump.specs.declared.journal.NamedEpoch.{NamedEpoch}
-use Rattle.pk_dump.specs.declared.run.Wanted.{Wanted}
+use Rattle.pk_rootfmt.{specs.Root.Root, specs.Held.two_of, specs.Held.older_of}
+use Rattle.pk_dump.{specs.declared.journal.NamedEpoch.NamedEpoch, specs.declared.run.Wanted.Wanted}
 
 -- the newest epoch: its number, and its blocks
 abbrev pub newest_named : Root → NamedEpoch

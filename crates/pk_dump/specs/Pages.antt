@@ -1,11 +1,8 @@
 -- Pages of a flash in memory.
 use Rattle.std.specs.Prelude.{◌≡◌, ℕ, List, length, All}
-use Rattle.pk_base.specs.Shape.{Shape}
-use Rattle.pk_base.specs.Page.{Page, erased, whole, torn}
-use Rattle.pk_nand.specs.declared.types.PageRead.{PageRead}
+use Rattle.pk_base.{specs.Shape.Shape, specs.Page.Page, specs.Page.erased, specs.Page.whole, specs.Page.torn}
+use Rattle.pk_nand.{specs.declared.types.PageRead.PageRead, specs.declared.types.PageState.PageState, specs.Seen.state}
 use Rattle.pk_nand.specs.declared.types.PageRead.TheVariants.{Erased, Whole, Torn}
-use Rattle.pk_nand.specs.declared.types.PageState.{PageState}
-use Rattle.pk_nand.specs.Seen.{state}
 
 -- if the page is whole it has the bytes of a page
 abbrev pub IsFullPage : Shape → Page → Type 0

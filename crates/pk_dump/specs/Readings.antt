@@ -1,7 +1,5 @@
 -- How reading a flash ends.
-use Rattle.pk_base.specs.Shape.{Shape}
-use Rattle.pk_base.specs.Page.{Flash}
-use Rattle.pk_base.specs.Refusal.{not_formatted, damaged}
+use Rattle.pk_base.{specs.Shape.Shape, specs.Page.Flash, specs.Refusal.not_formatted, specs.Refusal.damaged}
 use Rattle.pk_model.specs.Reading.{Refuses}
 use Rattle.pk_scan.specs.Opened.{FoundOnFlash}
 use Rattle.pk_dump.specs.declared.reading.Reading.{Reading}

@@ -1,7 +1,6 @@
 -- What a block after the root blocks is for.
 use Rattle.std.specs.Prelude.{ℕ, ◌-◌, List, [], if◌then◌else◌, slice_index_or}
-use Rattle.pk_rootfmt.specs.Root.{Root}
-use Rattle.pk_rootfmt.specs.Held.{two_of, older_of, blocks_or_none}
+use Rattle.pk_rootfmt.{specs.Root.Root, specs.Held.two_of, specs.Held.older_of, specs.Held.blocks_or_none}
 use Rattle.pk_scan.specs.Adopts.{is_among}
 use Rattle.pk_dump.specs.declared.picture.BlockUse.{BlockUse}
 use Rattle.pk_dump.specs.declared.picture.BlockUse.TheVariants.{Newest, Older, Run, Rest}

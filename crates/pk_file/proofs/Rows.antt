@@ -1,17 +1,11 @@
 -- Rows of pages that become Erased.
 use Rattle.std.proofs.Common.{◌≡◌, ◌⊎◌, inl, inr, ℕ, suc, ◌+◌, ◌-◌, ◌*◌, ◌/◌, ◌<◌, ◌≤◌, List, [], length, length-set, slice_set, refl, sym, ap, subst, ◌∙◌, arith, zero-add, Option, Some, None}
-use Rattle.std.proofs.Math.Nat.{mul-le-mul_right, suc-mul, mul_comm}
-use Rattle.std.proofs.lemmas.Bool.Decides.{eqb_tells}
-use Rattle.std.proofs.lemmas.Bool.{cases_lt}
-use Rattle.pk_base.specs.Shape.{Shape, IsShape, page_count}
-use Rattle.pk_base.specs.Page.{Flash, page_at, erased, torn}
-use Rattle.pk_base.specs.Mark.{program, erase, after, erased_from}
-use Rattle.pk_nand.specs.BoardState.{shape_or_none}
-use Rattle.pk_nand.specs.Calls.{LeftBehind}
-use Rattle.pk_nand.specs.Cut.{Interrupted, MayLeave}
+use Rattle.std.{proofs.Math.Nat.mul-le-mul_right, proofs.Math.Nat.suc-mul, proofs.Math.Nat.mul_comm, proofs.lemmas.Bool.Decides.eqb_tells, proofs.lemmas.Bool.cases_lt}
+use Rattle.pk_base.{specs.Shape.Shape, specs.Shape.IsShape, specs.Shape.page_count, specs.Page.Flash, specs.Page.page_at, specs.Page.erased, specs.Page.torn}
+use Rattle.pk_base.{specs.Mark.program, specs.Mark.erase, specs.Mark.after, specs.Mark.erased_from, proofs.BlockLemmas.in_block, proofs.BlockLemmas.of_block}
+use Rattle.pk_nand.{specs.BoardState.shape_or_none, specs.Calls.LeftBehind, specs.Cut.Interrupted, specs.Cut.MayLeave}
 use Rattle.pk_nand.proofs.Leaving.{page_at-slice_set, page_at-slice_set_same, set_leaves, same_pages, page_at-erased_from, page-erased_in, length-erased_from}
 use Rattle.pk_file.specs.Slots.{ErasedRow}
-use Rattle.pk_base.proofs.BlockLemmas.{in_block, of_block}
 
 pub row_none : (first : ℕ) (old : Flash) → ErasedRow first 0 old old
 row_none first old = record { same_size = refl; inside = λ k low high. absurd (omega (arith, low, high)); outside = λ k out. refl }

@@ -1,14 +1,10 @@
 -- Slots as the pages of a flash.
 use Rattle.std.proofs.Common.{◌≡◌, ℕ, zero, suc, ◌+◌, ◌<◌, List, [], ◌∷◌, ◌++◌, length, take, drop, get_or, replicate, slice_set, refl, sym, ap, subst, ◌∙◌, arith, Option, Some, None, true, false}
-use Rattle.std.specs.Prelude.{nat_le}
-use Rattle.std.proofs.lemmas.Bool.Decides.{nat_tests}
-use Rattle.std.proofs.lemmas.List.{length-map, drop_more, take_more}
-use Rattle.pk_base.specs.Shape.{Shape, page_count}
-use Rattle.pk_base.specs.Page.{Flash, page_at, erased, whole, torn, IsPage, IsFlash}
+use Rattle.std.{specs.Prelude.nat_le, proofs.lemmas.Bool.Decides.nat_tests, proofs.lemmas.List.length-map, proofs.lemmas.List.drop_more, proofs.lemmas.List.take_more}
+use Rattle.pk_base.{specs.Shape.Shape, specs.Shape.page_count, specs.Page.Flash, specs.Page.page_at, specs.Page.erased, specs.Page.whole, specs.Page.torn, specs.Page.IsPage, specs.Page.IsFlash}
 use Rattle.pk_nand.specs.BoardState.{shape_or_none}
 use Rattle.pk_image.specs.Image.{bad_state}
-use Rattle.pk_file.specs.declared.slot.Slot.{Slot}
-use Rattle.pk_file.specs.declared.slot.Slot.TheVariants.{Erased, Whole, Torn}
+use Rattle.pk_file.{specs.declared.slot.Slot.Slot, specs.declared.slot.Slot.TheVariants.Erased, specs.declared.slot.Slot.TheVariants.Whole, specs.declared.slot.Slot.TheVariants.Torn}
 use Rattle.pk_file.specs.Slots.{slot_page, pages_of, byte_by, state_bytes, SlotFits, AllFit}
 use Rattle.pk_file.specs.Extents.{extent_of, extents_of}
 

@@ -1,7 +1,6 @@
 -- How far the bytes of a page in an image file may differ from zero.
 use Rattle.std.specs.Prelude.{◌≡◌, ◌++◌, ℕ, List, length, map, take, drop}
-use Rattle.pk_file.specs.declared.slot.Slot.{Slot}
-use Rattle.pk_file.specs.declared.slot.Slot.TheVariants.{Erased, Whole, Torn}
+use Rattle.pk_file.{specs.declared.slot.Slot.Slot, specs.declared.slot.Slot.TheVariants.Erased, specs.declared.slot.Slot.TheVariants.Whole, specs.declared.slot.Slot.TheVariants.Torn}
 use Rattle.pk_file.specs.Trims.{ZerosFrom}
 
 -- the bytes at the place of this page that may differ from zero

@@ -1,10 +1,8 @@
 -- What the slots of a board over a file mean.
 use Rattle.std.specs.Prelude.{◌≡◌, ◌⊎◌, ℕ, ◌+◌, ◌<◌, ◌≤◌, List, length, map}
 use Rattle.pk_image.specs.declared.tag.TheConstants.{ERASED, WHOLE, TORN}
-use Rattle.pk_base.specs.Shape.{Shape}
-use Rattle.pk_base.specs.Page.{Page, Flash, erased, whole, torn, page_at, IsPage}
-use Rattle.pk_file.specs.declared.slot.Slot.{Slot}
-use Rattle.pk_file.specs.declared.slot.Slot.TheVariants.{Erased, Whole, Torn}
+use Rattle.pk_base.{specs.Shape.Shape, specs.Page.Page, specs.Page.Flash, specs.Page.erased, specs.Page.whole, specs.Page.torn, specs.Page.page_at, specs.Page.IsPage}
+use Rattle.pk_file.{specs.declared.slot.Slot.Slot, specs.declared.slot.Slot.TheVariants.Erased, specs.declared.slot.Slot.TheVariants.Whole, specs.declared.slot.Slot.TheVariants.Torn}
 use Rattle.pk_file.specs.Trims.{bytes_in}
 
 abbrev pub slot_page : Slot → Page

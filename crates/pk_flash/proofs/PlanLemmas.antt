@@ -1,9 +1,7 @@
 -- Plans that grow.
 use Rattle.std.proofs.Common.{◌≡◌, ℕ, List, [], ◌∷◌, ◌++◌, refl, sym, ap, ◌∙◌, subst, true, false, T, ◌==◌, if◌then◌else◌, eqb→eq, Option, Some, None}
 use Rattle.std.proofs.Math.Dec.{eqb_refl}
-use Rattle.pk_flash.specs.declared.types.Left.{Left}
-use Rattle.pk_flash.specs.declared.types.Planned.{Planned}
-use Rattle.pk_flash.specs.Plan.{later, left_if_planned, planned_left}
+use Rattle.pk_flash.{specs.declared.types.Left.Left, specs.declared.types.Planned.Planned, specs.Plan.later, specs.Plan.left_if_planned, specs.Plan.planned_left}
 use Rattle.pk_base.proofs.Logic.{is_true}
 
 later-none : (o : Option Left) → later None o ≡ o

@@ -1,8 +1,5 @@
 -- Spare buffers with room for more than is needed.
-use Rattle.std.proofs.Common.{◌≤◌, ℕ, List, arith}
-use Rattle.std.proofs.lemmas.List.Elements.{All-weaker}
-use Rattle.std.specs.Prelude.{Vec}
-use Rattle.std.specs.declared.alloc.Global.{Global}
+use Rattle.std.{proofs.Common.◌≤◌, proofs.Common.ℕ, proofs.Common.List, proofs.Common.arith, proofs.lemmas.List.Elements.All-weaker, specs.Prelude.Vec, specs.declared.alloc.Global.Global}
 use Rattle.pk_flash.specs.Spare.{IsSpare, AreSpare}
 
 pub spare_less : (room less : ℕ) (buffers : List (Vec ℕ Global)) → less ≤ room → AreSpare room buffers → AreSpare less buffers

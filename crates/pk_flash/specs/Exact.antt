@@ -1,12 +1,8 @@
 -- What an operation of the board in memory does, by its plan.
 use Rattle.std.specs.Prelude.{◌≡◌, ◌⊎◌, ◌<◌, ◌≤◌, ◌+◌, ℕ, List, [], ◌∷◌, ◌++◌, length, take, min, Option, Some, None, Result, IsErr}
-use Rattle.pk_base.specs.Shape.{Shape}
-use Rattle.pk_base.specs.Page.{Flash}
-use Rattle.pk_base.specs.Mark.{Mark, post}
-use Rattle.pk_flash.specs.declared.types.Left.{Left}
+use Rattle.pk_base.{specs.Shape.Shape, specs.Page.Flash, specs.Mark.Mark, specs.Mark.post}
+use Rattle.pk_flash.{specs.declared.types.Left.Left, specs.Plan.left_of, specs.Plan.AnswersBy, specs.Outcomes.outcome}
 use Rattle.pk_flash.specs.declared.types.Left.TheVariants.{Untouched, Torn, Done, Each, WithEven, Part}
-use Rattle.pk_flash.specs.Plan.{left_of, AnswersBy}
-use Rattle.pk_flash.specs.Outcomes.{outcome}
 
 -- A program or an erase: with room for its mark it leaves what was planned, and the trail has it; without, nothing is done.
 pub record ActsBy {X E : Type 0} (shape : Shape) (mark : Mark) (room : ℕ) (left : Option Left) (old new : Flash) (trail trail' : List Mark) (result : Result X E) : Type 0 where

@@ -1,7 +1,6 @@
 -- The board in memory before its first call.
 use Rattle.std.specs.Prelude.{ℕ, List, [], Option, Some, None, is_none}
-use Rattle.pk_base.specs.Shape.{Shape}
-use Rattle.pk_base.specs.Page.{Flash}
+use Rattle.pk_base.{specs.Shape.Shape, specs.Page.Flash}
 use Rattle.pk_nand.specs.BoardState.{BoardState}
 
 -- a board with these pages and this input, which no call was made of

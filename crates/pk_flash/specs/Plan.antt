@@ -1,10 +1,7 @@
 -- Planned failures: which call is to fail, and what it leaves.
 use Rattle.std.specs.Prelude.{◌≡◌, ℕ, ◌==◌, if◌then◌else◌, List, [], ◌∷◌, Option, Some, None, Result, Ok, Err, ⊤}
-use Rattle.pk_nand.specs.Calls.{counted}
-use Rattle.pk_nand.specs.declared.types.PageState.{PageState}
-use Rattle.pk_flash.specs.declared.types.Left.{Left}
-use Rattle.pk_flash.specs.declared.types.Left.TheVariants.{Done}
-use Rattle.pk_flash.specs.declared.types.Planned.{Planned}
+use Rattle.pk_nand.{specs.Calls.counted, specs.declared.types.PageState.PageState}
+use Rattle.pk_flash.{specs.declared.types.Left.Left, specs.declared.types.Left.TheVariants.Done, specs.declared.types.Planned.Planned}
 
 -- the second, or the first if there is none
 abbrev pub later : Option Left → Option Left → Option Left

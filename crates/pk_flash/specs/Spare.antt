@@ -1,6 +1,5 @@
 -- Buffers that are taken before they are needed.
-use Rattle.std.specs.Prelude.{◌≡◌, ◌≤◌, ℕ, List, [], Vec, vec_len, vec_capacity}
-use Rattle.std.specs.List.{All}
+use Rattle.std.{specs.Prelude.◌≡◌, specs.Prelude.◌≤◌, specs.Prelude.ℕ, specs.Prelude.List, specs.Prelude.[], specs.Prelude.Vec, specs.Prelude.vec_len, specs.Prelude.vec_capacity, specs.List.All}
 use Rattle.std.specs.declared.alloc.Global.{Global}
 
 -- an empty buffer with room for n bytes

@@ -1,22 +1,14 @@
 -- Moves that are put into the active buffer.
 use Rattle.std.proofs.Common.{◌≡◌, ◌≢◌, ℕ, ◌+◌, ◌≤◌, refl, ap, ◌∙◌, arith, true, false, cond, T, List, [], ◌∷◌, ◌++◌, length, reverse, count_by, Option, Some, None, is_some}
-use Rattle.std.specs.Prelude.{is_none}
-use Rattle.std.specs.List.{AllByRecursion}
+use Rattle.std.{specs.Prelude.is_none, specs.List.AllByRecursion, proofs.lemmas.List.Sums.sum_by-cons}
 use Rattle.std.specs.FinMap.Entries.{put, find, is_sorted, length-put, is_sorted-put}
-use Rattle.std.proofs.lemmas.List.Sums.{sum_by-cons}
-use Rattle.pk_base.specs.Key.{key_cmp}
-use Rattle.pk_base.specs.Entry.{Entry, Place}
-use Rattle.pk_base.specs.Firsts.{firsts}
+use Rattle.pk_base.{specs.Key.key_cmp, specs.Entry.Entry, specs.Entry.Place, specs.Firsts.firsts}
 use Rattle.pk_model.proofs.MapLemmas.{key_total}
 use Rattle.pk_buf.specs.Table.{Table}
-use Rattle.pk_jrn.specs.Replays.{puts}
-use Rattle.pk_jrn.proofs.Puts.{puts_are_firsts, firsts-reverse}
+use Rattle.pk_jrn.{specs.Replays.puts, proofs.Puts.puts_are_firsts, proofs.Puts.firsts-reverse}
 use Rattle.pk_law_moves.specs.Moves.{entries_of}
-use Rattle.pk_gc.specs.declared.moves.Move.{Move}
+use Rattle.pk_gc.{specs.declared.moves.Move.Move, specs.Running.AreInOrder, specs.Committing.entries_left, specs.Buffering.MovesBuffered, specs.Buffering.MovesFit}
 use Rattle.pk_gc.specs.State.{placed_at, new_place, is_left, left_of, is_new, heads_behind, entries_behind, entries_all}
-use Rattle.pk_gc.specs.Running.{AreInOrder}
-use Rattle.pk_gc.specs.Committing.{entries_left}
-use Rattle.pk_gc.specs.Buffering.{MovesBuffered, MovesFit}
 use Rattle.pk_gc.proofs.Ending.{InBlocks, lefts_same, fewer_new, in_blocks}
 
 module _ (n victim output : ℕ) (other : victim ≢ output) where

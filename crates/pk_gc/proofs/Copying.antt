@@ -1,28 +1,19 @@
 -- A reclaim that runs, after a read and after a program.
 use Rattle.std.proofs.Common.{◌≡◌, ◌≢◌, ◌⊎◌, inl, inr, ℕ, ◌+◌, ◌-◌, ◌*◌, ◌/◌, ◌%◌, ◌<◌, ◌≤◌, refl, sym, ap, subst, ◌∙◌, arith, true, List, [], ◌∷◌, ◌++◌, length, length-append}
-use Rattle.std.specs.Prelude.{slice_set}
-use Rattle.std.specs.List.{AllByRecursion}
-use Rattle.std.proofs.lemmas.Bool.{cases_lt, cases_eq}
-use Rattle.pk_base.specs.Key.{Key}
-use Rattle.pk_base.specs.Shape.{Shape, IsShape, charge}
-use Rattle.pk_base.specs.Page.{Page, Flash, IsFlash, page_at, erased, whole}
-use Rattle.pk_base.specs.Entry.{Place}
-use Rattle.pk_base.specs.EntryChecks.{IsPlace}
-use Rattle.pk_nand.proofs.Leaving.{page_at-slice_set, page_at-slice_set_same}
-use Rattle.pk_nand.specs.Operations.{InOrder}
-use Rattle.std.proofs.Math.Nat.{mul_comm}
+use Rattle.std.{specs.Prelude.slice_set, specs.List.AllByRecursion, proofs.lemmas.Bool.cases_lt, proofs.lemmas.Bool.cases_eq, proofs.Math.Nat.mul_comm}
 use Rattle.std.proofs.lemmas.Nat.{div-add-mod', div-mul-add}
-use Rattle.pk_pool.proofs.Fitting.{in_block, even_start}
+use Rattle.pk_base.{specs.Key.Key, specs.Shape.Shape, specs.Shape.IsShape, specs.Shape.charge, specs.Entry.Place, specs.EntryChecks.IsPlace, proofs.BlockLemmas.apart}
+use Rattle.pk_base.specs.Page.{Page, Flash, IsFlash, page_at, erased, whole}
 use Rattle.pk_base.proofs.ShapeLemmas.{block_pages_positive, charge_even}
-use Rattle.pk_gc.specs.declared.course.Course.{Course}
-use Rattle.pk_gc.specs.declared.moves.Move.{Move}
+use Rattle.pk_nand.{proofs.Leaving.page_at-slice_set, proofs.Leaving.page_at-slice_set_same, specs.Operations.InOrder}
+use Rattle.pk_pool.proofs.Fitting.{in_block, even_start}
+use Rattle.pk_gc.{specs.declared.course.Course.Course, specs.declared.moves.Move.Move}
 use Rattle.pk_gc.specs.State.{placed_at, new_place, source, target, read_next, programmed, begun_at, started}
 use Rattle.pk_gc.specs.Running.{AreInOrder, IsMove, IsRunning, IsNextValue, begun_move}
 use Rattle.pk_segfmt.proofs.StoredLemmas.{charge_some}
 use Rattle.pk_model.specs.Laws.{AnyByRecursion}
 use Rattle.pk_law_steps.specs.Under.{IsValuePage}
 use Rattle.pk_law_moves.specs.Moves.{AreApart}
-use Rattle.pk_base.proofs.BlockLemmas.{apart}
 
 -- pages of two blocks differ
 pub disjoint : (n v o k p : ℕ) → v ≢ o → v * n ≤ k → k < v * n + n → o * n ≤ p → p < o * n + n → k ≡ p → ⊥

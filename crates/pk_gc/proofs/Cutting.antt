@@ -1,39 +1,19 @@
 -- Every cut of the commit of the moves holds the map.
 use Rattle.std.proofs.Common.{◌≡◌, inl, inr, ℕ, ◌+◌, ◌-◌, ◌%◌, ◌<◌, ◌≤◌, refl, sym, ap, subst, ◌∙◌, arith, false, true, List, [], Some, le_refl}
-use Rattle.pk_base.specs.Shape.{Shape, IsShape, epoch_pages, epoch_commits}
-use Rattle.pk_base.specs.Page.{Page, Flash, page_at, whole, page_in, commit_page, commit_at}
-use Rattle.pk_base.specs.Entry.{Entry, Place}
-use Rattle.pk_base.specs.Key.{Key}
-use Rattle.pk_base.specs.Map.{Map}
-use Rattle.pk_base.specs.Mark.{program, after}
+use Rattle.pk_base.{specs.Shape.Shape, specs.Shape.IsShape, specs.Shape.epoch_pages, specs.Shape.epoch_commits, specs.Entry.Entry, specs.Entry.Place, specs.Key.Key, specs.Map.Map}
+use Rattle.pk_base.{specs.Page.Page, specs.Page.Flash, specs.Page.page_at, specs.Page.whole, specs.Page.page_in, specs.Page.commit_page, specs.Page.commit_at, specs.Mark.program, specs.Mark.after}
 use Rattle.pk_base.proofs.CommitPages.{even_page}
-use Rattle.pk_nand.specs.BoardState.{BoardState}
-use Rattle.pk_nand.specs.Cut.{Interrupted}
-use Rattle.pk_nand.specs.Calls.{IsReady, after_program, ProgramFailed}
-use Rattle.pk_nand.specs.Pairs.{IsPairCut}
-use Rattle.pk_nand.proofs.Leaving.{page_at-slice_set, page_at-slice_set_same}
-use Rattle.pk_nand.proofs.Pairing.{IsPairCut-cut, IsPairCut-done}
+use Rattle.pk_nand.{specs.BoardState.BoardState, specs.Cut.Interrupted, specs.Calls.IsReady, specs.Calls.after_program, specs.Calls.ProgramFailed, specs.Pairs.IsPairCut}
+use Rattle.pk_nand.{proofs.Leaving.page_at-slice_set, proofs.Leaving.page_at-slice_set_same, proofs.Pairing.IsPairCut-cut, proofs.Pairing.IsPairCut-done}
 use Rattle.pk_pair.proofs.PairLemmas.{pair_exists}
 use Rattle.pk_jrnfmt.specs.Page.{journal_entries, journal_bytes}
-use Rattle.pk_rootfmt.specs.Root.{Root}
-use Rattle.pk_rootfmt.specs.Newest.{newest_root}
-use Rattle.pk_jrn.specs.Epochs.{JournalEpoch, left_of, next_page, before_half}
-use Rattle.pk_jrn.specs.Appends.{next_bytes, last_bytes, IsHalfMade}
+use Rattle.pk_rootfmt.{specs.Root.Root, specs.Newest.newest_root}
+use Rattle.pk_jrn.{specs.Epochs.JournalEpoch, specs.Epochs.left_of, specs.Epochs.next_page, specs.Epochs.before_half, specs.Appends.next_bytes, specs.Appends.last_bytes, specs.Appends.IsHalfMade}
 use Rattle.pk_jrn.proofs.Appending.{takes_more, commit_left}
-use Rattle.pk_model.specs.Found.{Found}
-use Rattle.pk_model.specs.Laws.{IsWholePage, IsCommit}
-use Rattle.pk_model.specs.Growth.{Grows, Goes}
-use Rattle.pk_model.specs.Crashes.{CrashFinds, background}
-use Rattle.pk_model.specs.Spaces.{limits_at}
-use Rattle.pk_model.proofs.Growing.{top_limits}
-use Rattle.pk_model.proofs.Running.{Reaches-program, Goes-program}
-use Rattle.pk_law_steps.specs.Under.{IsUnder}
-use Rattle.pk_law_steps.specs.Roots.{committed}
-use Rattle.pk_model.proofs.Commits.{commit_start}
-use Rattle.pk_law_steps.proofs.Untouched.{under_reads}
-use Rattle.pk_law_steps.proofs.NewestBlocks.{newest_exist, valid_root}
-use Rattle.pk_law_moves.specs.Moves.{entries_of, CanMove}
-use Rattle.pk_law_moves.proofs.Moving.{moves_pair, moves_committed}
+use Rattle.pk_model.{specs.Found.Found, specs.Laws.IsWholePage, specs.Laws.IsCommit, specs.Growth.Grows, specs.Growth.Goes, specs.Crashes.CrashFinds, specs.Crashes.background, specs.Spaces.limits_at}
+use Rattle.pk_model.{proofs.Growing.top_limits, proofs.Running.Reaches-program, proofs.Running.Goes-program, proofs.Commits.commit_start}
+use Rattle.pk_law_steps.{specs.Under.IsUnder, specs.Roots.committed, proofs.Untouched.under_reads, proofs.NewestBlocks.newest_exist, proofs.NewestBlocks.valid_root}
+use Rattle.pk_law_moves.{specs.Moves.entries_of, specs.Moves.CanMove, proofs.Moving.moves_pair, proofs.Moving.moves_committed}
 use Rattle.pk_gc.specs.Cuts.{Journals, IsHalfMoved, MovesStand, CommitBegins, CommitBeginFails, CommitEnds, CommitEndFails}
 
 -- ---- the pair of a commit of moves, seen from the flash before its first program

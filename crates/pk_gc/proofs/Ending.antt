@@ -1,41 +1,22 @@
 -- The moves that remain can be made, and leave no head in the victim.
 use Rattle.std.proofs.Common.{◌≡◌, ◌≢◌, ◌⊎◌, inl, inr, ℕ, zero, suc, ◌+◌, ◌*◌, ◌/◌, ◌%◌, ◌<◌, ◌≤◌, refl, sym, ap, subst, ◌∙◌, arith, Bool, true, false, cond, T, List, [], ◌∷◌, length, take, drop, sum}
 use Rattle.std.proofs.Common.{get_or, count_by, ◌==◌, Option, Some, None}
-use Rattle.std.specs.Prelude.{slice_get, slice_set, slice_index, IsSome, is_some, is_none, nat_lt}
-use Rattle.std.specs.List.{AllByRecursion}
-use Rattle.std.specs.Ordering.{eq_by_cmp}
+use Rattle.std.specs.Prelude.{slice_get, slice_set, slice_index, IsSome, is_some, is_none, nat_lt, unwrap_or}
+use Rattle.std.{specs.List.AllByRecursion, specs.Ordering.eq_by_cmp, proofs.lemmas.List.Sums.sum_by-cons, proofs.Math.Nat.mul_comm, proofs.lemmas.List.get_or-drop}
 use Rattle.std.specs.FinMap.Entries.{put, find, is_sorted, find-put, length-put, is_sorted-put}
-use Rattle.std.proofs.lemmas.List.Sums.{sum_by-cons}
 use Rattle.std.proofs.lemmas.Bool.{cases_eq, cases_lt, eq-eqb, ne_eqb, ltb-true, ltb-false}
 use Rattle.std.proofs.lemmas.Option.{same_Some, slice_get_within, slice_get-get_or, unwrap_or-slice_get}
-use Rattle.std.specs.Prelude.{unwrap_or}
-use Rattle.pk_base.specs.Key.{Key, key_cmp}
-use Rattle.pk_base.specs.Shape.{Shape, IsShape, charge}
-use Rattle.pk_base.specs.Page.{Flash}
-use Rattle.pk_base.specs.Entry.{Entry, Place}
+use Rattle.pk_base.{specs.Key.Key, specs.Key.key_cmp, specs.Shape.Shape, specs.Shape.IsShape, specs.Shape.charge, specs.Page.Flash, specs.Entry.Entry, specs.Entry.Place, proofs.BlockLemmas.apart}
 use Rattle.pk_segfmt.proofs.StoredLemmas.{charge_some}
-use Rattle.pk_model.specs.Laws.{AnyByRecursion, IsPageOf}
-use Rattle.pk_model.proofs.MapLemmas.{key_total}
+use Rattle.pk_model.{specs.Laws.AnyByRecursion, specs.Laws.IsPageOf, proofs.MapLemmas.key_total}
 use Rattle.pk_law_steps.specs.Under.{IsValuePage}
-use Rattle.pk_pool.proofs.States.{get-set_other}
-use Rattle.pk_live.specs.Lives.{head_of}
-use Rattle.pk_law_moves.specs.Moves.{AreApart, entries_of}
-use Rattle.pk_gc.specs.declared.course.Course.{Course}
-use Rattle.pk_gc.specs.declared.moves.Move.{Move}
+use Rattle.pk_pool.{proofs.States.get-set_other, proofs.Fitting.block_of}
+use Rattle.pk_live.{specs.Lives.head_of, specs.Values.block_sum}
+use Rattle.pk_law_moves.{specs.Moves.AreApart, specs.Moves.entries_of, proofs.Emptying.found_page}
+use Rattle.pk_gc.{specs.declared.course.Course.Course, specs.declared.moves.Move.Move, specs.Running.AreInOrder, specs.Running.IsMove, specs.Running.IsRunning, specs.Stepping.Hands}
 use Rattle.pk_gc.specs.State.{JobState, source, placed_at, new_place, moved_entry, is_left, left_of, is_new, heads_behind, entries_behind, heads_all, CanGo, CanGoAll}
-use Rattle.pk_gc.specs.Running.{AreInOrder, IsMove, IsRunning}
-use Rattle.pk_gc.specs.Committing.{entries_left, HasRoom}
-use Rattle.pk_gc.specs.Stepping.{Hands}
-use Rattle.pk_gc.specs.Ending.{CanGive, GivesUp}
-use Rattle.pk_gc.proofs.Copying.{disjoint}
-use Rattle.pk_gc.proofs.Finishing.{begins}
-use Rattle.pk_pool.proofs.Fitting.{block_of}
-use Rattle.std.proofs.Math.Nat.{mul_comm}
-use Rattle.std.proofs.lemmas.List.{get_or-drop}
-use Rattle.pk_live.specs.Values.{block_sum}
+use Rattle.pk_gc.{specs.Committing.entries_left, specs.Committing.HasRoom, specs.Ending.CanGive, specs.Ending.GivesUp, proofs.Copying.disjoint, proofs.Finishing.begins}
 use Rattle.pk_plan.specs.declared.owner.Owner.TheVariants.{Values as for_values}
-use Rattle.pk_base.proofs.BlockLemmas.{apart}
-use Rattle.pk_law_moves.proofs.Emptying.{found_page}
 
 -- a head other than those of a move is unchanged
 stays : (heads : List ℕ) (m : Move) (k : ℕ) → k ≢ m.from → k ≢ m.to → slice_get (heads_behind heads m) k ≡ slice_get heads k

@@ -1,34 +1,19 @@
 -- The moves of a victim that is copied.
 use Rattle.std.proofs.Common.{◌≡◌, inl, inr, ℕ, ◌+◌, ◌/◌, ◌<◌, ◌≤◌, refl, sym, ap, subst, ◌∙◌, arith, true, false, cond, T, List, [], ◌∷◌, ◌==◌, Some, None, eqb→eq, le_trans, le_of_eq}
-use Rattle.std.specs.Prelude.{slice_index}
-use Rattle.std.specs.List.{AllByRecursion}
-use Rattle.std.specs.Ordering.{eq_by_cmp}
-use Rattle.std.specs.Cmp.{tied_itself}
+use Rattle.std.{specs.Prelude.slice_index, specs.List.AllByRecursion, specs.Ordering.eq_by_cmp, specs.Cmp.tied_itself}
 use Rattle.std.specs.FinMap.Entries.{find, is_sorted, below_all}
 use Rattle.std.proofs.lemmas.Bool.{cases_lt, eq-eqb, ltb-true, ltb-false}
-use Rattle.pk_base.specs.Key.{Key, key_cmp}
-use Rattle.pk_base.specs.Shape.{Shape, IsShape, charge}
-use Rattle.pk_base.specs.Page.{Flash, page_at}
-use Rattle.pk_base.specs.Entry.{Place}
-use Rattle.pk_base.proofs.ShapeLemmas.{block_pages_positive}
+use Rattle.pk_base.{specs.Key.Key, specs.Key.key_cmp, specs.Shape.Shape, specs.Shape.IsShape, specs.Shape.charge, specs.Page.Flash, specs.Page.page_at, specs.Entry.Place, specs.EntryChecks.IsEntry}
+use Rattle.pk_base.{proofs.ShapeLemmas.block_pages_positive, proofs.Logic.left_part, proofs.Logic.right_part}
 use Rattle.pk_segfmt.proofs.StoredLemmas.{charge_some}
 use Rattle.pk_rootfmt.specs.Root.{named}
-use Rattle.pk_model.specs.Laws.{AnyByRecursion}
-use Rattle.pk_model.proofs.MapLemmas.{key_total, missing}
-use Rattle.pk_model.proofs.Lookups.{same_key}
+use Rattle.pk_model.{specs.Laws.AnyByRecursion, proofs.MapLemmas.key_total, proofs.MapLemmas.missing, proofs.Lookups.same_key}
 use Rattle.pk_law_steps.specs.Under.{IsValuePage, places}
 use Rattle.pk_pool.proofs.Fitting.{in_block, block_of}
 use Rattle.pk_live.specs.Lives.{head_of}
-use Rattle.pk_base.specs.EntryChecks.{IsEntry}
-use Rattle.pk_law_moves.specs.Moves.{entries_of, IsCopy, AreCopies, AreApart}
-use Rattle.pk_law_moves.specs.Victims.{AreMoved}
-use Rattle.pk_law_moves.proofs.Emptying.{lie_in_others}
-use Rattle.pk_gc.specs.declared.course.Course.{Course}
-use Rattle.pk_gc.specs.declared.moves.Move.{Move}
-use Rattle.pk_gc.specs.State.{placed_at, new_place, is_left, left_of, source}
-use Rattle.pk_gc.specs.Running.{IsMove}
-use Rattle.pk_gc.specs.Copied.{IsCopied, Empties, MayMove}
-use Rattle.pk_base.proofs.Logic.{left_part, right_part}
+use Rattle.pk_law_moves.{specs.Moves.entries_of, specs.Moves.IsCopy, specs.Moves.AreCopies, specs.Moves.AreApart, specs.Victims.AreMoved, proofs.Emptying.lie_in_others}
+use Rattle.pk_gc.{specs.declared.course.Course.Course, specs.declared.moves.Move.Move, specs.State.placed_at, specs.State.new_place, specs.State.is_left, specs.State.left_of, specs.State.source}
+use Rattle.pk_gc.{specs.Running.IsMove, specs.Copied.IsCopied, specs.Copied.Empties, specs.Copied.MayMove}
 
 -- ---- heads and values
 

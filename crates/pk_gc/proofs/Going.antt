@@ -1,33 +1,15 @@
 -- The first head that was not seen is that of the next value.
 use Rattle.std.proofs.Common.{◌≡◌, inl, inr, ℕ, ◌+◌, ◌-◌, ◌*◌, ◌/◌, ◌%◌, ◌<◌, ◌≤◌, refl, sym, ap, subst, ◌∙◌, arith, true, false, cond, List, [], ◌∷◌, length, Option, Some, add-zero}
-use Rattle.std.specs.Prelude.{slice_index}
-use Rattle.std.specs.List.{AllByRecursion}
-use Rattle.std.specs.Ordering.{eq_by_cmp}
-use Rattle.std.specs.FinMap.Entries.{find}
-use Rattle.std.proofs.lemmas.Bool.{cases_lt}
-use Rattle.std.proofs.lemmas.Nat.{div-add-mod'}
+use Rattle.std.{specs.Prelude.slice_index, specs.List.AllByRecursion, specs.Ordering.eq_by_cmp, specs.FinMap.Entries.find, proofs.lemmas.Bool.cases_lt, proofs.lemmas.Nat.div-add-mod'}
 use Rattle.std.proofs.Math.Nat.{mul-div-le}
-use Rattle.pk_base.specs.Key.{Key, IsKey, key_cmp}
-use Rattle.pk_base.specs.Shape.{Shape, charge, dense}
-use Rattle.pk_base.specs.Page.{page_at}
-use Rattle.pk_base.specs.Entry.{Place}
-use Rattle.pk_base.specs.EntryChecks.{IsPlace}
-use Rattle.pk_segfmt.specs.Head.{IsHead}
-use Rattle.pk_segfmt.specs.Value.{head_bytes}
-use Rattle.pk_segfmt.specs.Stored.{page_of}
-use Rattle.pk_segfmt.proofs.StoredLemmas.{charge_some, value_found, first_starts}
-use Rattle.pk_model.specs.Laws.{IsPageOf}
-use Rattle.pk_model.proofs.Lookups.{same_key}
+use Rattle.pk_base.{specs.Key.Key, specs.Key.IsKey, specs.Key.key_cmp, specs.Shape.Shape, specs.Shape.charge, specs.Shape.dense, specs.Page.page_at, specs.Entry.Place, specs.EntryChecks.IsPlace}
+use Rattle.pk_segfmt.{specs.Head.IsHead, specs.Value.head_bytes, specs.Stored.page_of, proofs.StoredLemmas.charge_some, proofs.StoredLemmas.value_found, proofs.StoredLemmas.first_starts}
+use Rattle.pk_model.{specs.Laws.IsPageOf, proofs.Lookups.same_key}
 use Rattle.pk_pool.proofs.Fitting.{block_of}
 use Rattle.pk_live.specs.Lives.{head_of}
-use Rattle.pk_law_moves.specs.Moves.{AreApart}
-use Rattle.pk_gc.specs.State.{source, unseen, live_from, live_unseen}
-use Rattle.pk_gc.specs.Running.{IsWholeAt}
-use Rattle.pk_gc.specs.Going.{NextIsValue}
-use Rattle.pk_gc.proofs.Finishing.{begins, begun}
-use Rattle.pk_gc.proofs.Ending.{head_found}
-use Rattle.pk_gc.proofs.Counting.{live_begins}
-use Rattle.pk_law_moves.proofs.Emptying.{found_page}
+use Rattle.pk_law_moves.{specs.Moves.AreApart, proofs.Emptying.found_page}
+use Rattle.pk_gc.{specs.State.source, specs.State.unseen, specs.State.live_from, specs.State.live_unseen, specs.Running.IsWholeAt, specs.Going.NextIsValue, proofs.Ending.head_found}
+use Rattle.pk_gc.{proofs.Finishing.begins, proofs.Finishing.begun, proofs.Counting.live_begins}
 
 found_all : (P : Key × Place → Type 0) (key : Key) (place : Place) (es : List (Key × Place)) → AllByRecursion P es → find key_cmp key es ≡ Some place → P (key, place)
 found_all P key place [] all found = cc

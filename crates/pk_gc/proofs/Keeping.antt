@@ -1,23 +1,14 @@
 -- A reclaim that runs, whatever others do.
 use Rattle.std.proofs.Common.{◌≡◌, inl, inr, ℕ, ◌+◌, ◌*◌, ◌/◌, ◌<◌, ◌≤◌, sym, ap, subst, ◌∙◌, arith, true, false, not, cond, List, [], ◌∷◌, filter, Some, None}
-use Rattle.std.specs.Ordering.{eq_by_cmp}
-use Rattle.std.specs.FinMap.Entries.{put, find, find-put, find-where_key}
-use Rattle.pk_base.specs.Key.{Key, key_cmp}
-use Rattle.pk_base.specs.Shape.{Shape}
-use Rattle.pk_base.specs.Page.{Flash, page_at}
-use Rattle.pk_base.specs.Entry.{Place}
+use Rattle.std.{specs.Ordering.eq_by_cmp, specs.FinMap.Entries.put, specs.FinMap.Entries.find, specs.FinMap.Entries.find-put, specs.FinMap.Entries.find-where_key}
+use Rattle.pk_base.{specs.Key.Key, specs.Key.key_cmp, specs.Shape.Shape, specs.Page.Flash, specs.Page.page_at, specs.Entry.Place}
 use Rattle.pk_segfmt.proofs.StoredLemmas.{charge_some}
-use Rattle.pk_model.specs.Laws.{IsPageOf}
-use Rattle.pk_model.proofs.MapLemmas.{key_total, key_antisymm}
+use Rattle.pk_model.{specs.Laws.IsPageOf, proofs.MapLemmas.key_total, proofs.MapLemmas.key_antisymm}
 use Rattle.pk_law_steps.specs.Under.{IsValuePage}
 use Rattle.pk_pool.proofs.Fitting.{block_of}
 use Rattle.pk_law_moves.proofs.Moved.{page_put}
-use Rattle.pk_gc.specs.declared.course.Course.{Course}
-use Rattle.pk_gc.specs.declared.moves.Move.{Move}
-use Rattle.pk_gc.specs.State.{source}
-use Rattle.pk_gc.specs.Running.{IsMove, IsRunning}
+use Rattle.pk_gc.{specs.declared.course.Course.Course, specs.declared.moves.Move.Move, specs.State.source, specs.Running.IsMove, specs.Running.IsRunning, proofs.Copying.map_all}
 use Rattle.pk_gc.specs.Keeping.{RunsElsewhere, RunsStored, RunsDeleted}
-use Rattle.pk_gc.proofs.Copying.{map_all}
 
 pub runs_elsewhere : RunsElsewhere
 runs_elsewhere shape c moves page old new es runs same = record {

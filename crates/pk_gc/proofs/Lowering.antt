@@ -1,33 +1,20 @@
 -- Each step of a reclaim lowers what remains of it.
 use Rattle.std.proofs.Common.{◌≡◌, ◌≢◌, inl, inr, ℕ, zero, suc, ◌+◌, ◌-◌, ◌*◌, ◌<◌, ◌≤◌, refl, sym, ap, subst, ◌∙◌, arith, true, false, List, [], ◌∷◌, take, sum, Option, Some, None}
-use Rattle.std.specs.Prelude.{slice_get, slice_index, unwrap_or, MatchOption}
-use Rattle.std.proofs.lemmas.Bool.{cases_eq}
-use Rattle.std.proofs.lemmas.List.Sums.{sum_by-cons}
+use Rattle.std.{specs.Prelude.slice_get, specs.Prelude.slice_index, specs.Prelude.unwrap_or, specs.Prelude.MatchOption, proofs.lemmas.Bool.cases_eq, proofs.lemmas.List.Sums.sum_by-cons}
 use Rattle.pk_base.specs.Shape.{Shape, charge, dense}
 use Rattle.pk_segfmt.proofs.StoredLemmas.{charge_some}
-use Rattle.pk_law_work.specs.Rest.{steps_of, left_of, whole_reclaim, Lowers}
-use Rattle.pk_law_work.specs.Jobs.{reclaim_rest}
+use Rattle.pk_law_work.{specs.Rest.steps_of, specs.Rest.left_of, specs.Rest.whole_reclaim, specs.Rest.Lowers, specs.Jobs.reclaim_rest}
 use Rattle.pk_plan.specs.declared.owner.Owner.TheVariants.{Values as for_values}
 use Rattle.pk_nand.specs.BoardState.{BoardState}
-use Rattle.pk_pool.specs.declared.state.BlockState.TheVariants.{Free, Owned}
-use Rattle.pk_pool.specs.Blocks.{Blocks, IsOwned, with_state}
-use Rattle.pk_pool.specs.Unready.{unready}
-use Rattle.pk_pool.proofs.States.{get-set_other}
-use Rattle.pk_pool.proofs.Counting.{given_back, take_pays}
-use Rattle.pk_live.specs.Values.{Values, IsClosed, block_sum}
-use Rattle.pk_gc.specs.declared.course.Course.{Course}
-use Rattle.pk_gc.specs.declared.course.Phase.{Phase}
+use Rattle.pk_pool.{specs.declared.state.BlockState.TheVariants.Free, specs.declared.state.BlockState.TheVariants.Owned, specs.Blocks.Blocks, specs.Blocks.IsOwned, specs.Blocks.with_state}
+use Rattle.pk_pool.{specs.Unready.unready, proofs.States.get-set_other, proofs.Counting.given_back, proofs.Counting.take_pays}
+use Rattle.pk_live.{specs.Values.Values, specs.Values.IsClosed, specs.Values.block_sum, specs.declared.open_block.OpenBlock.OpenBlock, specs.OpenBlocks.closed_with}
+use Rattle.pk_gc.{specs.declared.course.Course.Course, specs.declared.course.Phase.Phase, specs.declared.reclaimed.Reclaimed.Reclaimed, specs.Beginning.Begins, specs.Committing.entries_left}
 use Rattle.pk_gc.specs.declared.course.Phase.TheVariants.{Idle, Copies, Commits, GivesBack}
-use Rattle.pk_live.specs.declared.open_block.OpenBlock.{OpenBlock}
-use Rattle.pk_gc.specs.declared.reclaimed.Reclaimed.{Reclaimed}
 use Rattle.pk_gc.specs.declared.reclaimed.Reclaimed.TheVariants.{Worked, NeedsFreeze, Ended}
 use Rattle.pk_gc.specs.State.{JobState, unseen, live_from, live_unseen, steps_left, left_in, read_next, programmed, started}
-use Rattle.pk_live.specs.OpenBlocks.{closed_with}
-use Rattle.pk_gc.specs.Victims.{HoldsValues, IsFull, Chooses}
-use Rattle.pk_gc.specs.Beginning.{Begins}
+use Rattle.pk_gc.{specs.Victims.HoldsValues, specs.Victims.IsFull, specs.Victims.Chooses, specs.Lowering.left_behind, specs.Lowering.StepLowers, specs.Lowering.LiveOfBlock}
 use Rattle.pk_gc.specs.Stepping.{Hands, CanGoOn, CanStepIn, StepsIn, ReclaimGoesOn, Tries}
-use Rattle.pk_gc.specs.Committing.{entries_left}
-use Rattle.pk_gc.specs.Lowering.{left_behind, StepLowers, LiveOfBlock}
 use Rattle.pk_gc.proofs.Counting.{read_falls, program_falls, begin_falls}
 
 -- ---- live pages

@@ -4,18 +4,13 @@ use Rattle.std.specs.Prelude.{slice_index}
 use Rattle.pk_base.specs.Shape.{Shape}
 use Rattle.pk_nand.specs.BoardState.{BoardState}
 use Rattle.pk_jrn.specs.Epochs.{JournalEpoch}
-use Rattle.pk_gc.specs.declared.course.Course.{Course}
-use Rattle.pk_gc.specs.declared.reclaimed.Reclaimed.{Reclaimed}
-use Rattle.pk_gc.specs.declared.reclaimed.Committed.{Committed}
+use Rattle.pk_gc.{specs.declared.course.Course.Course, specs.declared.reclaimed.Reclaimed.Reclaimed, specs.declared.reclaimed.Committed.Committed, specs.declared.moves.Move.Move}
 use Rattle.pk_gc.specs.declared.reclaimed.Committed.TheVariants.{None, NeedsFreeze, All}
-use Rattle.pk_gc.specs.declared.course.Phase.TheVariants.{Idle, Commits}
-use Rattle.pk_live.specs.Values.{block_sum}
-use Rattle.pk_gc.specs.declared.moves.Move.{Move}
-use Rattle.pk_gc.specs.State.{JobState, CanGoAll, heads_all, source}
-use Rattle.pk_gc.specs.Victims.{AreDead}
-use Rattle.pk_gc.specs.Committing.{BecameOf, Adds, Refuses, entries_left}
+use Rattle.pk_gc.{specs.declared.course.Phase.TheVariants.Idle, specs.declared.course.Phase.TheVariants.Commits, specs.State.JobState, specs.State.CanGoAll, specs.State.heads_all, specs.State.source}
+use Rattle.pk_gc.{specs.Victims.AreDead, specs.Committing.BecameOf, specs.Committing.Adds, specs.Committing.Refuses, specs.Committing.entries_left}
 use Rattle.pk_gc.specs.Stepping.{Hands, CanEnd, Finishes, moved_in, handed_over, victim_given}
 use Rattle.pk_gc.specs.Asking.{CanFinish, ReclaimFinished, IsBehindCommit}
+use Rattle.pk_live.specs.Values.{block_sum}
 
 -- ---- the search for the next head
 

@@ -1,31 +1,17 @@
 -- What each part of a step asks, and what it answers.
-use Rattle.std.specs.Prelude.{◌≡◌, ℕ, ◌-◌, ◌*◌, ◌<◌, List, [], ◌∷◌, ◌++◌}
-use Rattle.std.specs.Prelude.{length, Option, MatchOption}
-use Rattle.pk_base.specs.Key.{Key}
-use Rattle.pk_base.specs.Shape.{Shape, charge, dense}
-use Rattle.pk_base.specs.Page.{Flash}
-use Rattle.pk_base.specs.Entry.{Entry, Place}
-use Rattle.pk_nand.specs.BoardState.{BoardState}
-use Rattle.pk_nand.specs.Operations.{after_read, ReadFailed}
-use Rattle.pk_nand.specs.declared.types.Fault.{Fault}
+use Rattle.std.specs.Prelude.{◌≡◌, ℕ, ◌-◌, ◌*◌, ◌<◌, List, [], ◌∷◌, ◌++◌, length, Option, MatchOption}
+use Rattle.pk_base.{specs.Key.Key, specs.Shape.Shape, specs.Shape.charge, specs.Shape.dense, specs.Page.Flash, specs.Entry.Entry, specs.Entry.Place}
+use Rattle.pk_nand.{specs.BoardState.BoardState, specs.Operations.after_read, specs.Operations.ReadFailed, specs.declared.types.Fault.Fault}
 use Rattle.pk_nand.specs.declared.types.Fault.TheVariants.{Reading, Stopped}
-use Rattle.pk_live.specs.Values.{Values, IsClosed, block_sum}
+use Rattle.pk_live.{specs.Values.Values, specs.Values.IsClosed, specs.Values.block_sum, specs.declared.open_block.OpenBlock.OpenBlock}
 use Rattle.pk_buf.specs.Table.{Table}
 use Rattle.pk_jrn.specs.Epochs.{JournalEpoch, AreBlocks, EpochOnFlash}
 use Rattle.pk_pool.specs.Blocks.{Blocks, IsOwned, PoolOnFlash}
-use Rattle.pk_gc.specs.declared.course.Course.{Course}
-use Rattle.pk_gc.specs.declared.course.Phase.TheVariants.{Idle, Copies, Commits}
-use Rattle.pk_gc.specs.declared.moves.Move.{Move}
-use Rattle.pk_live.specs.declared.open_block.OpenBlock.{OpenBlock}
-use Rattle.pk_gc.specs.declared.reclaimed.Reclaimed.{Reclaimed}
+use Rattle.pk_gc.{specs.declared.course.Course.Course, specs.declared.course.Phase.TheVariants.Idle, specs.declared.course.Phase.TheVariants.Copies, specs.declared.course.Phase.TheVariants.Commits}
+use Rattle.pk_gc.{specs.declared.moves.Move.Move, specs.declared.reclaimed.Reclaimed.Reclaimed, specs.declared.reclaimed.Committed.Committed, specs.Victims.IsFull, specs.Committing.FailsToAdd}
 use Rattle.pk_gc.specs.declared.reclaimed.Reclaimed.TheVariants.{Worked, NeedsFreeze, Ended}
-use Rattle.pk_gc.specs.declared.reclaimed.Committed.{Committed}
-use Rattle.pk_gc.specs.declared.reclaimed.Committed.TheVariants.{None as NoneLeft}
-use Rattle.pk_gc.specs.declared.reclaimed.Committed.TheVariants.{NeedsFreeze as NoRoom, All}
-use Rattle.pk_gc.specs.State.{JobState, CanGoAll, heads_all, begun_at}
-use Rattle.pk_gc.specs.Running.{IsRunning, IsNextValue, begun_move}
-use Rattle.pk_gc.specs.Victims.{IsFull}
-use Rattle.pk_gc.specs.Committing.{FailsToAdd}
+use Rattle.pk_gc.specs.declared.reclaimed.Committed.TheVariants.{None as NoneLeft, NeedsFreeze as NoRoom, All}
+use Rattle.pk_gc.{specs.State.JobState, specs.State.CanGoAll, specs.State.heads_all, specs.State.begun_at, specs.Running.IsRunning, specs.Running.IsNextValue, specs.Running.begun_move}
 use Rattle.pk_gc.specs.Stepping.{Hands, moved_in, handed_over, victim_given}
 
 -- the parts that a step is handed

@@ -2,18 +2,12 @@
 use Rattle.std.specs.Prelude.{◌≡◌, ◌⊎◌, ℕ, ◌<◌, ◌≤◌, [], false, Option, slice_set}
 use Rattle.pk_base.specs.declared.sizes.TheConstants.{ROOT_BLOCKS}
 use Rattle.pk_plan.specs.declared.owner.Owner.TheVariants.{Values as for_values}
-use Rattle.pk_nand.specs.BoardState.{BoardState}
-use Rattle.pk_nand.specs.Operations.{IsErasedBlock}
-use Rattle.pk_pool.specs.declared.state.BlockState.TheVariants.{Free, Owned}
-use Rattle.pk_pool.specs.Blocks.{Blocks, IsSpare, with_state}
+use Rattle.pk_nand.{specs.BoardState.BoardState, specs.Operations.IsErasedBlock}
+use Rattle.pk_pool.{specs.declared.state.BlockState.TheVariants.Free, specs.declared.state.BlockState.TheVariants.Owned, specs.Blocks.Blocks, specs.Blocks.IsSpare, specs.Blocks.with_state}
 use Rattle.pk_pool.specs.Taking.{ReachesIn, TakesReady, ErasesFree}
-use Rattle.pk_live.specs.Values.{Values, count_of}
-use Rattle.pk_live.specs.declared.open_block.OpenBlock.{OpenBlock}
-use Rattle.pk_gc.specs.declared.reclaimed.Reclaimed.{Reclaimed}
+use Rattle.pk_live.{specs.Values.Values, specs.Values.count_of, specs.declared.open_block.OpenBlock.OpenBlock}
+use Rattle.pk_gc.{specs.declared.reclaimed.Reclaimed.Reclaimed, specs.declared.course.Phase.TheVariants.Copies, specs.State.JobState, specs.State.started, specs.Victims.Chooses}
 use Rattle.pk_gc.specs.declared.reclaimed.Reclaimed.TheVariants.{Worked, NeedsFreeze, Ended}
-use Rattle.pk_gc.specs.declared.course.Phase.TheVariants.{Copies}
-use Rattle.pk_gc.specs.State.{JobState, started}
-use Rattle.pk_gc.specs.Victims.{Chooses}
 
 -- The victim has live pages, and a block without an owner was taken for their copies, by at most one erase.
 pub record Starts (job : JobState) (live : Values) (front : Option OpenBlock) (p : Blocks) (old : BoardState) (job' : JobState) (live' : Values) (front' : Option OpenBlock) (q : Blocks) (new : BoardState) : Type 0 where

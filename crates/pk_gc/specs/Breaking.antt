@@ -1,19 +1,12 @@
 -- A step of a reclaim whose flash operation failed.
 use Rattle.std.specs.Prelude.{◌≡◌, ◌⊎◌, ℕ, ◌+◌, ◌*◌, true, false}
-use Rattle.pk_nand.specs.BoardState.{BoardState}
-use Rattle.pk_nand.specs.Calls.{ProgramFailed}
-use Rattle.pk_nand.specs.Operations.{ReadFailed}
-use Rattle.pk_nand.specs.declared.types.Fault.{Fault}
+use Rattle.pk_nand.{specs.BoardState.BoardState, specs.Calls.ProgramFailed, specs.Operations.ReadFailed, specs.declared.types.Fault.Fault}
 use Rattle.pk_nand.specs.declared.types.Fault.TheVariants.{Reading, Stopped}
 use Rattle.pk_pool.specs.Taking.{FailsToErase}
-use Rattle.pk_gc.specs.declared.course.Course.{Course}
-use Rattle.pk_gc.specs.declared.course.Phase.{Phase}
+use Rattle.pk_gc.{specs.declared.course.Course.Course, specs.declared.course.Phase.Phase, specs.State.JobState, specs.State.source, specs.State.target, specs.Victims.AreDead, specs.Stepping.Hands}
 use Rattle.pk_gc.specs.declared.course.Phase.TheVariants.{Idle, Copies, Commits, GivesBack}
-use Rattle.pk_jrn.specs.Appends.{FailsToEnd}
-use Rattle.pk_gc.specs.State.{JobState, source, target}
 use Rattle.pk_gc.specs.Committing.{FailsToAdd, entries_left}
-use Rattle.pk_gc.specs.Victims.{AreDead}
-use Rattle.pk_gc.specs.Stepping.{Hands}
+use Rattle.pk_jrn.specs.Appends.{FailsToEnd}
 
 -- a page of a value was to be read, and this failed
 pub record FailsToRead (c : Course) (old new : BoardState) (e : Fault) : Type 0 where

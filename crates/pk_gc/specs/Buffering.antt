@@ -1,15 +1,8 @@
 -- The active buffer after the moves of a reclaim: the statements.
 use Rattle.std.specs.Prelude.{◌≡◌, ◌≤◌, List, ◌++◌, length}
-use Rattle.pk_base.specs.Key.{Key}
-use Rattle.pk_base.specs.Shape.{Shape, buffer}
-use Rattle.pk_base.specs.Page.{Flash}
-use Rattle.pk_base.specs.Entry.{Entry, Place}
-use Rattle.pk_base.specs.Firsts.{firsts}
+use Rattle.pk_base.{specs.Key.Key, specs.Shape.Shape, specs.Shape.buffer, specs.Page.Flash, specs.Entry.Entry, specs.Entry.Place, specs.Firsts.firsts}
 use Rattle.pk_jrn.specs.Replays.{buffer_of}
-use Rattle.pk_gc.specs.declared.course.Course.{Course}
-use Rattle.pk_gc.specs.State.{JobState}
-use Rattle.pk_gc.specs.Committing.{HasRoom, entries_left}
-use Rattle.pk_gc.specs.Stepping.{Hands, moved_in}
+use Rattle.pk_gc.{specs.declared.course.Course.Course, specs.State.JobState, specs.Committing.HasRoom, specs.Committing.entries_left, specs.Stepping.Hands, specs.Stepping.moved_in}
 use Rattle.pk_gc.specs.Ending.{CanGive}
 
 -- the active buffer mirrors the newest epoch with the entries of the remaining moves after it

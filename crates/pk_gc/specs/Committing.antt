@@ -3,13 +3,10 @@ use Rattle.std.specs.Prelude.{◌≡◌, ◌≢◌, ℕ, ◌+◌, ◌<◌, ◌�
 use Rattle.pk_base.specs.Entry.{Entry}
 use Rattle.pk_nand.specs.BoardState.{BoardState}
 use Rattle.pk_buf.specs.Table.{Table}
-use Rattle.pk_jrn.specs.Epochs.{JournalEpoch, left_of as commits_left}
-use Rattle.pk_jrn.specs.Appends.{BeginsCommit, FailsToBegin}
+use Rattle.pk_jrn.{specs.Epochs.JournalEpoch, specs.Epochs.left_of as commits_left, specs.Appends.BeginsCommit, specs.Appends.FailsToBegin}
 use Rattle.pk_law_moves.specs.Moves.{entries_of}
-use Rattle.pk_gc.specs.declared.moves.Move.{Move}
-use Rattle.pk_gc.specs.declared.reclaimed.Committed.{Committed}
+use Rattle.pk_gc.{specs.declared.moves.Move.Move, specs.declared.reclaimed.Committed.Committed, specs.State.placed_at, specs.State.left_of, specs.State.is_new}
 use Rattle.pk_gc.specs.declared.reclaimed.Committed.TheVariants.{None, NeedsFreeze, All}
-use Rattle.pk_gc.specs.State.{placed_at, left_of, is_new}
 
 -- the entries of the moves whose old place is still live
 abbrev pub entries_left : List ℕ → List Move → List Entry

@@ -1,24 +1,14 @@
 -- A reclaim that has copied all values of its victim: what the commit of its moves may cite.
 use Rattle.std.specs.Prelude.{◌≡◌, ℕ, ◌+◌, ◌-◌, ◌*◌, ◌<◌, ◌≤◌, List, [], ◌++◌, length, slice_index, T}
-use Rattle.std.specs.List.{AllByRecursion}
-use Rattle.std.specs.FinMap.Entries.{is_sorted}
-use Rattle.pk_base.specs.Key.{Key, key_cmp}
-use Rattle.pk_base.specs.Shape.{Shape, buffer, data_blocks}
-use Rattle.pk_base.specs.Page.{Flash}
-use Rattle.pk_base.specs.Entry.{Place}
-use Rattle.pk_base.specs.EntryChecks.{IsPlace}
+use Rattle.std.{specs.List.AllByRecursion, specs.FinMap.Entries.is_sorted}
+use Rattle.pk_base.{specs.Key.Key, specs.Key.key_cmp, specs.Shape.Shape, specs.Shape.buffer, specs.Shape.data_blocks, specs.Page.Flash, specs.Entry.Place, specs.EntryChecks.IsPlace}
 use Rattle.pk_base.specs.Firsts.{firsts}
 use Rattle.pk_rootfmt.specs.Root.{Root, named}
-use Rattle.pk_model.specs.Found.{Found}
-use Rattle.pk_model.specs.Laws.{AnyByRecursion}
+use Rattle.pk_model.{specs.Found.Found, specs.Laws.AnyByRecursion}
 use Rattle.pk_law_steps.specs.Under.{places}
 use Rattle.pk_live.specs.Lives.{head_of}
-use Rattle.pk_law_moves.specs.Moves.{entries_of, CanMove, LieIn}
-use Rattle.pk_law_moves.specs.Victims.{AreMoved, exchanged}
-use Rattle.pk_gc.specs.declared.course.Course.{Course}
-use Rattle.pk_gc.specs.declared.moves.Move.{Move}
-use Rattle.pk_gc.specs.State.{placed_at, left_of, source}
-use Rattle.pk_gc.specs.Running.{IsRunning}
+use Rattle.pk_law_moves.{specs.Moves.entries_of, specs.Moves.CanMove, specs.Moves.LieIn, specs.Victims.AreMoved, specs.Victims.exchanged}
+use Rattle.pk_gc.{specs.declared.course.Course.Course, specs.declared.moves.Move.Move, specs.State.placed_at, specs.State.left_of, specs.State.source, specs.Running.IsRunning}
 
 -- No value is being copied, and none that is live begins in the rest of the victim.
 pub record IsCopied (shape : Shape) (c : Course) (moves : List Move) (page heads : List ℕ) (flash : Flash) (es : List (Key × Place)) : Type 0 where

@@ -1,17 +1,9 @@
 -- The end of a reclaim that has copied all values of its victim: it can be made.
-use Rattle.std.specs.Prelude.{◌≡◌, ◌<◌, List, length, MatchOption, T}
-use Rattle.std.specs.FinMap.Entries.{is_sorted}
-use Rattle.pk_base.specs.Key.{Key, key_cmp}
-use Rattle.pk_base.specs.Shape.{Shape, page_count}
-use Rattle.pk_base.specs.Page.{Flash}
-use Rattle.pk_base.specs.Entry.{Place}
+use Rattle.std.{specs.Prelude.◌≡◌, specs.Prelude.◌<◌, specs.Prelude.List, specs.Prelude.length, specs.Prelude.MatchOption, specs.Prelude.T, specs.FinMap.Entries.is_sorted}
+use Rattle.pk_base.{specs.Key.Key, specs.Key.key_cmp, specs.Shape.Shape, specs.Shape.page_count, specs.Page.Flash, specs.Entry.Place}
 use Rattle.pk_live.specs.Values.{IsClosed}
 use Rattle.pk_law_moves.specs.Moves.{AreApart}
-use Rattle.pk_gc.specs.declared.course.Course.{Course}
-use Rattle.pk_gc.specs.State.{JobState}
-use Rattle.pk_gc.specs.Copied.{IsCopied}
-use Rattle.pk_gc.specs.Victims.{HoldsValues}
-use Rattle.pk_gc.specs.Stepping.{Hands, CanEnd}
+use Rattle.pk_gc.{specs.declared.course.Course.Course, specs.State.JobState, specs.Copied.IsCopied, specs.Victims.HoldsValues, specs.Stepping.Hands, specs.Stepping.CanEnd}
 
 -- The victim is copied, its values are apart from each other, and the parts are those of the flash.
 pub record CanGive (shape : Shape) (c : Course) (job : JobState) (h : Hands) (flash : Flash) (es : List (Key × Place)) : Type 0 where

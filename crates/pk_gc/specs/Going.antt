@@ -1,19 +1,12 @@
 -- The next value of the victim, and that it is one: the statement.
 use Rattle.std.specs.Prelude.{◌≡◌, ℕ, ◌+◌, ◌*◌, ◌<◌, ◌≤◌, List, length, slice_index, T, Some, Ok}
-use Rattle.std.specs.List.{AllByRecursion}
-use Rattle.std.specs.FinMap.Entries.{find, is_sorted}
-use Rattle.pk_base.specs.Key.{Key, IsKey, key_cmp}
-use Rattle.pk_base.specs.Shape.{Shape, charge, dense}
-use Rattle.pk_base.specs.Page.{Flash, IsFlash, page_at}
-use Rattle.pk_base.specs.Entry.{Place}
-use Rattle.pk_base.specs.EntryChecks.{IsPlace}
+use Rattle.std.{specs.List.AllByRecursion, specs.FinMap.Entries.find, specs.FinMap.Entries.is_sorted}
+use Rattle.pk_base.{specs.Key.Key, specs.Key.IsKey, specs.Key.key_cmp, specs.Shape.Shape, specs.Shape.charge, specs.Shape.dense, specs.Page.Flash, specs.Page.IsFlash, specs.Page.page_at}
+use Rattle.pk_base.{specs.Entry.Place, specs.EntryChecks.IsPlace}
 use Rattle.pk_segfmt.specs.Value.{value_at}
 use Rattle.pk_live.specs.Lives.{head_of}
 use Rattle.pk_law_moves.specs.Moves.{AreApart}
-use Rattle.pk_gc.specs.declared.course.Course.{Course}
-use Rattle.pk_gc.specs.declared.moves.Move.{Move}
-use Rattle.pk_gc.specs.State.{source}
-use Rattle.pk_gc.specs.Running.{IsRunning, IsSparse, IsNextValue}
+use Rattle.pk_gc.{specs.declared.course.Course.Course, specs.declared.moves.Move.Move, specs.State.source, specs.Running.IsRunning, specs.Running.IsSparse, specs.Running.IsNextValue}
 use Rattle.pk_gc.specs.Victims.{AreDead}
 
 -- Values that a flash holds, each in one block and apart from the others, with the heads of a live map.

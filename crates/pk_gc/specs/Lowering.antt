@@ -3,9 +3,7 @@ use Rattle.std.specs.Prelude.{◌≡◌, ◌≢◌, ℕ, ◌-◌, List, sum, tak
 use Rattle.pk_law_work.specs.Rest.{left_of, whole_reclaim, Lowers}
 use Rattle.pk_nand.specs.BoardState.{BoardState}
 use Rattle.pk_pool.specs.Unready.{unready}
-use Rattle.pk_gc.specs.declared.reclaimed.Reclaimed.{Reclaimed}
-use Rattle.pk_gc.specs.declared.reclaimed.Reclaimed.TheVariants.{NeedsFreeze}
-use Rattle.pk_gc.specs.State.{JobState, live_from, left_in}
+use Rattle.pk_gc.{specs.declared.reclaimed.Reclaimed.Reclaimed, specs.declared.reclaimed.Reclaimed.TheVariants.NeedsFreeze, specs.State.JobState, specs.State.live_from, specs.State.left_in}
 use Rattle.pk_gc.specs.Stepping.{Hands, CanStep, Steps}
 
 -- What remains before a step, and after it. If one is due it is a whole reclaim, but for two steps: that much less remains once a block may

@@ -1,19 +1,13 @@
 -- A reclaim that runs: how it matches the flash and the values.
 use Rattle.std.specs.Prelude.{◌≡◌, ◌≢◌, ℕ, ◌+◌, ◌*◌, ◌/◌, ◌%◌, ◌<◌, ◌≤◌, List, [], ◌∷◌, length, true, Some}
-use Rattle.std.specs.List.{AllByRecursion}
-use Rattle.std.specs.FinMap.Entries.{find}
-use Rattle.pk_base.specs.declared.sizes.TheConstants.{ROOT_BLOCKS}
-use Rattle.pk_base.specs.Key.{Key, IsKey, key_cmp}
-use Rattle.pk_base.specs.Shape.{Shape, IsShape, charge, dense}
-use Rattle.pk_base.specs.Page.{Flash, page_at, erased, whole}
-use Rattle.pk_base.specs.Entry.{Place}
-use Rattle.pk_base.specs.EntryChecks.{IsPlace}
+use Rattle.std.{specs.List.AllByRecursion, specs.FinMap.Entries.find}
+use Rattle.pk_base.{specs.declared.sizes.TheConstants.ROOT_BLOCKS, specs.Key.Key, specs.Key.IsKey, specs.Key.key_cmp, specs.Shape.Shape, specs.Shape.IsShape, specs.Shape.charge, specs.Shape.dense}
+use Rattle.pk_base.{specs.Page.Flash, specs.Page.page_at, specs.Page.erased, specs.Page.whole, specs.Entry.Place, specs.EntryChecks.IsPlace}
 use Rattle.pk_seg.specs.Stored.{HasHead}
 use Rattle.pk_model.specs.Laws.{AnyByRecursion}
 use Rattle.pk_law_steps.specs.Under.{IsValuePage}
 use Rattle.pk_law_moves.specs.Moves.{AreApart}
-use Rattle.pk_gc.specs.declared.course.Course.{Course}
-use Rattle.pk_gc.specs.declared.moves.Move.{Move}
+use Rattle.pk_gc.{specs.declared.course.Course.Course, specs.declared.moves.Move.Move}
 use Rattle.pk_gc.specs.State.{new_place, placed_at, source, target, unseen, live_unseen}
 
 -- A value of the victim, with its pages in the output as far as they are written. Whatever key has a value at the old place, it is this one.

@@ -1,18 +1,11 @@
 -- A reclaim, as it matches a flash: which blocks it holds, and what their pages and the values are.
 use Rattle.std.specs.Prelude.{◌≡◌, ℕ, List, [], ◌∷◌, true}
-use Rattle.pk_base.specs.Key.{Key}
-use Rattle.pk_base.specs.Shape.{Shape, data_blocks}
-use Rattle.pk_base.specs.Page.{Flash}
-use Rattle.pk_base.specs.Entry.{Place}
+use Rattle.pk_base.{specs.Key.Key, specs.Shape.Shape, specs.Shape.data_blocks, specs.Page.Flash, specs.Entry.Place}
 use Rattle.pk_plan.specs.declared.owner.Owner.TheVariants.{Values as for_values}
 use Rattle.pk_pool.specs.Blocks.{Blocks, used_by}
 use Rattle.pk_live.specs.Values.{Values, IsClosed}
-use Rattle.pk_gc.specs.declared.course.Course.{Course}
-use Rattle.pk_gc.specs.declared.course.Phase.{Phase}
+use Rattle.pk_gc.{specs.declared.course.Course.Course, specs.declared.course.Phase.Phase, specs.State.JobState, specs.Running.IsRunning, specs.Running.IsSparse, specs.Stepping.runs_in}
 use Rattle.pk_gc.specs.declared.course.Phase.TheVariants.{Idle, Copies, Commits, GivesBack}
-use Rattle.pk_gc.specs.State.{JobState}
-use Rattle.pk_gc.specs.Running.{IsRunning, IsSparse}
-use Rattle.pk_gc.specs.Stepping.{runs_in}
 
 -- the blocks for values that are neither open nor closed: the output of a copy, and from the commit on the victim until it is freed
 abbrev pub held_blocks : Phase → List ℕ

@@ -1,15 +1,11 @@
 -- What a reclaim keeps in memory.
-use Rattle.std.specs.Prelude.{◌≡◌, ◌⊎◌, ℕ, zero, suc, ◌+◌, ◌-◌, ◌*◌, ◌%◌, ◌<◌, ◌≤◌, List, [], ◌∷◌, length, filter, take, slice_index, slice_get, slice_set, IsSome, is_none, nat_lt, Bool, true, false, if◌then◌else◌, Option, Some, None}
+use Rattle.std.specs.Prelude.{◌≡◌, ◌⊎◌, ℕ, zero, suc, ◌+◌, ◌-◌, ◌*◌, ◌%◌, ◌<◌, ◌≤◌, List, [], ◌∷◌, length, filter, take, slice_index, slice_get, slice_set, IsSome, is_none, nat_lt, Bool, true, false}
+use Rattle.std.specs.Prelude.{if◌then◌else◌, Option, Some, None}
 use Rattle.std.specs.FinMap.Entries.{put, find}
-use Rattle.pk_base.specs.Key.{Key, key_cmp}
-use Rattle.pk_base.specs.Shape.{Shape}
-use Rattle.pk_base.specs.Entry.{Entry, Place, put_entry}
-use Rattle.pk_law_work.specs.Rest.{steps_of}
-use Rattle.pk_law_work.specs.Jobs.{reclaim_rest}
-use Rattle.pk_gc.specs.declared.course.Course.{Course}
-use Rattle.pk_gc.specs.declared.course.Phase.{Phase}
+use Rattle.pk_base.{specs.Key.Key, specs.Key.key_cmp, specs.Shape.Shape, specs.Entry.Entry, specs.Entry.Place, specs.Entry.put_entry}
+use Rattle.pk_law_work.{specs.Rest.steps_of, specs.Jobs.reclaim_rest}
+use Rattle.pk_gc.{specs.declared.course.Course.Course, specs.declared.course.Phase.Phase, specs.declared.moves.Move.Move}
 use Rattle.pk_gc.specs.declared.course.Phase.TheVariants.{Idle, Copies, Commits, GivesBack}
-use Rattle.pk_gc.specs.declared.moves.Move.{Move}
 
 -- The shape, how far a reclaim has come, the values that were copied in it, the entries of the commit that is half made, and the page between a
 -- read and a program.

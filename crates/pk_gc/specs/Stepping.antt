@@ -1,31 +1,17 @@
 -- A step of a reclaim: when it may be made, and what it does.
 use Rattle.std.specs.Prelude.{◌≡◌, ◌⊎◌, ℕ, ◌+◌, ◌-◌, ◌*◌, ◌<◌, ◌≤◌, List, [], ◌∷◌, ◌++◌, length, slice_index, slice_set, Bool, true, false, Option, Some, MatchOption}
-use Rattle.pk_base.specs.Key.{Key}
-use Rattle.pk_base.specs.Shape.{charge, dense, page_entries}
-use Rattle.pk_base.specs.Page.{Flash}
-use Rattle.pk_base.specs.Entry.{Place}
-use Rattle.pk_base.specs.EntryChecks.{IsEntry}
 use Rattle.std.specs.List.{AllByRecursion}
-use Rattle.pk_nand.specs.BoardState.{BoardState}
-use Rattle.pk_nand.specs.Calls.{after_program}
-use Rattle.pk_nand.specs.Operations.{after_read}
-use Rattle.pk_live.specs.Values.{Values, IsClosed, block_sum}
+use Rattle.pk_base.{specs.Key.Key, specs.Shape.charge, specs.Shape.dense, specs.Shape.page_entries, specs.Page.Flash, specs.Entry.Place, specs.EntryChecks.IsEntry}
+use Rattle.pk_nand.{specs.BoardState.BoardState, specs.Calls.after_program, specs.Operations.after_read}
+use Rattle.pk_live.{specs.Values.Values, specs.Values.IsClosed, specs.Values.block_sum, specs.declared.open_block.OpenBlock.OpenBlock, specs.OpenBlocks.closed_with}
 use Rattle.pk_buf.specs.Table.{Table}
-use Rattle.pk_jrn.specs.Epochs.{JournalEpoch}
-use Rattle.pk_jrn.specs.Appends.{IsHalfMade, EndsCommit}
-use Rattle.pk_pool.specs.declared.state.BlockState.TheVariants.{Free}
-use Rattle.pk_pool.specs.Blocks.{Blocks, IsOwned, with_state}
-use Rattle.pk_gc.specs.declared.course.Course.{Course}
-use Rattle.pk_gc.specs.declared.course.Phase.{Phase}
+use Rattle.pk_jrn.{specs.Epochs.JournalEpoch, specs.Appends.IsHalfMade, specs.Appends.EndsCommit}
+use Rattle.pk_pool.{specs.declared.state.BlockState.TheVariants.Free, specs.Blocks.Blocks, specs.Blocks.IsOwned, specs.Blocks.with_state}
+use Rattle.pk_gc.{specs.declared.course.Course.Course, specs.declared.course.Phase.Phase, specs.declared.reclaimed.Reclaimed.Reclaimed, specs.Victims.IsFull, specs.Victims.AreDead}
 use Rattle.pk_gc.specs.declared.course.Phase.TheVariants.{Idle, Copies, Commits, GivesBack}
-use Rattle.pk_live.specs.declared.open_block.OpenBlock.{OpenBlock}
-use Rattle.pk_gc.specs.declared.reclaimed.Reclaimed.{Reclaimed}
 use Rattle.pk_gc.specs.declared.reclaimed.Reclaimed.TheVariants.{Worked, NeedsFreeze, Ended}
 use Rattle.pk_gc.specs.State.{JobState, CanGoAll, heads_all, entries_all, source, target, read_next, programmed, begun_at}
-use Rattle.pk_gc.specs.Running.{IsRunning, IsNextValue, begun_move}
-use Rattle.pk_live.specs.OpenBlocks.{closed_with}
-use Rattle.pk_gc.specs.Victims.{IsFull, AreDead}
-use Rattle.pk_gc.specs.Beginning.{Begins}
+use Rattle.pk_gc.{specs.Running.IsRunning, specs.Running.IsNextValue, specs.Running.begun_move, specs.Beginning.Begins}
 use Rattle.pk_gc.specs.Committing.{Refuses, Adds, HasRoom, entries_left}
 
 -- the parts that a step is handed: the live values, the open block, the blocks, the active buffer and the newest epoch

@@ -1,7 +1,6 @@
 -- The text of a key: digits written over zeros.
 use Rattle.std.proofs.Common.{◌≡◌, ℕ, suc, ◌+◌, ◌-◌, ◌<◌, ◌≤◌, List, ◌++◌, length, take, drop, replicate, sym, ap, ◌∙◌, arith}
-use Rattle.std.specs.Prelude.{codes, decimal}
-use Rattle.std.proofs.lemmas.Fmt.{length-decimal-le}
+use Rattle.std.{specs.Prelude.codes, specs.Prelude.decimal, proofs.lemmas.Fmt.length-decimal-le}
 use Rattle.std.proofs.lemmas.List.{append_assoc, append-nil, take-append-drop, take-replicate}
 use Rattle.pk_nvme.specs.Text.{padded_number}
 

@@ -1,9 +1,7 @@
 -- The value of a Store, written piece by piece.
 use Rattle.std.proofs.Common.{◌≡◌, ℕ, zero, suc, add-one, ◌+◌, ◌-◌, ◌%◌, ◌<◌, ◌≤◌, List, [], ◌∷◌, ◌++◌, length, length-append, refl, sym, ap, ◌∙◌, arith}
-use Rattle.std.specs.Prelude.{codes}
-use Rattle.std.proofs.lemmas.List.{append_assoc, append-nil}
-use Rattle.pk_nvme.specs.Bytes.{RoomyList}
-use Rattle.pk_nvme.specs.Text.{number_text}
+use Rattle.std.{specs.Prelude.codes, proofs.lemmas.List.append_assoc, proofs.lemmas.List.append-nil}
+use Rattle.pk_nvme.{specs.Bytes.RoomyList, specs.Text.number_text}
 use Rattle.pk_gen.specs.Workload.{letters, value_len, opening, value_text}
 
 pub length-letters : (c j : ℕ) → length (letters c j) ≡ j

@@ -1,13 +1,9 @@
 -- Values are as long as their entries say.
 use Rattle.std.proofs.Common.{◌≡◌, ℕ, ◌+◌, ◌-◌, ◌%◌, Bool, true, false, ◌==◌, ◌≤◌, List, [], ◌++◌, length, length-append, refl, ap, ◌∙◌, arith}
 use Rattle.std.specs.Prelude.{if◌then◌else◌, nat_lt, codes}
-use Rattle.pk_nvme.specs.Command.{IsWhole, value_size}
-use Rattle.pk_nvme.specs.Seen.{command_of}
-use Rattle.pk_nvme.specs.Text.{number_text}
-use Rattle.pk_nvme.specs.declared.request.Request.{Request}
+use Rattle.pk_nvme.{specs.Command.IsWhole, specs.Command.value_size, specs.Seen.command_of, specs.Text.number_text, specs.declared.request.Request.Request}
 use Rattle.pk_gen.specs.Workload.{Generator, value_len, value_text, opening, letters, request, tick, request_of, value_of, is_store, a_of, b_of, c_of}
-use Rattle.pk_gen.proofs.Keys.{few_digits}
-use Rattle.pk_gen.proofs.Values.{length-letters}
+use Rattle.pk_gen.{proofs.Keys.few_digits, proofs.Values.length-letters}
 
 length-opening : (b : ℕ) → length (opening b) ≡ 14 + length (number_text (b % 5000))
 length-opening b = simp length-append (omega arith)

@@ -1,11 +1,8 @@
 -- The generated workload: draws from a start, and the command of each turn.
 use Rattle.std.specs.Prelude.{ℕ, zero, suc, ◌+◌, ◌-◌, ◌*◌, ◌/◌, ◌%◌, ◌^◌, ◌==◌, nat_lt, if◌then◌else◌, Bool, List, [], ◌∷◌, ◌++◌, length, replicate, codes}
 use Rattle.pk_base.specs.declared.sizes.TheConstants.{KEY_BYTES}
-use Rattle.pk_nvme.specs.declared.limits.TheConstants.{NAMESPACE}
+use Rattle.pk_nvme.{specs.declared.limits.TheConstants.NAMESPACE, specs.Command.Command, specs.Seen.command_of, specs.Text.number_text, specs.Text.padded_number}
 use Rattle.pk_nvme.specs.declared.opcode.TheConstants.{STORE, RETRIEVE, LIST, DELETE, EXIST, TICK}
-use Rattle.pk_nvme.specs.Command.{Command}
-use Rattle.pk_nvme.specs.Seen.{command_of}
-use Rattle.pk_nvme.specs.Text.{number_text, padded_number}
 use Rattle.pk_nvme.specs.declared.request.Request.{Request}
 use Rattle.pk_gen.specs.declared.numbers.TheConstants.{KEYS, KEY_DIGITS, LEAST_VALUE_BYTES, VALUE_LENGTHS, LETTERS, RETRIEVE_BYTES, LIST_BYTES, TICK_STEPS}
 

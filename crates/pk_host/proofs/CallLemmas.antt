@@ -1,22 +1,13 @@
 -- What each call answers, from the reply of its command.
 use Rattle.std.proofs.Common.{◌≡◌, ℕ, ◌≤◌, min, List, [], length, take, Bool, true, false, ◌==◌, if◌then◌else◌, Option, Some, None, Result, Ok, Err, IfOk, OnOk, is_some, unwrap_or, refl, sym, ap}
 use Rattle.std.proofs.Common.{subst, ◌∙◌, arith}
-use Rattle.std.proofs.lemmas.Bool.{eqb-true}
-use Rattle.std.proofs.lemmas.List.{length-take-le, length-take}
-use Rattle.std.specs.FinMap.{get, contains_key, insert, remove}
-use Rattle.pk_base.specs.Key.{Key, IsKey, bytes_of, space_of}
-use Rattle.pk_base.specs.Map.{Map}
-use Rattle.pk_nvme.specs.Command.{Command, key}
-use Rattle.pk_nvme.specs.Reply.{Reply}
-use Rattle.pk_nvme.specs.Opcode.{op_of}
-use Rattle.pk_nvme.specs.declared.opcode.Opcode.{Opcode}
+use Rattle.std.{proofs.lemmas.Bool.eqb-true, proofs.lemmas.List.length-take-le, proofs.lemmas.List.length-take, specs.FinMap.get, specs.FinMap.contains_key, specs.FinMap.insert, specs.FinMap.remove}
+use Rattle.pk_base.{specs.Key.Key, specs.Key.IsKey, specs.Key.bytes_of, specs.Key.space_of, specs.Map.Map}
+use Rattle.pk_nvme.{specs.Command.Command, specs.Command.key, specs.Reply.Reply, specs.Opcode.op_of, specs.declared.opcode.Opcode.Opcode, specs.declared.status.TheConstants.KEY_DOES_NOT_EXIST}
 use Rattle.pk_nvme.specs.declared.opcode.Opcode.TheVariants.{Store, Retrieve, Delete, Exist}
-use Rattle.pk_nvme.specs.declared.status.TheConstants.{KEY_DOES_NOT_EXIST}
 use Rattle.pk_nvme.specs.declared.opcode.TheConstants.{STORE, RETRIEVE, DELETE, EXIST}
 use Rattle.pk_model.specs.Answer.{effect, success}
-use Rattle.pk_host.specs.declared.types.HostError.{HostError}
-use Rattle.pk_host.specs.declared.types.HostError.TheVariants.{Refused}
-use Rattle.pk_host.specs.Port.{PortState, Replies}
+use Rattle.pk_host.{specs.declared.types.HostError.HostError, specs.declared.types.HostError.TheVariants.Refused, specs.Port.PortState, specs.Port.Replies}
 use Rattle.pk_host.specs.Calls.{of_bytes, of_key, retrieve_of, delete_of, exist_of}
 use Rattle.pk_host.specs.Outcomes.{existed, found, Tests, Deletes, Leaves, Fetches, IsFront}
 use Rattle.pk_host.proofs.CommandLemmas.{there, missing, same_map, success_served, key-of_key, delete_by, exist_by, retrieve_by, store_by}

@@ -1,17 +1,12 @@
 -- Why a call that asks or lists has no answer.
 use Rattle.std.proofs.Common.{◌≡◌, inl, inr, ℕ, ◌≤◌, ◌==◌, List, [], length, Bool, true, false, if◌then◌else◌, nat_lt, Option, Some, None, Result, Ok, Err, IfErr, refl, sym, ap, subst, ◌∙◌, arith}
 use Rattle.pk_base.specs.Key.{Key, IsKey, bytes_of}
-use Rattle.pk_nvme.specs.Command.{Command}
-use Rattle.pk_nvme.specs.Reply.{Reply}
-use Rattle.pk_nand.specs.Calls.{Rose}
-use Rattle.pk_nvme.specs.declared.opcode.Opcode.TheVariants.{Retrieve, List as ListKeys}
+use Rattle.pk_nvme.{specs.Command.Command, specs.Reply.Reply, specs.declared.opcode.Opcode.TheVariants.Retrieve, specs.declared.opcode.Opcode.TheVariants.List as ListKeys}
 use Rattle.pk_nvme.specs.declared.status.TheConstants.{KEY_DOES_NOT_EXIST}
-use Rattle.pk_host.specs.declared.types.HostError.{HostError}
+use Rattle.pk_nand.specs.Calls.{Rose}
+use Rattle.pk_host.{specs.declared.types.HostError.HostError, specs.Port.PortState, specs.Port.Took, specs.Calls.retrieve_of, specs.Listing.listed_by}
 use Rattle.pk_host.specs.declared.types.HostError.TheVariants.{Refused, Port, Memory}
-use Rattle.pk_host.specs.Port.{PortState, Took}
-use Rattle.pk_host.specs.Calls.{retrieve_of}
 use Rattle.pk_host.specs.Outcomes.{Gives, IsCause, Leaves, list_of, retrieved}
-use Rattle.pk_host.specs.Listing.{listed_by}
 use Rattle.pk_host.proofs.CommandLemmas.{only_fault, keyed_fault, list_by, retrieve_by}
 
 err_same : {X : Type 0} (e f : HostError) → ◌≡◌ {A = Result X HostError} (Err e) (Err f) → e ≡ f

@@ -1,25 +1,14 @@
 -- What the definition answers to the one command of each call.
 use Rattle.std.proofs.Common.{◌≡◌, ◌==◌, inl, inr, ℕ, ◌≤◌, List, [], ◌∷◌, length, Bool, true, false, ◌&&◌, ◌||◌, not, nat_le, Some, None, refl, sym, ap, ◌∙◌, arith}
-use Rattle.std.proofs.lemmas.List.{take_at}
-use Rattle.std.proofs.lemmas.Bool.{le-leb, eq-eqb}
-use Rattle.std.specs.FinMap.{contains_key}
-use Rattle.pk_base.specs.Choices.{or_else}
-use Rattle.pk_base.specs.Key.{Key, IsKey, bytes_of}
-use Rattle.pk_base.specs.Shape.{Shape, greatest}
-use Rattle.pk_base.specs.Map.{Map}
-use Rattle.pk_nvme.specs.Command.{Command, key, must_exist, must_be_new}
-use Rattle.pk_nvme.specs.Reply.{Reply, refusal}
-use Rattle.pk_nvme.specs.Opcode.{op_of}
-use Rattle.pk_nvme.specs.declared.opcode.Opcode.{Opcode}
-use Rattle.pk_nvme.specs.declared.opcode.Opcode.TheVariants.{Store}
+use Rattle.std.{proofs.lemmas.List.take_at, proofs.lemmas.Bool.le-leb, proofs.lemmas.Bool.eq-eqb, specs.FinMap.contains_key}
+use Rattle.pk_base.{specs.Choices.or_else, specs.Key.Key, specs.Key.IsKey, specs.Key.bytes_of, specs.Shape.Shape, specs.Shape.greatest, specs.Map.Map}
+use Rattle.pk_nvme.{specs.Command.Command, specs.Command.key, specs.Command.must_exist, specs.Command.must_be_new, specs.Reply.Reply, specs.Reply.refusal, specs.Opcode.op_of}
+use Rattle.pk_nvme.{specs.declared.opcode.Opcode.Opcode, specs.declared.opcode.Opcode.TheVariants.Store}
 use Rattle.pk_nvme.specs.declared.status.TheConstants.{CAPACITY_EXCEEDED, INVALID_VALUE_SIZE, INVALID_KEY_SIZE, KEY_DOES_NOT_EXIST, UNRECOVERED_ERROR, KEY_EXISTS}
 use Rattle.pk_nvme.specs.declared.opcode.TheConstants.{STORE, RETRIEVE, DELETE, EXIST}
 use Rattle.pk_model.specs.Answer.{check, late_of, live_after, refused, reply, reply_of, map_after, effect, Answer}
-use Rattle.pk_model.specs.Run.{Step}
-use Rattle.pk_model.specs.Spaces.{one_space, limit_of, in_space}
-use Rattle.pk_host.specs.Calls.{of_key, report}
-use Rattle.pk_host.specs.Outcomes.{list_of}
-use Rattle.pk_host.proofs.SpellingLemmas.{IsFirstKey, in_first}
+use Rattle.pk_model.{specs.Run.Step, specs.Spaces.one_space, specs.Spaces.limit_of, specs.Spaces.in_space}
+use Rattle.pk_host.{specs.Calls.of_key, specs.Calls.report, specs.Outcomes.list_of, proofs.SpellingLemmas.IsFirstKey, proofs.SpellingLemmas.in_first}
 
 zero_is_not_87 : ◌≡◌ {A = ℕ} 0 KEY_DOES_NOT_EXIST → ⊥
 zero_is_not_87 e = omega (arith, e)

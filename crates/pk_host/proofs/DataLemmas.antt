@@ -1,28 +1,16 @@
 -- The replies of the definition: their data fit the buffer that is asked for, and none is a read error.
 use Rattle.std.proofs.Common.{◌≡◌, ◌≢◌, ℕ, ◌-◌, ◌*◌, ◌≤◌, ◌==◌, min, refl, sym, ap, subst, ◌∙◌, arith, Bool, true, false, not, ◌&&◌, ◌||◌, nat_le, if◌then◌else◌, List, [], ◌∷◌, length, flat_map}
 use Rattle.std.proofs.Common.{Option, Some, None, unwrap_or, length-append}
-use Rattle.std.proofs.lemmas.Bool.{leb-true, eq-eqb}
-use Rattle.std.proofs.lemmas.List.{length-take}
-use Rattle.std.specs.FinMap.{get, contains_key, len}
-use Rattle.pk_base.specs.Choices.{or_else}
-use Rattle.pk_base.specs.Key.{Key}
-use Rattle.pk_base.specs.Fields.{u32}
-use Rattle.pk_base.specs.Shape.{Shape, greatest, pinned}
-use Rattle.pk_base.specs.Map.{Map, keys_from, live}
-use Rattle.pk_nvme.specs.declared.opcode.Opcode.{Opcode}
+use Rattle.std.{proofs.lemmas.Bool.leb-true, proofs.lemmas.Bool.eq-eqb, proofs.lemmas.List.length-take, specs.FinMap.get, specs.FinMap.contains_key, specs.FinMap.len}
+use Rattle.pk_base.{specs.Choices.or_else, specs.Key.Key, specs.Fields.u32, specs.Shape.Shape, specs.Shape.greatest, specs.Shape.pinned, specs.Map.Map, specs.Map.keys_from, specs.Map.live}
+use Rattle.pk_nvme.{specs.declared.opcode.Opcode.Opcode, specs.declared.limits.TheConstants.COUNT_BYTES, specs.Opcode.op_of, specs.Reply.Reply}
 use Rattle.pk_nvme.specs.declared.opcode.Opcode.TheVariants.{Flush, Store, Retrieve, List as ListKeys, Delete, Exist, Tick, Report}
-use Rattle.pk_nvme.specs.declared.limits.TheConstants.{COUNT_BYTES}
 use Rattle.pk_nvme.specs.declared.status.TheConstants.{SUCCESSFUL_COMPLETION, INVALID_COMMAND_OPCODE, INVALID_FIELD_IN_COMMAND, INVALID_NAMESPACE_OR_FORMAT, CAPACITY_EXCEEDED, INVALID_VALUE_SIZE}
 use Rattle.pk_nvme.specs.declared.status.TheConstants.{INVALID_KEY_SIZE, KEY_DOES_NOT_EXIST, UNRECOVERED_ERROR, KEY_EXISTS}
-use Rattle.pk_nvme.specs.Opcode.{op_of}
 use Rattle.pk_nvme.specs.Command.{Command, key, must_exist, must_be_new}
-use Rattle.pk_nvme.specs.Reply.{Reply}
 use Rattle.pk_model.specs.Answer.{check, is_namespace, is_key_length, size_fault, fault_of, early, late_of, live_after, refused, reply, reply_of, listed, fitting, list_bytes}
-use Rattle.pk_model.specs.Machine.{no_numbers}
-use Rattle.pk_model.specs.Spaces.{Terms, limit_of, in_space}
-use Rattle.pk_model.proofs.Answering.{refuses_with, serves, list_sized}
-use Rattle.pk_host.specs.Port.{room_for, room_of}
-use Rattle.pk_host.proofs.LeftLemmas.{first_none}
+use Rattle.pk_model.{specs.Machine.no_numbers, specs.Spaces.Terms, specs.Spaces.limit_of, specs.Spaces.in_space, proofs.Answering.refuses_with, proofs.Answering.serves, proofs.Answering.list_sized}
+use Rattle.pk_host.{specs.Port.room_for, specs.Port.room_of, proofs.LeftLemmas.first_none}
 
 -- ---- what fits
 

@@ -1,17 +1,11 @@
 -- What holds of every entry of a map, after one is put in or removed.
 use Rattle.std.proofs.Common.{◌≡◌, ℕ, ◌≤◌, refl, sym, ap, subst, ◌∙◌, true, false, cond, T, List, [], ◌∷◌, length, Option, Some, None}
-use Rattle.std.proofs.lemmas.List.{nil_from_length}
-use Rattle.std.specs.Ordering.{is_eq, eq_by_cmp}
-use Rattle.std.specs.Cmp.{tied_itself}
-use Rattle.std.specs.List.{AllByRecursion}
+use Rattle.std.{proofs.lemmas.List.nil_from_length, specs.Ordering.is_eq, specs.Ordering.eq_by_cmp, specs.Cmp.tied_itself, specs.List.AllByRecursion}
 use Rattle.std.specs.FinMap.{get, insert, remove, empty, entries, entries_sorted, get-entries, get-insert, get-remove, len-entries, len-empty}
 use Rattle.std.specs.FinMap.Entries.{find, is_sorted, below_all}
-use Rattle.pk_base.specs.Key.{Key, IsKey, key_cmp}
-use Rattle.pk_base.specs.Fields.{AreBytes}
-use Rattle.pk_base.specs.Shape.{Shape, greatest}
-use Rattle.pk_base.specs.Map.{Map, IsMap}
-use Rattle.pk_model.proofs.MapLemmas.{key_total, key_antisymm, missing}
+use Rattle.pk_base.{specs.Key.Key, specs.Key.IsKey, specs.Key.key_cmp, specs.Fields.AreBytes, specs.Shape.Shape, specs.Shape.greatest, specs.Map.Map, specs.Map.IsMap}
 use Rattle.pk_base.proofs.Logic.{left_part, right_part, equal, some_same}
+use Rattle.pk_model.proofs.MapLemmas.{key_total, key_antisymm, missing}
 
 module _ (P : Key × List ℕ → Type 0) where
   -- an entry that is found is one of them

@@ -1,13 +1,9 @@
 -- Values that are fetched whole.
 use Rattle.std.proofs.Common.{◌≡◌, inl, inr, ℕ, ◌≤◌, List, [], ◌∷◌, ◌++◌, length, take, Option, Some, None, refl, sym, ap, subst, ◌∙◌, arith}
-use Rattle.std.proofs.lemmas.List.{take_all}
-use Rattle.std.specs.Option.{option_map}
-use Rattle.std.specs.FinMap.{get}
+use Rattle.std.{proofs.lemmas.List.take_all, specs.Option.option_map, specs.FinMap.get}
 use Rattle.pk_base.specs.Key.{Key}
 use Rattle.pk_nvme.specs.Command.{Command}
-use Rattle.pk_host.specs.Port.{PortState}
-use Rattle.pk_host.specs.declared.sizes.TheConstants.{FIRST_BYTES}
-use Rattle.pk_host.specs.Calls.{retrieve_of}
+use Rattle.pk_host.{specs.Port.PortState, specs.declared.sizes.TheConstants.FIRST_BYTES, specs.Calls.retrieve_of}
 use Rattle.pk_host.specs.Outcomes.{AtMostOne, AreRetrieves, TookSome, Cuts, Gets}
 
 -- a prefix that is no shorter than the value is the value

@@ -1,16 +1,10 @@
 -- What is passed with a command, and the room that it needs.
 use Rattle.std.proofs.Common.{◌≡◌, ℕ, ◌<◌, ◌^◌, sym, ap, subst, ◌∙◌, arith, List, length, Option, Some, None}
-use Rattle.pk_base.specs.Fields.{AreBytes}
-use Rattle.pk_base.specs.Key.{bytes_of}
-use Rattle.pk_base.specs.declared.sizes.TheConstants.{KEY_BYTES}
-use Rattle.pk_nvme.specs.declared.opcode.Opcode.{Opcode}
+use Rattle.pk_base.{specs.Fields.AreBytes, specs.Key.bytes_of, specs.declared.sizes.TheConstants.KEY_BYTES}
+use Rattle.pk_nvme.{specs.declared.opcode.Opcode.Opcode, specs.declared.request.Request.Request, specs.Seen.command_of, specs.Command.Command, specs.Command.IsWhole, specs.Command.key}
 use Rattle.pk_nvme.specs.declared.opcode.Opcode.TheVariants.{Flush, Store, Retrieve, List as ListKeys, Delete, Exist, Tick, Report}
-use Rattle.pk_nvme.specs.declared.request.Request.{Request}
-use Rattle.pk_nvme.specs.Seen.{command_of}
-use Rattle.pk_nvme.specs.Command.{Command, IsWhole, key}
 use Rattle.pk_model.proofs.HeldMap.{bytes-take}
-use Rattle.pk_host.specs.Good.{IsHanded}
-use Rattle.pk_host.specs.Port.{room_for}
+use Rattle.pk_host.{specs.Good.IsHanded, specs.Port.room_for}
 
 -- what a command needs of the buffer is below 2^32 bytes
 pub room_small : (size : ℕ) (o : Option Opcode) → size < 2 ^ 32 → room_for size o < 2 ^ 32

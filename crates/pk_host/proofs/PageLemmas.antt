@@ -1,27 +1,15 @@
 -- Pages of keys, one after another, are all keys.
 use Rattle.std.proofs.Common.{◌≡◌, inl, inr, ℕ, ◌-◌, ◌≤◌, ◌==◌, nat_lt, if◌then◌else◌, List, [], ◌∷◌, ◌++◌, length, filter, Bool, true, false, not, nat_le, Option, Some, None, Result, Ok, Err, IfOk}
 use Rattle.std.proofs.Common.{zero, suc, IfSome, OnOk, refl, sym, ap, subst, ◌∙◌, arith, append_assoc}
-use Rattle.std.proofs.lemmas.List.{append-nil}
-use Rattle.std.proofs.lemmas.Bool.{le-leb}
-use Rattle.std.specs.List.{AllByRecursion, slice_get}
-use Rattle.std.specs.Ordering.{is_lt, nat_cmp, ordering_then}
-use Rattle.std.specs.declared.cmp.Ordering.TheVariants.{Less, Equal, Greater}
-use Rattle.std.proofs.lemmas.Bool.Decides.{nat_tests}
+use Rattle.std.{proofs.lemmas.List.append-nil, proofs.lemmas.Bool.le-leb, specs.List.AllByRecursion, specs.List.slice_get, specs.Ordering.is_lt, specs.Ordering.nat_cmp, specs.Ordering.ordering_then}
+use Rattle.std.{specs.declared.cmp.Ordering.TheVariants.Less, specs.declared.cmp.Ordering.TheVariants.Equal, specs.declared.cmp.Ordering.TheVariants.Greater, proofs.lemmas.Bool.Decides.nat_tests}
 use Rattle.std.specs.FinMap.{keys}
-use Rattle.pk_base.specs.Key.{Key, IsKey, key_cmp, IsBelow, IsRising, bytes_of}
-use Rattle.pk_base.specs.Shape.{Shape}
+use Rattle.pk_base.{specs.Key.Key, specs.Key.IsKey, specs.Key.key_cmp, specs.Key.IsBelow, specs.Key.IsRising, specs.Key.bytes_of, specs.Shape.Shape}
 use Rattle.pk_base.specs.Map.{Map, IsMap, keys_from}
-use Rattle.pk_nvme.specs.Command.{Command, key, key_or_none}
-use Rattle.pk_nvme.specs.Reply.{Reply}
-use Rattle.pk_nvme.specs.Opcode.{op_of}
-use Rattle.pk_nvme.specs.declared.opcode.Opcode.{Opcode}
-use Rattle.pk_nvme.specs.declared.opcode.Opcode.TheVariants.{List as ListKeys}
-use Rattle.pk_nvme.specs.declared.opcode.TheConstants.{LIST}
-use Rattle.pk_nvme.specs.declared.limits.TheConstants.{MOST_LIST_BYTES}
+use Rattle.pk_nvme.{specs.Command.Command, specs.Command.key, specs.Command.key_or_none, specs.Reply.Reply, specs.Opcode.op_of, specs.declared.opcode.Opcode.Opcode}
+use Rattle.pk_nvme.{specs.declared.opcode.Opcode.TheVariants.List as ListKeys, specs.declared.opcode.TheConstants.LIST, specs.declared.limits.TheConstants.MOST_LIST_BYTES}
 use Rattle.pk_model.specs.Answer.{refused, map_after, effect, listed, fitting, list_bytes}
-use Rattle.pk_host.specs.declared.types.HostError.{HostError}
-use Rattle.pk_host.specs.Port.{PortState, Replies, Took, LeftBySome}
-use Rattle.pk_host.specs.Calls.{of_bytes, IsOwnKey}
+use Rattle.pk_host.{specs.declared.types.HostError.HostError, specs.Port.PortState, specs.Port.Replies, specs.Port.Took, specs.Port.LeftBySome, specs.Calls.of_bytes, specs.Calls.IsOwnKey}
 use Rattle.pk_host.specs.Outcomes.{list_of, Leaves, AreLists, TookSome}
 use Rattle.pk_host.specs.Listing.{IsStart, list_room, above, keys_of, page_after, Pages, Follows, TellsKeys, ListsAll}
 use Rattle.pk_host.proofs.CommandLemmas.{success_served, list_by, key_named}

@@ -1,12 +1,9 @@
 -- Reading the keys of a List one after another.
 use Rattle.std.proofs.Common.{◌≡◌, ℕ, zero, suc, ◌+◌, ◌-◌, ◌*◌, ◌≤◌, ◌<◌, min, if◌then◌else◌, List, [], ◌∷◌, ◌++◌, length, drop, true, false, Some, None, refl, sym, ap, ◌∙◌, arith, append_assoc}
-use Rattle.std.proofs.lemmas.List.{append-nil, drop-drop, drop_all}
-use Rattle.std.specs.Ordering.{is_lt}
-use Rattle.pk_base.specs.Key.{Key, IsKey, key_cmp}
-use Rattle.pk_base.specs.Fields.{u32_at}
+use Rattle.std.{proofs.lemmas.List.append-nil, proofs.lemmas.List.drop-drop, proofs.lemmas.List.drop_all, specs.Ordering.is_lt}
+use Rattle.pk_base.{specs.Key.Key, specs.Key.IsKey, specs.Key.key_cmp, specs.Fields.u32_at}
 use Rattle.pk_model.specs.Answer.{listed}
-use Rattle.pk_host.specs.declared.sizes.TheConstants.{MOST_KEYS}
-use Rattle.pk_host.specs.Listing.{first_key, and_then, keys_in, keys_of, above}
+use Rattle.pk_host.{specs.declared.sizes.TheConstants.MOST_KEYS, specs.Listing.first_key, specs.Listing.and_then, specs.Listing.keys_in, specs.Listing.keys_of, specs.Listing.above}
 
 -- the keys so far, and those that are spelled from this place on
 pub record IsReading (bytes from : List ℕ) (count i at : ℕ) (each : List Key) : Type 0 where

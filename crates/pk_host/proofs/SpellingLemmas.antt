@@ -1,22 +1,12 @@
 -- The keys that a List spells are read back.
 use Rattle.std.proofs.Common.{◌≡◌, ℕ, ◌+◌, ◌-◌, ◌*◌, ◌%◌, ◌≤◌, min, if◌then◌else◌, List, [], ◌∷◌, ◌++◌, length, take, drop, filter, map, flat_map, replicate, Bool, true, false, not, ◌&&◌, nat_le}
 use Rattle.std.proofs.Common.{Some, None, refl, sym, ap, subst, cond, ◌==◌, ◌∙◌, arith, append_assoc, length-append}
-use Rattle.std.proofs.lemmas.List.{take_at, length-replicate}
-use Rattle.std.proofs.lemmas.Bool.{le-leb, leb-true, eqb-true}
-use Rattle.std.specs.List.{AllByRecursion}
-use Rattle.std.specs.Ordering.{is_lt}
-use Rattle.std.specs.FinMap.{keys, entries}
-use Rattle.std.specs.FinMap.Entries.{where_key}
-use Rattle.pk_base.specs.Key.{Key, IsKey, key_cmp, bytes_of, space_of}
-use Rattle.pk_base.specs.Fields.{AreBytes, u16, u16_at, u32_at}
-use Rattle.pk_base.specs.Shape.{Shape}
-use Rattle.pk_base.specs.Map.{Map, IsMap, keys_from}
-use Rattle.pk_base.proofs.Tables.{stands_number}
-use Rattle.pk_model.specs.Answer.{listed, fitting, list_bytes}
-use Rattle.pk_model.specs.Spaces.{in_space}
-use Rattle.pk_model.proofs.SpaceLemmas.{entries_in}
-use Rattle.pk_host.specs.declared.sizes.TheConstants.{MOST_KEYS}
-use Rattle.pk_host.specs.Listing.{list_room, first_key, and_then, keys_in, keys_of}
+use Rattle.std.{proofs.lemmas.List.take_at, proofs.lemmas.List.length-replicate, proofs.lemmas.Bool.le-leb, proofs.lemmas.Bool.leb-true, proofs.lemmas.Bool.eqb-true, specs.List.AllByRecursion}
+use Rattle.std.{specs.Ordering.is_lt, specs.FinMap.keys, specs.FinMap.entries, specs.FinMap.Entries.where_key}
+use Rattle.pk_base.{specs.Key.Key, specs.Key.IsKey, specs.Key.key_cmp, specs.Key.bytes_of, specs.Key.space_of, specs.Fields.AreBytes, specs.Fields.u16, specs.Fields.u16_at, specs.Fields.u32_at}
+use Rattle.pk_base.{specs.Shape.Shape, specs.Map.Map, specs.Map.IsMap, specs.Map.keys_from, proofs.Tables.stands_number}
+use Rattle.pk_model.{specs.Answer.listed, specs.Answer.fitting, specs.Answer.list_bytes, specs.Spaces.in_space, proofs.SpaceLemmas.entries_in}
+use Rattle.pk_host.{specs.declared.sizes.TheConstants.MOST_KEYS, specs.Listing.list_room, specs.Listing.first_key, specs.Listing.and_then, specs.Listing.keys_in, specs.Listing.keys_of}
 
 drop_front : (a b : List ℕ) → drop (length a) (a ++ b) ≡ b
 drop_front [] b = refl

@@ -1,12 +1,8 @@
 -- The calls of a host: the one command of each, and what it makes of the reply.
 use Rattle.std.specs.Prelude.{◌≡◌, ℕ, List, [], length}
-use Rattle.pk_base.specs.Key.{Key, bytes_of, space_of}
-use Rattle.pk_base.specs.Fields.{padded}
-use Rattle.pk_base.specs.declared.sizes.TheConstants.{KEY_BYTES}
+use Rattle.pk_base.{specs.Key.Key, specs.Key.bytes_of, specs.Key.space_of, specs.Fields.padded, specs.declared.sizes.TheConstants.KEY_BYTES}
 use Rattle.pk_nvme.specs.declared.opcode.TheConstants.{STORE, RETRIEVE, DELETE, EXIST, REPORT}
-use Rattle.pk_nvme.specs.declared.options.TheConstants.{IF_EXISTS, IF_ABSENT}
-use Rattle.pk_nvme.specs.declared.limits.TheConstants.{NAMESPACE}
-use Rattle.pk_nvme.specs.Command.{Command}
+use Rattle.pk_nvme.{specs.declared.options.TheConstants.IF_EXISTS, specs.declared.options.TheConstants.IF_ABSENT, specs.declared.limits.TheConstants.NAMESPACE, specs.Command.Command}
 use Rattle.pk_host.specs.declared.types.StoreRule.{StoreRule}
 use Rattle.pk_host.specs.declared.types.StoreRule.TheVariants.{Any, IfExists, IfAbsent}
 

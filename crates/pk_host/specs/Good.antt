@@ -1,14 +1,8 @@
 -- What commands are passed, and which maps they keep.
 use Rattle.std.specs.Prelude.{◌≡◌, ◌≤◌, ℕ, length}
-use Rattle.pk_base.specs.Fields.{AreBytes}
-use Rattle.pk_base.specs.Key.{bytes_of}
-use Rattle.pk_base.specs.Shape.{Shape, limit}
-use Rattle.pk_base.specs.Map.{Map, IsMap, live}
-use Rattle.pk_base.specs.declared.sizes.TheConstants.{KEY_BYTES}
-use Rattle.pk_nvme.specs.Command.{Command, IsWhole, key}
-use Rattle.pk_nvme.specs.declared.limits.TheConstants.{NAMESPACE}
-use Rattle.pk_model.specs.Machine.{Machine}
-use Rattle.pk_model.specs.Spaces.{in_space}
+use Rattle.pk_base.{specs.Fields.AreBytes, specs.Key.bytes_of, specs.Shape.Shape, specs.Shape.limit, specs.Map.Map, specs.Map.IsMap, specs.Map.live, specs.declared.sizes.TheConstants.KEY_BYTES}
+use Rattle.pk_nvme.{specs.Command.Command, specs.Command.IsWhole, specs.Command.key, specs.declared.limits.TheConstants.NAMESPACE}
+use Rattle.pk_model.{specs.Machine.Machine, specs.Spaces.in_space}
 
 -- a machine of this shape with this map
 abbrev pub holding : Shape → Map → Machine

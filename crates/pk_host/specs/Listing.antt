@@ -1,20 +1,11 @@
 -- The keys that the data of a List spell, and the page of keys after a key.
 use Rattle.std.specs.Prelude.{◌≡◌, ◌⊎◌, ℕ, zero, suc, ◌+◌, ◌-◌, min, List, [], ◌∷◌, length, take, drop, filter, Bool, ◌&&◌, ◌==◌, nat_le, nat_lt, if◌then◌else◌, Option, Some, None, Result, Ok, Err}
-use Rattle.std.specs.Ordering.{is_lt}
-use Rattle.std.specs.FinMap.{keys}
-use Rattle.std.specs.List.{AllByRecursion}
-use Rattle.pk_base.specs.Key.{Key, IsKey, key_cmp}
-use Rattle.pk_base.specs.declared.sizes.TheConstants.{KEY_BYTES}
-use Rattle.pk_base.specs.Fields.{u16_at, u32_at}
-use Rattle.pk_base.specs.Map.{Map, keys_from}
+use Rattle.std.{specs.Ordering.is_lt, specs.FinMap.keys, specs.List.AllByRecursion}
+use Rattle.pk_base.{specs.Key.Key, specs.Key.IsKey, specs.Key.key_cmp, specs.declared.sizes.TheConstants.KEY_BYTES, specs.Fields.u16_at, specs.Fields.u32_at, specs.Map.Map, specs.Map.keys_from}
 use Rattle.pk_model.specs.Answer.{listed, fitting}
-use Rattle.pk_nvme.specs.Reply.{Reply}
-use Rattle.pk_nvme.specs.declared.limits.TheConstants.{NAMESPACE, COUNT_BYTES, MOST_LIST_BYTES}
+use Rattle.pk_nvme.{specs.Reply.Reply, specs.declared.limits.TheConstants.NAMESPACE, specs.declared.limits.TheConstants.COUNT_BYTES, specs.declared.limits.TheConstants.MOST_LIST_BYTES}
 use Rattle.pk_nvme.specs.declared.status.TheConstants.{SUCCESSFUL_COMPLETION}
-use Rattle.pk_host.specs.declared.sizes.TheConstants.{MOST_KEYS}
-use Rattle.pk_host.specs.Calls.{IsOwnKey}
-use Rattle.pk_host.specs.declared.types.HostError.{HostError}
-use Rattle.pk_host.specs.declared.types.HostError.TheVariants.{Refused}
+use Rattle.pk_host.{specs.declared.sizes.TheConstants.MOST_KEYS, specs.Calls.IsOwnKey, specs.declared.types.HostError.HostError, specs.declared.types.HostError.TheVariants.Refused}
 use Rattle.pk_host.specs.Port.{PortState}
 
 -- ---- reading

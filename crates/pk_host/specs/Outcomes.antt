@@ -1,22 +1,13 @@
 -- What a call of a host makes of the reply to its command.
 use Rattle.std.specs.Prelude.{◌≡◌, ◌⊎◌, ℕ, List, [], ◌∷◌, length, take, min, Bool, true, false, ◌==◌, if◌then◌else◌, Option, Some, None, Result, Ok, Err}
-use Rattle.std.specs.Option.{option_map, IfSome}
-use Rattle.std.specs.FinMap.{get, contains_key, remove}
-use Rattle.std.specs.List.{AllByRecursion}
-use Rattle.pk_base.specs.Key.{Key}
-use Rattle.pk_base.specs.Map.{Map}
-use Rattle.pk_nvme.specs.declared.opcode.TheConstants.{LIST}
+use Rattle.std.{specs.Option.option_map, specs.Option.IfSome, specs.FinMap.get, specs.FinMap.contains_key, specs.FinMap.remove, specs.List.AllByRecursion}
+use Rattle.pk_base.{specs.Key.Key, specs.Map.Map}
+use Rattle.pk_nvme.{specs.declared.opcode.TheConstants.LIST, specs.declared.limits.TheConstants.MOST_LIST_BYTES, specs.Command.Command, specs.Reply.Reply}
 use Rattle.pk_nvme.specs.declared.status.TheConstants.{SUCCESSFUL_COMPLETION, KEY_DOES_NOT_EXIST, UNRECOVERED_ERROR}
-use Rattle.pk_nvme.specs.declared.limits.TheConstants.{MOST_LIST_BYTES}
-use Rattle.pk_nvme.specs.Command.{Command}
-use Rattle.pk_nvme.specs.Reply.{Reply}
 use Rattle.pk_nand.specs.Calls.{Rose}
 use Rattle.pk_model.specs.Answer.{report_bytes}
-use Rattle.pk_host.specs.Port.{PortState, Replies}
-use Rattle.pk_host.specs.declared.sizes.TheConstants.{FIRST_BYTES}
-use Rattle.pk_host.specs.declared.types.HostError.{HostError}
+use Rattle.pk_host.{specs.Port.PortState, specs.Port.Replies, specs.declared.sizes.TheConstants.FIRST_BYTES, specs.declared.types.HostError.HostError, specs.Calls.of_key, specs.Calls.retrieve_of}
 use Rattle.pk_host.specs.declared.types.HostError.TheVariants.{Refused, Port, Memory}
-use Rattle.pk_host.specs.Calls.{of_key, retrieve_of}
 
 abbrev pub list_of : Key → Command
 list_of from = of_key LIST from MOST_LIST_BYTES 0 []

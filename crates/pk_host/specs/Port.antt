@@ -1,20 +1,12 @@
 -- Ports: what a host sees of a drive that it hands one command after another.
 use Rattle.std.specs.Prelude.{◌≡◌, ◌⊎◌, ℕ, ◌≤◌, ◌<◌, ◌^◌, List, [], ◌∷◌, length, take, Option, Some, None}
 use Rattle.std.specs.Option.{IfSome}
-use Rattle.pk_base.specs.Shape.{Shape}
-use Rattle.pk_base.specs.Map.{Map, IsMap, live}
-use Rattle.pk_nvme.specs.declared.sizes.TheConstants.{REPORT_BYTES}
-use Rattle.pk_nvme.specs.declared.limits.TheConstants.{NAMESPACE}
-use Rattle.pk_nvme.specs.declared.opcode.Opcode.{Opcode}
+use Rattle.pk_base.{specs.Shape.Shape, specs.Map.Map, specs.Map.IsMap, specs.Map.live}
+use Rattle.pk_nvme.{specs.declared.sizes.TheConstants.REPORT_BYTES, specs.declared.limits.TheConstants.NAMESPACE, specs.declared.opcode.Opcode.Opcode, specs.Opcode.op_of, specs.Command.Command}
 use Rattle.pk_nvme.specs.declared.opcode.Opcode.TheVariants.{Retrieve, List as ListKeys, Report}
-use Rattle.pk_nvme.specs.declared.status.TheConstants.{UNRECOVERED_ERROR}
-use Rattle.pk_nvme.specs.Opcode.{op_of}
-use Rattle.pk_nvme.specs.Command.{Command}
-use Rattle.pk_nvme.specs.Reply.{Reply, completion}
+use Rattle.pk_nvme.{specs.declared.status.TheConstants.UNRECOVERED_ERROR, specs.Reply.Reply, specs.Reply.completion}
 use Rattle.pk_nand.specs.Calls.{Rose}
-use Rattle.pk_model.specs.Answer.{map_after}
-use Rattle.pk_model.specs.Run.{Step}
-use Rattle.pk_model.specs.Spaces.{one_space, in_space}
+use Rattle.pk_model.{specs.Answer.map_after, specs.Run.Step, specs.Spaces.one_space, specs.Spaces.in_space}
 use Rattle.pk_host.specs.declared.types.Completed.{Completed}
 
 -- the map of the namespace in which commands are passed, if it is known; the shape of the drive, the namespace's limit of live pages and the page

@@ -1,19 +1,14 @@
 -- The check of a header passes exactly the headers of shapes.
 use Rattle.std.proofs.Common.{◌≡◌, ℕ, ◌+◌, ◌*◌, ◌^◌, ◌<◌, ◌%◌, ◌≤◌, Bool, true, false, List, [], ◌∷◌, length, drop, get_or, refl, sym, ap, subst, ◌∙◌, arith, Some, None}
 use Rattle.std.specs.Prelude.{nat_le, nat_lt, not, ◌||◌, ◌==◌, if◌then◌else◌, Result, Ok, Err, is_ok, IfOk, MatchResult}
-use Rattle.std.specs.List.{list_any}
-use Rattle.std.proofs.lemmas.Bool.Decides.{nat_tests}
-use Rattle.std.proofs.lemmas.List.{drop_all}
-use Rattle.pk_base.specs.declared.shape.ShapeError.{ShapeError}
+use Rattle.std.{specs.List.list_any, proofs.lemmas.Bool.Decides.nat_tests, proofs.lemmas.List.drop_all}
+use Rattle.pk_base.{specs.declared.shape.ShapeError.ShapeError, specs.Fields.u32, specs.Fields.spelled, specs.Fields.zeros, specs.FieldFaults.first_fault, proofs.Logic.both_true}
 use Rattle.pk_base.specs.declared.shape.ShapeError.TheVariants.{BadPage, BadBlock, TooLarge, TooSmall}
-use Rattle.pk_base.specs.Fields.{u32, spelled, zeros}
-use Rattle.pk_base.specs.FieldFaults.{first_fault}
 use Rattle.pk_base.specs.Shape.{Shape, IsShape, checked, has_bad_page, has_bad_block, is_too_large, is_too_small, page_entries, dense, meta_blocks}
 use Rattle.pk_base.proofs.Tables.{◌⊕◌, fields_of, AllNone, all_none, first_none, unless_true, true_unless, unlike_stands, stands_unlike, number_stands, stands_number, Stand, AreSized, stand_spelled}
 use Rattle.pk_base.proofs.Tables.{spelled_stand}
 use Rattle.pk_image.specs.Header.{image_magic, file_size, header_bytes, named_shape, is_shape, has_size, IsHeader, header_checks, header_fault, refusal_place}
 use Rattle.pk_image.specs.declared.head.ImageError.{ImageError}
-use Rattle.pk_base.proofs.Logic.{both_true}
 
 -- ---- shapes that are accepted
 

@@ -1,12 +1,8 @@
 -- A file without a wrong byte is an image, and an image is read as its pages.
 use Rattle.std.proofs.Common.{◌≡◌, ℕ, zero, suc, ◌+◌, ◌<◌, ◌≤◌, Bool, true, false, List, [], ◌∷◌, length, take, drop, get_or, refl, sym, ap, subst, ◌∙◌, arith, Option, Some, None, length-drop, lit<}
-use Rattle.std.specs.Prelude.{nat_le, if◌then◌else◌}
-use Rattle.std.proofs.Math.Nat.{mul-suc}
-use Rattle.std.proofs.lemmas.Bool.Decides.{nat_tests}
+use Rattle.std.{specs.Prelude.nat_le, specs.Prelude.if◌then◌else◌, proofs.Math.Nat.mul-suc, proofs.lemmas.Bool.Decides.nat_tests}
 use Rattle.std.proofs.lemmas.List.{get_or-take, get_or-drop, length-take-le}
-use Rattle.pk_base.specs.Fields.{AreBytes}
-use Rattle.pk_base.specs.Shape.{Shape, page_count}
-use Rattle.pk_base.specs.Page.{Page, Flash, erased, whole, torn, page_at}
+use Rattle.pk_base.{specs.Fields.AreBytes, specs.Shape.Shape, specs.Shape.page_count, specs.Page.Page, specs.Page.Flash, specs.Page.erased, specs.Page.whole, specs.Page.torn, specs.Page.page_at}
 use Rattle.pk_base.proofs.Tables.{all_none, first_none}
 use Rattle.pk_image.specs.Header.{file_size, named_shape, header_fault, IsHeader}
 use Rattle.pk_image.specs.Image.{state_place, page_place, state_byte, StandsFor, IsImage, page_by, page_in_file, pages_in_file, flash_in_file, bad_state, image_fault, IsRead}

@@ -1,11 +1,8 @@
 -- The header of an image file: its bytes, and the first field that is wrong.
 use Rattle.std.specs.Prelude.{◌≡◌, ℕ, ◌+◌, ◌*◌, List, [], ◌∷◌, Bool, ◌==◌, ◌&&◌, nat_le, if◌then◌else◌, is_ok, Option, Some}
-use Rattle.pk_image.specs.declared.head.TheConstants.{HEADER_BYTES}
-use Rattle.pk_base.specs.Fields.{u32, u32_at, spelled, zeros}
-use Rattle.pk_base.specs.FieldFaults.{unlike, unless, first_fault}
+use Rattle.pk_image.{specs.declared.head.TheConstants.HEADER_BYTES, specs.declared.head.ImageError.ImageError, specs.declared.head.ImageError.TheVariants.Bad}
+use Rattle.pk_base.{specs.Fields.u32, specs.Fields.u32_at, specs.Fields.spelled, specs.Fields.zeros, specs.FieldFaults.unlike, specs.FieldFaults.unless, specs.FieldFaults.first_fault}
 use Rattle.pk_base.specs.Shape.{Shape, IsShape, page_count, checked}
-use Rattle.pk_image.specs.declared.head.ImageError.{ImageError}
-use Rattle.pk_image.specs.declared.head.ImageError.TheVariants.{Bad}
 
 -- PINKIMG1
 abbrev pub image_magic : List ℕ

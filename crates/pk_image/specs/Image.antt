@@ -1,14 +1,10 @@
 -- An image file: a header, a state byte for each page, and the pages.
 use Rattle.std.specs.Prelude.{◌≡◌, ℕ, zero, suc, ◌+◌, ◌*◌, ◌<◌, List, [], ◌∷◌, length, take, drop, slice_index, ◌==◌, nat_le, if◌then◌else◌, Option, Some, None}
-use Rattle.pk_image.specs.declared.head.TheConstants.{HEADER_BYTES}
-use Rattle.pk_image.specs.declared.tag.TheConstants.{ERASED, WHOLE, TORN}
-use Rattle.pk_base.specs.Fields.{AreBytes}
-use Rattle.pk_base.specs.FieldFaults.{first_fault}
-use Rattle.pk_base.specs.Shape.{Shape, page_count}
-use Rattle.pk_base.specs.Page.{Page, Flash, erased, whole, torn, page_at}
-use Rattle.pk_image.specs.declared.tag.PageTag.{PageTag}
-use Rattle.pk_image.specs.declared.tag.PageTag.TheVariants.{Erased, Whole, Torn}
+use Rattle.pk_image.{specs.declared.head.TheConstants.HEADER_BYTES, specs.declared.tag.TheConstants.ERASED, specs.declared.tag.TheConstants.WHOLE, specs.declared.tag.TheConstants.TORN}
+use Rattle.pk_image.{specs.declared.tag.PageTag.PageTag, specs.declared.tag.PageTag.TheVariants.Erased, specs.declared.tag.PageTag.TheVariants.Whole, specs.declared.tag.PageTag.TheVariants.Torn}
 use Rattle.pk_image.specs.Header.{named_shape, header_fault, IsHeader}
+use Rattle.pk_base.{specs.Fields.AreBytes, specs.FieldFaults.first_fault, specs.Shape.Shape, specs.Shape.page_count}
+use Rattle.pk_base.specs.Page.{Page, Flash, erased, whole, torn, page_at}
 
 -- ---- places
 

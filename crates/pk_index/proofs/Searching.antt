@@ -1,20 +1,12 @@
 -- What a search in the buffers and in the runs says of all entries.
 use Rattle.std.proofs.Common.{◌≡◌, ℕ, refl, sym, ◌∙◌, Option, Some, None, Result, Ok, Err}
-use Rattle.std.specs.Prelude.{IfOk}
-use Rattle.std.specs.List.{flat_map}
-use Rattle.std.specs.FinMap.Entries.{find}
-use Rattle.pk_base.specs.Choices.{or_else}
-use Rattle.pk_base.specs.Key.{Key, key_cmp}
-use Rattle.pk_base.specs.Page.{Flash}
-use Rattle.pk_base.specs.Entry.{Place, key_of}
-use Rattle.pk_base.specs.Seen.{entry}
-use Rattle.pk_base.specs.declared.entry.Entry.{Entry as RustEntry}
+use Rattle.std.{specs.Prelude.IfOk, specs.List.flat_map, specs.FinMap.Entries.find}
+use Rattle.pk_base.{specs.Choices.or_else, specs.Key.Key, specs.Key.key_cmp, specs.Page.Flash, specs.Entry.Place, specs.Entry.key_of, specs.Seen.entry, specs.declared.entry.Entry.Entry as RustEntry}
 use Rattle.pk_rootfmt.specs.Root.{Root}
 use Rattle.pk_run.specs.Search.{IsFound}
 use Rattle.pk_model.specs.Found.{Found, entries_in_order}
 use Rattle.pk_law_steps.proofs.Counting.{found_in}
-use Rattle.pk_log.specs.State.{LogState, entry_of}
-use Rattle.pk_log.specs.Logs.{LogOnFlash}
+use Rattle.pk_log.{specs.State.LogState, specs.State.entry_of, specs.Logs.LogOnFlash}
 
 first_two : (a f r : Option (Option Place)) (x : Option Place) → or_else a f ≡ Some x → or_else a (or_else f r) ≡ Some x
 first_two None None r x e = cc

@@ -1,17 +1,11 @@
 -- The keys from one on, and how many pages the runs have.
 use Rattle.std.proofs.Common.{◌≡◌, ℕ, ◌+◌, ◌<◌, ◌≤◌, refl, sym, ap, subst, ◌∙◌, arith, Bool, true, false, not, List, [], ◌∷◌, length, if◌then◌else◌}
-use Rattle.std.specs.Prelude.{slice_index_or}
-use Rattle.std.specs.Ordering.{is_lt}
-use Rattle.pk_base.specs.Key.{Key, key_cmp}
-use Rattle.pk_base.specs.Entry.{Entry, Place}
-use Rattle.pk_base.specs.Page.{Flash}
-use Rattle.pk_base.specs.Shape.{Shape, cap, most_calls}
+use Rattle.std.{specs.Prelude.slice_index_or, specs.Ordering.is_lt}
+use Rattle.pk_base.{specs.Key.Key, specs.Key.key_cmp, specs.Entry.Entry, specs.Entry.Place, specs.Page.Flash, specs.Shape.Shape, specs.Shape.cap, specs.Shape.most_calls}
 use Rattle.pk_pin.specs.Frames.{Frames}
 use Rattle.pk_run.specs.Kept.{Kept, IsKept}
 use Rattle.pk_level.specs.Levels.{AreOfLevels}
-use Rattle.pk_walk.specs.declared.position.Position.{Position}
-use Rattle.pk_walk.specs.declared.position.Position.TheVariants.{From}
-use Rattle.pk_walk.specs.Visible.{visible, is_wanted, wanted}
+use Rattle.pk_walk.{specs.declared.position.Position.Position, specs.declared.position.Position.TheVariants.From, specs.Visible.visible, specs.Visible.is_wanted, specs.Visible.wanted}
 use Rattle.pk_walk.specs.Walking.{Walk, IsLeft, read_of, most_read}
 use Rattle.pk_index.specs.Keys.{keys_of, not_below, keys_there}
 

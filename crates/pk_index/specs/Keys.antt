@@ -1,15 +1,10 @@
 -- The keys from one on, as a walk over the buffers and the runs gives them.
-use Rattle.std.specs.Prelude.{◌≡◌, ◌≤◌, List, ◌∷◌, map, not, filter, Option}
-use Rattle.std.specs.Ordering.{is_lt}
-use Rattle.pk_base.specs.Key.{Key, key_cmp}
-use Rattle.pk_base.specs.Entry.{Entry, Place}
-use Rattle.pk_base.specs.declared.entry.Entry.{Entry as RustEntry}
-use Rattle.pk_nand.specs.BoardState.{BoardState}
-use Rattle.pk_nand.specs.Calls.{IsReady}
+use Rattle.std.{specs.Prelude.◌≡◌, specs.Prelude.◌≤◌, specs.Prelude.List, specs.Prelude.◌∷◌, specs.Prelude.map, specs.Prelude.not, specs.Prelude.filter, specs.Prelude.Option, specs.Ordering.is_lt}
+use Rattle.pk_base.{specs.Key.Key, specs.Key.key_cmp, specs.Entry.Entry, specs.Entry.Place, specs.declared.entry.Entry.Entry as RustEntry}
+use Rattle.pk_nand.{specs.BoardState.BoardState, specs.Calls.IsReady}
 use Rattle.pk_pin.specs.Frames.{Frames}
 use Rattle.pk_level.specs.Levels.{Levels}
-use Rattle.pk_walk.specs.Walking.{Walk, IsLeft, WalkGives, pages_read, most_read}
-use Rattle.pk_walk.specs.Visible.{visible}
+use Rattle.pk_walk.{specs.Walking.Walk, specs.Walking.IsLeft, specs.Walking.WalkGives, specs.Walking.pages_read, specs.Walking.most_read, specs.Visible.visible}
 use Rattle.pk_log.specs.State.{LogState}
 
 -- these keys without their places

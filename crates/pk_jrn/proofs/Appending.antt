@@ -1,24 +1,14 @@
 -- What the programs of an epoch's next commit leave of the epoch, cut or not.
 use Rattle.std.proofs.Common.{◌≡◌, ◌≢◌, ◌⊎◌, inl, inr, ℕ, zero, suc, ◌+◌, ◌-◌, ◌*◌, ◌^◌, ◌<◌, ◌≤◌, refl, sym, ap, subst, ◌∙◌, arith, Bool, true, false, if◌then◌else◌, List, [], ◌∷◌, ◌++◌, length}
 use Rattle.std.proofs.Common.{Some, Ok, zero-add, below_more, le_refl}
-use Rattle.std.specs.Prelude.{slice_index}
-use Rattle.std.specs.List.{AllByRecursion}
-use Rattle.std.proofs.lemmas.Bool.{cases_lt}
-use Rattle.pk_base.specs.declared.entry.Entry.{Entry as RustEntry}
-use Rattle.pk_base.specs.Seen.{entries as seen_all}
-use Rattle.pk_base.specs.EntryChecks.{IsEntry}
+use Rattle.std.{specs.Prelude.slice_index, specs.List.AllByRecursion, proofs.lemmas.Bool.cases_lt}
+use Rattle.pk_base.{specs.declared.entry.Entry.Entry as RustEntry, specs.Seen.entries as seen_all, specs.EntryChecks.IsEntry, specs.Entry.Entry}
 use Rattle.pk_base.specs.Shape.{Shape, IsShape, epoch_pages, epoch_commits, page_entries, page_count}
 use Rattle.pk_base.specs.Page.{Page, Flash, page_at, erased, whole, torn, page_in, page_of_pair, commit_page, commit_at, commits_of}
-use Rattle.pk_base.specs.Entry.{Entry}
 use Rattle.pk_base.proofs.CommitPages.{second, only_commit}
-use Rattle.pk_nand.specs.BoardState.{BoardState}
-use Rattle.pk_nand.specs.Calls.{IsReady}
-use Rattle.pk_nand.specs.Crash.{Reached, Went}
-use Rattle.pk_nand.specs.Pairs.{HoldsAtMost, IsPairCut}
+use Rattle.pk_nand.{specs.BoardState.BoardState, specs.Calls.IsReady, specs.Crash.Reached, specs.Crash.Went, specs.Pairs.HoldsAtMost, specs.Pairs.IsPairCut}
 use Rattle.pk_nand.proofs.Pairing.{outside_pair, pair_read, read_first}
-use Rattle.pk_jrnfmt.specs.Page.{journal_entries}
-use Rattle.pk_jrnfmt.specs.Epoch.{journal, epoch}
-use Rattle.pk_jrnfmt.proofs.PageLemmas.{journal_entries_again, length-seen}
+use Rattle.pk_jrnfmt.{specs.Page.journal_entries, specs.Epoch.journal, specs.Epoch.epoch, proofs.PageLemmas.journal_entries_again, proofs.PageLemmas.length-seen}
 use Rattle.pk_jrn.specs.Epochs.{JournalEpoch, EpochOnFlash, Reads, HasCommit, left_of, next_page, pages_of}
 use Rattle.pk_jrn.specs.Appends.{next_bytes, AddsAll, AddsAllOrNone, IsCommitCut, CommitReached, CommitWent}
 use Rattle.pk_jrn.proofs.Journals.{IsNotWhole, erased_not_whole, torn_not_whole, pair_not_whole, epoch_is, reads_on, goes_on, ends}

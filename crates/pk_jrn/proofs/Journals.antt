@@ -1,18 +1,12 @@
 -- The reading of an epoch, commit by commit.
 use Rattle.std.proofs.Common.{◌≡◌, ℕ, zero, suc, ◌+◌, ◌*◌, ◌/◌, ◌%◌, ◌<◌, ◌≤◌, refl, sym, ap, subst, ◌∙◌, arith, Bool, true, false, List, [], ◌∷◌, ◌++◌, length, nat_le, Option, Some, None, Result, Ok}
 use Rattle.std.proofs.Common.{Err, add-zero, le_refl}
-use Rattle.std.specs.Prelude.{⊤}
-use Rattle.std.proofs.lemmas.Bool.Decides.{nat_tests}
-use Rattle.pk_base.specs.Shape.{Shape, IsShape, buffer, epoch_commits}
+use Rattle.std.{specs.Prelude.⊤, proofs.lemmas.Bool.Decides.nat_tests}
+use Rattle.pk_base.{specs.Shape.Shape, specs.Shape.IsShape, specs.Shape.buffer, specs.Shape.epoch_commits, specs.Entry.Entry, specs.Firsts.firsts, proofs.Logic.ok_same}
 use Rattle.pk_base.specs.Page.{Page, Flash, page_at, erased, whole, torn, page_of_pair, commit_at, commits_of}
-use Rattle.pk_base.specs.Entry.{Entry}
 use Rattle.pk_base.specs.Refusal.{Refusal, damaged, ◌>>=◌, ensure, some_or}
-use Rattle.pk_base.specs.Firsts.{firsts}
-use Rattle.pk_jrnfmt.specs.Page.{journal_entries}
-use Rattle.pk_jrnfmt.specs.Epoch.{may_follow, journal, epoch}
-use Rattle.pk_jrn.specs.Laws.{SameBlocks}
-use Rattle.pk_jrn.proofs.Places.{commit_same}
-use Rattle.pk_base.proofs.Logic.{ok_same}
+use Rattle.pk_jrnfmt.{specs.Page.journal_entries, specs.Epoch.may_follow, specs.Epoch.journal, specs.Epoch.epoch}
+use Rattle.pk_jrn.{specs.Laws.SameBlocks, proofs.Places.commit_same}
 
 -- a step that gave something, and what followed
 bind_ok : {A B : Type 0} (r : Result A Refusal) (f : A → Result B Refusal) (b : B) → r >>= f ≡ Ok b → (a : A) × (r ≡ Ok a) × (f a ≡ Ok b)

@@ -1,17 +1,11 @@
 -- The pages of an epoch's two blocks.
 use Rattle.std.proofs.Common.{◌≡◌, ◌≢◌, ℕ, ◌+◌, ◌-◌, ◌*◌, ◌/◌, ◌%◌, ◌<◌, ◌≤◌, refl, sym, ap, subst, ◌∙◌, arith, List, Bool, true, false, if◌then◌else◌, div-add-mod', inl, inr}
-use Rattle.std.specs.Prelude.{slice_index}
-use Rattle.std.proofs.lemmas.Nat.{div-mul-add, mod-mul-add}
-use Rattle.std.proofs.lemmas.Bool.{cases_lt}
-use Rattle.pk_base.specs.Shape.{Shape, IsShape, epoch_pages, epoch_commits, page_count}
+use Rattle.std.{specs.Prelude.slice_index, proofs.lemmas.Nat.div-mul-add, proofs.lemmas.Nat.mod-mul-add, proofs.lemmas.Bool.cases_lt}
+use Rattle.pk_base.{specs.Shape.Shape, specs.Shape.IsShape, specs.Shape.epoch_pages, specs.Shape.epoch_commits, specs.Shape.page_count, proofs.CommitPages.second, proofs.BlockLemmas.apart}
 use Rattle.pk_base.specs.Page.{Page, Flash, page_at, erased, page_in, page_of_pair, commit_page, commit_at}
-use Rattle.pk_base.proofs.CommitPages.{second}
 use Rattle.pk_base.proofs.EpochPages.{half, rest, low, high}
-use Rattle.pk_nand.specs.Operations.{InOrder}
-use Rattle.pk_nand.specs.Crash.{SameOutside}
-use Rattle.pk_jrn.specs.Epochs.{JournalEpoch, EpochOnFlash, AllExist, AreErased, next_page, pages_of}
-use Rattle.pk_jrn.specs.Laws.{SameBlocks}
-use Rattle.pk_base.proofs.BlockLemmas.{apart}
+use Rattle.pk_nand.{specs.Operations.InOrder, specs.Crash.SameOutside}
+use Rattle.pk_jrn.{specs.Epochs.JournalEpoch, specs.Epochs.EpochOnFlash, specs.Epochs.AllExist, specs.Epochs.AreErased, specs.Epochs.next_page, specs.Epochs.pages_of, specs.Laws.SameBlocks}
 
 module _ (shape : Shape) (blocks : List ℕ) where
   -- the page of an index, by its block and its place in it

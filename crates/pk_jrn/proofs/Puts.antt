@@ -1,18 +1,11 @@
 -- Entries that are written one after another: the later one of a key counts.
 use Rattle.std.proofs.Common.{◌≡◌, ℕ, suc, ◌+◌, ◌<◌, ◌≤◌, refl, sym, ap, subst, ◌∙◌, arith, Bool, true, false, cond, ◌&&◌, ◌||◌, T, List, [], ◌∷◌, ◌++◌, reverse, length, append_assoc, append-nil}
 use Rattle.std.proofs.Common.{Option, Some, None, is_some}
-use Rattle.std.specs.Prelude.{⊤, MatchOption}
-use Rattle.std.specs.Ordering.{is_lt, eq_by_cmp}
-use Rattle.std.specs.Cmp.Lexicographic.{nat_list_cmp_total}
+use Rattle.std.{specs.Prelude.⊤, specs.Prelude.MatchOption, specs.Ordering.is_lt, specs.Ordering.eq_by_cmp, specs.Cmp.Lexicographic.nat_list_cmp_total, proofs.lemmas.List.reverse-append}
 use Rattle.std.specs.FinMap.{IsAntisymmetric, slice_cmp-IsAntisymmetric, nat_cmp-IsAntisymmetric}
 use Rattle.std.specs.FinMap.Entries.{put, find, is_sorted, below_all, find-put, is_sorted-put, length-put, same_entries}
-use Rattle.std.proofs.lemmas.List.{reverse-append}
-use Rattle.pk_base.specs.Key.{Key, key_cmp}
-use Rattle.pk_base.specs.Entry.{Entry, Place}
-use Rattle.pk_base.specs.declared.entry.Entry.{Entry as RustEntry}
-use Rattle.pk_base.specs.Firsts.{firsts}
+use Rattle.pk_base.{specs.Key.Key, specs.Key.key_cmp, specs.Entry.Entry, specs.Entry.Place, specs.declared.entry.Entry.Entry as RustEntry, specs.Firsts.firsts, proofs.KeyLemmas.firsts_sorted}
 use Rattle.pk_jrn.specs.Replays.{puts}
-use Rattle.pk_base.proofs.KeyLemmas.{firsts_sorted}
 
 key_antisymm : IsAntisymmetric key_cmp
 key_antisymm = slice_cmp-IsAntisymmetric nat_cmp-IsAntisymmetric

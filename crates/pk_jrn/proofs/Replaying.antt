@@ -1,37 +1,21 @@
 -- The commits of an epoch that are read one after another into a write buffer.
-use Rattle.std.proofs.Common.{◌≡◌, ℕ, zero, suc, ◌+◌, ◌-◌, ◌^◌, ◌<◌, ◌≤◌, refl, sym, ap, subst, ◌∙◌, arith, Bool, true, false, T, List, [], ◌∷◌, ◌++◌, length, take, Some, None, Result, Ok, Err, ◌&&◌, ◌⊎◌, inl, inr, nat_le, le→leb, drop}
-use Rattle.std.proofs.Common.{below_more, zero-add, add-zero}
-use Rattle.std.specs.Prelude.{slice_get, ◌*◌, ◌/◌, ◌%◌}
-use Rattle.std.specs.List.{AllByRecursion}
-use Rattle.std.specs.FinMap.Entries.{put, is_sorted}
-use Rattle.std.proofs.lemmas.List.{take_all, take-append-drop}
-use Rattle.pk_base.specs.Key.{key_cmp, space_of}
-use Rattle.pk_base.specs.Shape.{Shape, IsShape, buffer, epoch_commits}
-use Rattle.pk_base.specs.Page.{Page, page_at, erased, whole, torn, commit_page, commit_at, commits_of}
-use Rattle.pk_base.specs.Entry.{Entry, key_of}
-use Rattle.pk_base.specs.EntryChecks.{IsEntry}
-use Rattle.pk_base.specs.Firsts.{firsts}
-use Rattle.pk_base.specs.Refusal.{damaged}
+use Rattle.std.proofs.Common.{◌≡◌, ℕ, zero, suc, ◌+◌, ◌-◌, ◌^◌, ◌<◌, ◌≤◌, refl, sym, ap, subst, ◌∙◌, arith, Bool, true, false, T, List, [], ◌∷◌, ◌++◌, length, take, Some, None, Result, Ok, Err, ◌&&◌}
+use Rattle.std.proofs.Common.{◌⊎◌, inl, inr, nat_le, le→leb, drop, below_more, zero-add, add-zero}
+use Rattle.std.{specs.Prelude.slice_get, specs.Prelude.◌*◌, specs.Prelude.◌/◌, specs.Prelude.◌%◌, specs.List.AllByRecursion, specs.FinMap.Entries.put, specs.FinMap.Entries.is_sorted}
+use Rattle.std.{proofs.lemmas.List.take_all, proofs.lemmas.List.take-append-drop, proofs.lemmas.Bool.Decides.nat_tests, proofs.lemmas.List.Folds.list_all-append}
+use Rattle.pk_base.{specs.Key.key_cmp, specs.Key.space_of, specs.Shape.Shape, specs.Shape.IsShape, specs.Shape.buffer, specs.Shape.epoch_commits, specs.Entry.Entry, specs.Entry.key_of}
+use Rattle.pk_base.{specs.Page.Page, specs.Page.page_at, specs.Page.erased, specs.Page.whole, specs.Page.torn, specs.Page.commit_page, specs.Page.commit_at, specs.Page.commits_of, specs.Firsts.firsts}
+use Rattle.pk_base.{specs.EntryChecks.IsEntry, specs.Refusal.damaged, proofs.Logic.is_true, proofs.Logic.some_same}
 use Rattle.pk_buf.specs.Table.{Table, no_entries}
-use Rattle.pk_jrnfmt.specs.declared.JrnHead.{JrnHead}
-use Rattle.pk_jrnfmt.specs.declared.BadJournal.{BadJournal}
-use Rattle.pk_jrnfmt.specs.Page.{journal_entries}
-use Rattle.pk_jrnfmt.specs.PageChecks.{IsJournalPage}
-use Rattle.pk_space.specs.Entries.{in_spaces}
+use Rattle.pk_jrnfmt.{specs.declared.JrnHead.JrnHead, specs.declared.BadJournal.BadJournal, specs.Page.journal_entries, specs.PageChecks.IsJournalPage, proofs.PageLemmas.journal_held}
 use Rattle.pk_jrnfmt.specs.Epoch.{may_follow, journal, epoch}
-use Rattle.pk_jrnfmt.proofs.PageLemmas.{journal_held}
-use Rattle.pk_nand.specs.BoardState.{BoardState}
-use Rattle.pk_nand.specs.Operations.{after_read}
-use Rattle.pk_nand.specs.Counts.{after_reads}
+use Rattle.pk_space.specs.Entries.{in_spaces}
+use Rattle.pk_nand.{specs.BoardState.BoardState, specs.Operations.after_read, specs.Counts.after_reads}
 use Rattle.pk_pair.specs.Pairs.{reads_of_pair, whole_number}
-use Rattle.pk_jrn.specs.Epochs.{HasCommit}
+use Rattle.pk_jrn.{specs.Epochs.HasCommit, specs.EpochReads.if_whole, specs.EpochReads.reads_to_end, specs.EpochReads.epoch_reads}
 use Rattle.pk_jrn.specs.Replays.{puts, PutOrFull, PutsOrFull, TakesPage, buffer_of, Replayed, reads_before, ReplayRefused}
-use Rattle.pk_jrn.specs.EpochReads.{if_whole, reads_to_end, epoch_reads}
 use Rattle.pk_jrn.proofs.Puts.{puts-snoc, puts_are_firsts, puts_too_many, firsts-reverse}
 use Rattle.pk_jrn.proofs.Journals.{IsNotWhole, ends, goes_on, refuses, epoch_is}
-use Rattle.std.proofs.lemmas.Bool.Decides.{nat_tests}
-use Rattle.pk_base.proofs.Logic.{is_true, some_same}
-use Rattle.std.proofs.lemmas.List.Folds.{list_all-append}
 
 -- ---- the namespaces of the entries of one page
 

@@ -1,12 +1,8 @@
 -- Entries that are added to an epoch.
 use Rattle.std.specs.Prelude.{◌≡◌, ◌⊎◌, ℕ, ◌+◌, ◌≤◌, true, false, List, ◌++◌, Some}
-use Rattle.pk_base.specs.Page.{Flash, page_at, whole}
-use Rattle.pk_base.specs.Entry.{Entry}
-use Rattle.pk_jrnfmt.specs.Epoch.{may_follow}
-use Rattle.pk_jrnfmt.specs.Page.{journal_bytes, journal_entries}
-use Rattle.pk_nand.specs.BoardState.{BoardState}
-use Rattle.pk_nand.specs.Calls.{after_program, ProgramFailed}
-use Rattle.pk_nand.specs.Crash.{SameOutside, Reached, Went}
+use Rattle.pk_base.{specs.Page.Flash, specs.Page.page_at, specs.Page.whole, specs.Entry.Entry}
+use Rattle.pk_jrnfmt.{specs.Epoch.may_follow, specs.Page.journal_bytes, specs.Page.journal_entries}
+use Rattle.pk_nand.{specs.BoardState.BoardState, specs.Calls.after_program, specs.Calls.ProgramFailed, specs.Crash.SameOutside, specs.Crash.Reached, specs.Crash.Went}
 use Rattle.pk_nand.specs.Pairs.{programs_of_pair, IsPairCut}
 use Rattle.pk_jrn.specs.Epochs.{JournalEpoch, EpochOnFlash, next_page, before_half, Reads}
 

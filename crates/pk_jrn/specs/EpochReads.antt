@@ -1,7 +1,6 @@
 -- How many reads a replay of an epoch makes.
 use Rattle.std.specs.Prelude.{ℕ, zero, suc, ◌+◌, ◌*◌, ◌/◌, List, length}
-use Rattle.pk_base.specs.Shape.{Shape}
-use Rattle.pk_base.specs.Page.{Page, erased, whole, torn, commit_page, commit_at}
+use Rattle.pk_base.{specs.Shape.Shape, specs.Page.Page, specs.Page.erased, specs.Page.whole, specs.Page.torn, specs.Page.commit_page, specs.Page.commit_at}
 use Rattle.pk_pair.specs.Pairs.{reads_of_pair}
 
 -- the reads go on after a commit if it has a page that is Whole

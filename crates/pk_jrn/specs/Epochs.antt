@@ -1,8 +1,7 @@
 -- An epoch of the journal: its commits, how many it has, and how it matches a flash.
 use Rattle.std.specs.Prelude.{◌≡◌, ◌≢◌, ℕ, ◌-◌, ◌*◌, ◌<◌, ◌≤◌, Bool, true, false, if◌then◌else◌, List, length, slice_index, Ok}
-use Rattle.pk_base.specs.Shape.{Shape, epoch_pages, epoch_commits}
+use Rattle.pk_base.{specs.Shape.Shape, specs.Shape.epoch_pages, specs.Shape.epoch_commits, specs.Entry.Entry}
 use Rattle.pk_base.specs.Page.{Flash, page_at, erased, whole, page_in, commit_page, commit_at}
-use Rattle.pk_base.specs.Entry.{Entry}
 use Rattle.pk_nand.specs.Operations.{IsErasedBlock}
 use Rattle.pk_jrnfmt.specs.Epoch.{epoch}
 

@@ -1,7 +1,6 @@
 -- What calls of other crates leave of an epoch: the statements.
 use Rattle.std.specs.Prelude.{◌≡◌, ◌≢◌, ℕ, ◌+◌, ◌*◌, ◌<◌, ◌≤◌, List, length, slice_index}
-use Rattle.pk_base.specs.Shape.{Shape, IsShape}
-use Rattle.pk_base.specs.Page.{Flash, page_at}
+use Rattle.pk_base.{specs.Shape.Shape, specs.Shape.IsShape, specs.Page.Flash, specs.Page.page_at}
 use Rattle.pk_nand.specs.Crash.{SameOutside}
 use Rattle.pk_jrnfmt.specs.Epoch.{epoch}
 use Rattle.pk_jrn.specs.Epochs.{JournalEpoch, EpochOnFlash}

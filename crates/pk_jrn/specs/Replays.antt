@@ -1,25 +1,14 @@
 -- An epoch that is read from a flash into a write buffer.
 use Rattle.std.specs.Prelude.{◌≡◌, ◌⊎◌, ℕ, zero, suc, ◌+◌, ◌<◌, ◌≤◌, Bool, true, false, List, [], ◌∷◌, length, reverse, Some, Ok, Err}
-use Rattle.std.specs.FinMap.Entries.{put}
-use Rattle.std.specs.List.{AllByRecursion}
-use Rattle.pk_base.specs.Key.{key_cmp}
-use Rattle.pk_base.specs.Shape.{Shape, buffer, epoch_commits}
-use Rattle.pk_base.specs.Page.{Page, Flash, page_at, commit_page, commit_at}
-use Rattle.pk_base.specs.Entry.{Entry, key_of}
-use Rattle.pk_base.specs.EntryChecks.{IsEntry}
-use Rattle.pk_base.specs.Firsts.{firsts}
-use Rattle.pk_base.specs.Refusal.{damaged}
+use Rattle.std.{specs.FinMap.Entries.put, specs.List.AllByRecursion}
+use Rattle.pk_base.{specs.Key.key_cmp, specs.Shape.Shape, specs.Shape.buffer, specs.Shape.epoch_commits, specs.Entry.Entry, specs.Entry.key_of, specs.EntryChecks.IsEntry, specs.Firsts.firsts}
+use Rattle.pk_base.{specs.Page.Page, specs.Page.Flash, specs.Page.page_at, specs.Page.commit_page, specs.Page.commit_at, specs.Refusal.damaged}
 use Rattle.pk_space.specs.Entries.{in_spaces}
-use Rattle.pk_jrnfmt.specs.Page.{journal_entries}
-use Rattle.pk_jrnfmt.specs.Epoch.{epoch}
+use Rattle.pk_jrnfmt.{specs.Page.journal_entries, specs.Epoch.epoch}
 use Rattle.pk_buf.specs.Table.{Table}
-use Rattle.pk_nand.specs.BoardState.{BoardState}
-use Rattle.pk_nand.specs.Calls.{Rose}
-use Rattle.pk_nand.specs.Counts.{after_reads}
-use Rattle.pk_jrn.specs.declared.error.ReplayError.{ReplayError}
-use Rattle.pk_jrn.specs.declared.error.ReplayError.TheVariants.{Damaged, Fault}
+use Rattle.pk_nand.{specs.BoardState.BoardState, specs.Calls.Rose, specs.Counts.after_reads}
+use Rattle.pk_jrn.{specs.declared.error.ReplayError.ReplayError, specs.declared.error.ReplayError.TheVariants.Damaged, specs.declared.error.ReplayError.TheVariants.Fault, specs.Epochs.HasCommit}
 use Rattle.pk_pair.specs.Pairs.{reads_of_pair, PairReadFailed}
-use Rattle.pk_jrn.specs.Epochs.{HasCommit}
 
 -- a write buffer that holds these entries, of which the later one of a key counts
 abbrev pub buffer_of : Shape → List Entry → Table

@@ -1,12 +1,8 @@
 -- Which bytes are a journal page, the first field that is wrong, and the laws of reading and writing one.
 use Rattle.std.specs.Prelude.{◌≡◌, ℕ, ◌+◌, ◌-◌, ◌*◌, ◌<◌, ◌≤◌, ◌^◌, List, [], ◌∷◌, length, false, ◌&&◌, nat_le, nat_lt, Option, Some}
 use Rattle.std.specs.List.{AllByRecursion}
-use Rattle.pk_base.specs.declared.sizes.TheConstants.{HEAD_BYTES, ENTRY_BYTES}
-use Rattle.pk_base.specs.Fields.{number_at, zeros}
-use Rattle.pk_base.specs.FieldFaults.{unlike, unless, first_fault}
-use Rattle.pk_base.specs.Key.{no_key}
-use Rattle.pk_base.specs.Shape.{Shape, IsShape, page_entries, epoch_commits}
-use Rattle.pk_base.specs.Entry.{Entry}
+use Rattle.pk_base.{specs.declared.sizes.TheConstants.HEAD_BYTES, specs.declared.sizes.TheConstants.ENTRY_BYTES, specs.Fields.number_at, specs.Fields.zeros, specs.Key.no_key, specs.Entry.Entry}
+use Rattle.pk_base.{specs.FieldFaults.unlike, specs.FieldFaults.unless, specs.FieldFaults.first_fault, specs.Shape.Shape, specs.Shape.IsShape, specs.Shape.page_entries, specs.Shape.epoch_commits}
 use Rattle.pk_base.specs.EntryChecks.{IsEntry, entries_fault}
 use Rattle.pk_jrnfmt.specs.Page.{journal_bytes, journal_entries, journal_magic}
 

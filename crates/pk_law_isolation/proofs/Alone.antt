@@ -2,25 +2,17 @@
 use Rattle.std.proofs.Common.{◌≡◌, inl, inr, ℕ, ◌+◌, ◌-◌, ◌≤◌, ◌∷◌, [], List, true, false, not, min, refl, sym, ap, ◌∙◌, ◌==◌, ◌||◌, Some, None, Option, unwrap_or, is_some, map, filter, is_lt, length}
 use Rattle.std.proofs.Common.{take, flat_map}
 use Rattle.std.specs.FinMap.{get, contains_key, entries}
-use Rattle.pk_base.specs.Choices.{or_else}
-use Rattle.pk_base.specs.Shape.{Shape, charge, pinned}
-use Rattle.pk_base.specs.Key.{key_cmp, bytes_of}
-use Rattle.pk_base.specs.Fields.{u32}
+use Rattle.pk_base.{specs.Choices.or_else, specs.Shape.Shape, specs.Shape.charge, specs.Shape.pinned, specs.Key.key_cmp, specs.Key.bytes_of, specs.Fields.u32}
 use Rattle.pk_base.specs.Map.{Map, keys_from, pages_if_some}
-use Rattle.pk_nvme.specs.declared.opcode.Opcode.{Opcode}
+use Rattle.pk_nvme.{specs.declared.opcode.Opcode.Opcode, specs.Opcode.op_of, specs.Command.Command, specs.Command.key, specs.Reply.Reply}
 use Rattle.pk_nvme.specs.declared.opcode.Opcode.TheVariants.{Flush, Store, Retrieve, List as ListKeys, Delete, Exist, Tick, Report}
 use Rattle.pk_nvme.specs.declared.limits.TheConstants.{ALL_NAMESPACES, COUNT_BYTES, MOST_LIST_BYTES}
 use Rattle.pk_nvme.specs.declared.status.TheConstants.{INVALID_NAMESPACE_OR_FORMAT, INVALID_KEY_SIZE, KEY_DOES_NOT_EXIST}
-use Rattle.pk_nvme.specs.Opcode.{op_of}
-use Rattle.pk_nvme.specs.Command.{Command, key}
-use Rattle.pk_nvme.specs.Reply.{Reply}
-use Rattle.pk_model.specs.Spaces.{Terms, limit_of, is_space, in_space}
+use Rattle.pk_model.{specs.Spaces.Terms, specs.Spaces.limit_of, specs.Spaces.is_space, specs.Spaces.in_space, specs.Run.Step, proofs.SpaceLemmas.get_own}
 use Rattle.pk_model.specs.Answer.{check, is_namespace, is_key_length, size_fault, fault_of, early, live_after, store_fault, late_of, refused, effect, map_after, success, list_bytes, fitting, reply_of}
 use Rattle.pk_model.specs.Answer.{reply, Answer}
-use Rattle.pk_model.specs.Run.{Step}
 use Rattle.pk_law_isolation.specs.Isolation.{map_alone, terms_alone, command_alone, key_in_first}
 use Rattle.pk_law_isolation.proofs.Lists.{from_moved, fitting_moved, listed_moved}
-use Rattle.pk_model.proofs.SpaceLemmas.{get_own}
 use Rattle.pk_law_isolation.proofs.Unfolded.{reply_unless, effect_unless, reply_is, map_after_is}
 use Rattle.pk_law_isolation.proofs.Parts.{get_first, live_alone, len_alone, entries_alone, part_in, alone_insert, alone_remove, insert_elsewhere, remove_elsewhere, first_alone}
 

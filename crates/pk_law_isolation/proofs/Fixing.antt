@@ -1,21 +1,12 @@
 -- The commands of a run without read errors fix its replies, but for a Report's numbers of the drive's own.
 use Rattle.std.proofs.Common.{◌≡◌, inl, inr, ℕ, ◌+◌, ◌∷◌, [], List, true, false, refl, sym, ap, ◌∙◌, ◌==◌, if◌then◌else◌, Some, None, Option, subst, take, flat_map, arith}
-use Rattle.std.specs.FinMap.{len}
-use Rattle.std.proofs.Math.Seq.{take-append_seam}
-use Rattle.std.proofs.lemmas.Grind.{flat_map-append}
-use Rattle.pk_base.specs.Shape.{Shape, pinned}
-use Rattle.pk_base.specs.Fields.{u32}
-use Rattle.pk_base.specs.Map.{Map, live}
-use Rattle.pk_nvme.specs.declared.opcode.Opcode.{Opcode}
+use Rattle.std.{specs.FinMap.len, proofs.Math.Seq.take-append_seam, proofs.lemmas.Grind.flat_map-append}
+use Rattle.pk_base.{specs.Shape.Shape, specs.Shape.pinned, specs.Fields.u32, specs.Map.Map, specs.Map.live}
+use Rattle.pk_nvme.{specs.declared.opcode.Opcode.Opcode, specs.Opcode.op_of, specs.Command.Command, specs.Reply.Reply}
 use Rattle.pk_nvme.specs.declared.opcode.Opcode.TheVariants.{Flush, Store, Retrieve, List as ListKeys, Delete, Exist, Tick, Report}
-use Rattle.pk_nvme.specs.Opcode.{op_of}
-use Rattle.pk_nvme.specs.Command.{Command}
-use Rattle.pk_nvme.specs.Reply.{Reply}
-use Rattle.pk_model.specs.Spaces.{Terms, limit_of, in_space}
-use Rattle.pk_model.specs.Answer.{reply_of, reply, refused, success}
+use Rattle.pk_model.{specs.Spaces.Terms, specs.Spaces.limit_of, specs.Spaces.in_space, specs.Answer.reply_of, specs.Answer.reply, specs.Answer.refused, specs.Answer.success}
 use Rattle.pk_model.specs.Run.{Step, Run, Exchange, commands, faults}
-use Rattle.pk_law_isolation.proofs.Unfolded.{reply_unless, reply_is}
-use Rattle.pk_law_isolation.specs.Isolation.{told_reply, told_replies, Fixed}
+use Rattle.pk_law_isolation.{proofs.Unfolded.reply_unless, proofs.Unfolded.reply_is, specs.Isolation.told_reply, specs.Isolation.told_replies, specs.Isolation.Fixed}
 
 front : (a b c d e : ℕ) (own : List ℕ) → take 20 (flat_map u32 (a ∷ b ∷ c ∷ d ∷ e ∷ own)) ≡ flat_map u32 (a ∷ b ∷ c ∷ d ∷ e ∷ [])
 front a b c d e own =

@@ -1,24 +1,16 @@
 -- A command on a map, and on the list of the maps of its namespaces.
-use Rattle.std.proofs.Common.{length, ◌≡◌, ℕ, zero, suc, ◌+◌, ◌-◌, ◌≤◌, ◌<◌, ◌∷◌, [], List, Bool, true, false, refl, sym, ap, ◌∙◌, ◌==◌, ◌||◌, if◌then◌else◌, nat_le, subst, arith, ne_eqb}
-use Rattle.std.proofs.Common.{leb-true, slice_index_or, slice_set, Some, None, Option}
+use Rattle.std.proofs.Common.{length, ◌≡◌, ℕ, zero, suc, ◌+◌, ◌-◌, ◌≤◌, ◌<◌, ◌∷◌, [], List, Bool, true, false, refl, sym, ap, ◌∙◌, ◌==◌, ◌||◌, if◌then◌else◌, nat_le, subst, arith, ne_eqb, leb-true}
+use Rattle.std.proofs.Common.{slice_index_or, slice_set, Some, None, Option}
 use Rattle.std.specs.FinMap.{empty}
-use Rattle.pk_base.specs.Choices.{or_else}
-use Rattle.pk_base.specs.Shape.{Shape}
-use Rattle.pk_base.specs.Map.{Map}
-use Rattle.pk_base.proofs.Logic.{both_true}
-use Rattle.pk_nvme.specs.declared.limits.TheConstants.{ALL_NAMESPACES}
-use Rattle.pk_nvme.specs.declared.opcode.Opcode.{Opcode}
+use Rattle.pk_base.{specs.Choices.or_else, specs.Shape.Shape, specs.Map.Map, proofs.Logic.both_true}
+use Rattle.pk_nvme.{specs.declared.limits.TheConstants.ALL_NAMESPACES, specs.declared.opcode.Opcode.Opcode, specs.Opcode.op_of, specs.Command.Command, specs.Reply.Reply, specs.Reply.refusal}
 use Rattle.pk_nvme.specs.declared.opcode.Opcode.TheVariants.{Flush, Store, Retrieve, List as ListKeys, Delete, Exist, Tick, Report}
 use Rattle.pk_nvme.specs.declared.status.TheConstants.{INVALID_COMMAND_OPCODE, INVALID_NAMESPACE_OR_FORMAT, INVALID_KEY_SIZE}
-use Rattle.pk_nvme.specs.Opcode.{op_of}
-use Rattle.pk_nvme.specs.Command.{Command}
-use Rattle.pk_nvme.specs.Reply.{Reply, refusal}
 use Rattle.pk_model.specs.Spaces.{Terms, is_space, limit_of, in_space}
 use Rattle.pk_model.specs.Answer.{check, is_namespace, is_key_length, size_fault, fault_of, early, late_of, refused, effect, map_after, reply_of, reply, Answer, success}
-use Rattle.pk_law_isolation.specs.Isolation.{map_alone, terms_alone, command_alone}
+use Rattle.pk_law_isolation.{specs.Isolation.map_alone, specs.Isolation.terms_alone, specs.Isolation.command_alone, proofs.Alone.own_answer, proofs.Alone.other_answer}
 use Rattle.pk_law_isolation.specs.Parts.{space_maps_from, space_maps, answering_space, AnsweredIn, AnsweredIf, IsRefused, AnswerBy, AnsweredInParts}
 use Rattle.pk_law_isolation.proofs.Unfolded.{reply_unless, effect_unless, reply_is, map_after_is}
-use Rattle.pk_law_isolation.proofs.Alone.{own_answer, other_answer}
 
 or_true : (t : Bool) → (t || true) ≡ true
 or_true true = refl

@@ -1,12 +1,9 @@
 -- A run of commands, and those of one namespace in it.
 use Rattle.std.proofs.lemmas.Bool.{eqb-false}
 use Rattle.std.proofs.Common.{length, ◌≡◌, ℕ, ◌≤◌, ◌∷◌, [], List, Bool, true, false, refl, sym, ap, ◌==◌, ◌&&◌, if◌then◌else◌, nat_le, subst, eqb-true, ne_eqb, le-leb}
-use Rattle.pk_base.specs.Shape.{Shape}
-use Rattle.pk_base.specs.Map.{Map}
-use Rattle.pk_nvme.specs.Command.{Command}
-use Rattle.pk_nvme.specs.Reply.{Reply}
-use Rattle.pk_model.specs.Spaces.{Terms, is_space}
-use Rattle.pk_model.specs.Run.{Step, Run, Exchange, commands}
+use Rattle.pk_base.{specs.Shape.Shape, specs.Map.Map}
+use Rattle.pk_nvme.{specs.Command.Command, specs.Reply.Reply}
+use Rattle.pk_model.{specs.Spaces.Terms, specs.Spaces.is_space, specs.Run.Step, specs.Run.Run, specs.Run.Exchange, specs.Run.commands}
 use Rattle.pk_law_isolation.specs.Isolation.{map_alone, terms_alone, command_alone, commands_of_space, exchanges_in, Isolated}
 use Rattle.pk_law_isolation.proofs.Alone.{own_step, other_step}
 

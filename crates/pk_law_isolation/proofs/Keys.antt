@@ -1,9 +1,6 @@
 -- Keys with their namespaces, and their order.
-use Rattle.std.proofs.lemmas.Bool.{eqb-false}
+use Rattle.std.{proofs.lemmas.Bool.eqb-false, specs.Ordering.eq_by_cmp, specs.Ordering.ordering_then, specs.Cmp.tied_itself, specs.Cmp.nat_cmp_total, specs.Cmp.Lexicographic.slice_cmp}
 use Rattle.std.proofs.Common.{◌≡◌, ℕ, ◌≤◌, ◌∷◌, [], List, true, false, cond, refl, sym, ap, subst, ◌∙◌, arith, ◌==◌, eqb-true, is_eq, Ordering, Less, Equal, Greater, nat_cmp, T}
-use Rattle.std.specs.Ordering.{eq_by_cmp, ordering_then}
-use Rattle.std.specs.Cmp.{tied_itself, nat_cmp_total}
-use Rattle.std.specs.Cmp.Lexicographic.{slice_cmp}
 use Rattle.std.specs.FinMap.{nat_cmp-IsAntisymmetric}
 use Rattle.pk_base.specs.Key.{Key, key_cmp, space_of, bytes_of}
 use Rattle.pk_law_isolation.specs.Isolation.{key_in_first}

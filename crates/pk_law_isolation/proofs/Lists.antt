@@ -1,16 +1,10 @@
 -- Lists of entries of one namespace, moved to namespace 1.
 use Rattle.std.proofs.Common.{◌≡◌, ℕ, ◌+◌, ◌-◌, ◌≤◌, ◌∷◌, [], List, map, length, filter, Bool, true, false, cond, refl, ap, ◌∙◌, ◌==◌, ◌&&◌, not, nat_le, is_eq, is_lt, if◌then◌else◌, ◌++◌, flat_map}
 use Rattle.std.proofs.Common.{Some, None, suc}
-use Rattle.std.specs.List.{AllByRecursion}
-use Rattle.std.specs.Ordering.{eq_by_cmp}
-use Rattle.std.specs.FinMap.Entries.{find, below_all, is_sorted, where_key}
-use Rattle.pk_base.specs.Key.{Key, key_cmp, space_of, bytes_of}
-use Rattle.pk_base.specs.Shape.{Shape}
-use Rattle.pk_base.specs.Map.{pages_in, pages_of}
-use Rattle.pk_law_isolation.specs.Isolation.{key_in_first, entries_moved}
+use Rattle.std.{specs.List.AllByRecursion, specs.Ordering.eq_by_cmp, specs.FinMap.Entries.find, specs.FinMap.Entries.below_all, specs.FinMap.Entries.is_sorted, specs.FinMap.Entries.where_key}
+use Rattle.pk_base.{specs.Key.Key, specs.Key.key_cmp, specs.Key.space_of, specs.Key.bytes_of, specs.Shape.Shape, specs.Map.pages_in, specs.Map.pages_of, specs.Fields.u32}
+use Rattle.pk_law_isolation.{specs.Isolation.key_in_first, specs.Isolation.entries_moved, proofs.Keys.IsIn, proofs.Keys.is_in, proofs.Keys.moved_cmp, proofs.Keys.first_tie}
 use Rattle.pk_model.specs.Answer.{listed, fitting, list_bytes}
-use Rattle.pk_law_isolation.proofs.Keys.{IsIn, is_in, moved_cmp, first_tie}
-use Rattle.pk_base.specs.Fields.{u32}
 
 abbrev pub Entries : Type 0
 Entries = List (Key × List ℕ)

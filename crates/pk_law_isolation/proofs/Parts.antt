@@ -1,16 +1,10 @@
 -- One namespace of a map, and the map of a drive that has it alone.
 use Rattle.std.proofs.Common.{◌≡◌, ℕ, ◌≤◌, ◌∷◌, List, length, Bool, true, false, cond, refl, sym, ap, ◌∙◌, ◌==◌, T, subst, Some, None, Option, is_eq, arith}
-use Rattle.std.specs.Ordering.{eq_by_cmp}
+use Rattle.std.{specs.Ordering.eq_by_cmp, specs.FinMap.Entries.find}
 use Rattle.std.specs.FinMap.{get, insert, remove, len, entries, entries_sorted, entries-from_sorted, get-entries, get-insert, get-remove, len-entries}
-use Rattle.std.specs.FinMap.Entries.{find}
-use Rattle.pk_base.specs.Key.{Key, key_cmp, space_of, bytes_of}
-use Rattle.pk_base.specs.Shape.{Shape}
-use Rattle.pk_base.specs.Map.{Map, live, pages_in}
-use Rattle.pk_model.specs.Spaces.{in_space}
-use Rattle.pk_model.proofs.MapLemmas.{key_total}
-use Rattle.pk_model.proofs.SpaceLemmas.{entries_in, by_keys, get_in_space, get_own}
-use Rattle.pk_law_isolation.specs.Isolation.{entries_moved, map_alone}
-use Rattle.pk_law_isolation.proofs.Keys.{first_tie, tagged_cmp, apart, is_in}
+use Rattle.pk_base.{specs.Key.Key, specs.Key.key_cmp, specs.Key.space_of, specs.Key.bytes_of, specs.Shape.Shape, specs.Map.Map, specs.Map.live, specs.Map.pages_in}
+use Rattle.pk_model.{specs.Spaces.in_space, proofs.MapLemmas.key_total, proofs.SpaceLemmas.entries_in, proofs.SpaceLemmas.by_keys, proofs.SpaceLemmas.get_in_space, proofs.SpaceLemmas.get_own}
+use Rattle.pk_law_isolation.{specs.Isolation.entries_moved, specs.Isolation.map_alone, proofs.Keys.first_tie, proofs.Keys.tagged_cmp, proofs.Keys.apart, proofs.Keys.is_in}
 use Rattle.pk_law_isolation.proofs.Lists.{AllIn, all_in, sorted_moved, find_moved, find_other, pages_moved, length_moved}
 
 module _ (space : ℕ) (some : 1 ≤ space) where

@@ -1,19 +1,9 @@
 -- The live pages of a map are those of its namespaces together.
-use Rattle.std.proofs.Common.{◌≡◌, ℕ, zero, suc, ◌+◌, ◌-◌, ◌≤◌, ◌<◌, ◌∷◌, [], List, length, sum, slice_index, true, false, cond, refl, sym, ap, subst, ◌∙◌, arith, ◌==◌, None, eqb-true}
-use Rattle.std.proofs.Common.{ne_eqb}
-use Rattle.std.proofs.lemmas.Bool.{eqb-false}
-use Rattle.std.proofs.lemmas.List.Sums.{sum_by-cons}
-use Rattle.std.specs.FinMap.{get, entries}
-use Rattle.std.specs.FinMap.Entries.{where_key}
-use Rattle.std.specs.List.{AllByRecursion}
-use Rattle.pk_base.specs.Key.{Key, key_cmp, space_of, bytes_of}
-use Rattle.pk_base.specs.Shape.{Shape}
-use Rattle.pk_base.specs.Map.{pages_in, pages_of}
+use Rattle.std.proofs.Common.{◌≡◌, ℕ, zero, suc, ◌+◌, ◌-◌, ◌≤◌, ◌<◌, ◌∷◌, [], List, length, sum, slice_index, true, false, cond, refl, sym, ap, subst, ◌∙◌, arith, ◌==◌, None, eqb-true, ne_eqb}
+use Rattle.std.{proofs.lemmas.Bool.eqb-false, proofs.lemmas.List.Sums.sum_by-cons, specs.FinMap.get, specs.FinMap.entries, specs.FinMap.Entries.where_key, specs.List.AllByRecursion}
+use Rattle.pk_base.{specs.Key.Key, specs.Key.key_cmp, specs.Key.space_of, specs.Key.bytes_of, specs.Shape.Shape, specs.Map.pages_in, specs.Map.pages_of}
 use Rattle.pk_model.proofs.SpaceLemmas.{entries_in, by_keys, get_in_space}
-use Rattle.pk_law_isolation.specs.Sums.{WithinSum, FirstIsPart}
-use Rattle.pk_law_isolation.proofs.Keys.{is_in}
-use Rattle.pk_law_isolation.proofs.Lists.{Entries}
-use Rattle.pk_law_isolation.proofs.Parts.{get_alone}
+use Rattle.pk_law_isolation.{specs.Sums.WithinSum, specs.Sums.FirstIsPart, proofs.Keys.is_in, proofs.Lists.Entries, proofs.Parts.get_alone}
 
 module _ (shape : Shape) where
   abbrev pub space_pages : ℕ → Entries → ℕ

@@ -1,9 +1,8 @@
 -- The replies in one namespace are those of a drive that has it alone.
 use Rattle.std.proofs.Common.{◌≡◌, ℕ, ◌+◌, [], ◌∷◌, List, true, false, refl, sym, ◌∙◌, ◌==◌, if◌then◌else◌, arith}
 use Rattle.pk_model.specs.Run.{Exchange, faults}
-use Rattle.pk_law_isolation.specs.Isolation.{map_alone, terms_alone, command_alone, exchanges_in, SameReplies}
+use Rattle.pk_law_isolation.{specs.Isolation.map_alone, specs.Isolation.terms_alone, specs.Isolation.command_alone, specs.Isolation.exchanges_in, specs.Isolation.SameReplies, proofs.Fixing.fixed}
 use Rattle.pk_law_isolation.proofs.Isolating.{isolated}
-use Rattle.pk_law_isolation.proofs.Fixing.{fixed}
 
 -- a run without read errors has none in a namespace
 faults_in : (space : ℕ) (xs : List Exchange) → faults xs ≡ 0 → faults (exchanges_in space xs) ≡ 0

@@ -1,12 +1,8 @@
 -- A reply and the map after, by the status with which the command is refused, if it is.
 use Rattle.std.proofs.Common.{◌≡◌, ℕ, List, Option, Some, None, refl}
-use Rattle.pk_base.specs.Shape.{Shape}
-use Rattle.pk_base.specs.Map.{Map}
-use Rattle.pk_nvme.specs.Command.{Command}
-use Rattle.pk_nvme.specs.Opcode.{op_of}
-use Rattle.pk_nvme.specs.Reply.{Reply, refusal}
-use Rattle.pk_model.specs.Spaces.{Terms, limit_of, in_space}
-use Rattle.pk_model.specs.Answer.{refused, effect, map_after, reply_of, reply}
+use Rattle.pk_base.{specs.Shape.Shape, specs.Map.Map}
+use Rattle.pk_nvme.{specs.Command.Command, specs.Opcode.op_of, specs.Reply.Reply, specs.Reply.refusal}
+use Rattle.pk_model.{specs.Spaces.Terms, specs.Spaces.limit_of, specs.Spaces.in_space, specs.Answer.refused, specs.Answer.effect, specs.Answer.map_after, specs.Answer.reply_of, specs.Answer.reply}
 
 abbrev pub reply_unless : Shape → Terms → Map → List ℕ → Command → Option ℕ → Reply
 reply_unless shape terms m own c (Some status) = refusal status

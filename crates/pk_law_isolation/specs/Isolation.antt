@@ -1,16 +1,9 @@
 -- What a drive does in one namespace is what a drive does that has this namespace alone.
 use Rattle.std.specs.Prelude.{◌≡◌, ℕ, ◌≤◌, List, [], ◌∷◌, length, take, ◌==◌, if◌then◌else◌, Option, Some}
 use Rattle.std.specs.FinMap.{entries, from_sorted}
-use Rattle.pk_base.specs.Key.{Key, bytes_of}
-use Rattle.pk_base.specs.Shape.{Shape}
-use Rattle.pk_base.specs.Map.{Map}
-use Rattle.pk_nvme.specs.declared.opcode.Opcode.{Opcode}
-use Rattle.pk_nvme.specs.declared.opcode.Opcode.TheVariants.{Report}
-use Rattle.pk_nvme.specs.Opcode.{op_of}
-use Rattle.pk_nvme.specs.Command.{Command}
-use Rattle.pk_nvme.specs.Reply.{Reply}
-use Rattle.pk_model.specs.Spaces.{Terms, one_space, limit_of, in_space}
-use Rattle.pk_model.specs.Run.{Run, Exchange, commands, faults}
+use Rattle.pk_base.{specs.Key.Key, specs.Key.bytes_of, specs.Shape.Shape, specs.Map.Map}
+use Rattle.pk_nvme.{specs.declared.opcode.Opcode.Opcode, specs.declared.opcode.Opcode.TheVariants.Report, specs.Opcode.op_of, specs.Command.Command, specs.Reply.Reply}
+use Rattle.pk_model.{specs.Spaces.Terms, specs.Spaces.one_space, specs.Spaces.limit_of, specs.Spaces.in_space, specs.Run.Run, specs.Run.Exchange, specs.Run.commands, specs.Run.faults}
 
 -- ---- one namespace of a map as the map of a drive that has it alone
 

@@ -1,16 +1,10 @@
 -- The maps of a drive's namespaces as a list, and what a command is answered on that list.
 use Rattle.std.specs.Prelude.{◌≡◌, ℕ, zero, suc, ◌+◌, ◌-◌, ◌<◌, List, [], ◌∷◌, length, slice_index_or, slice_set, Bool, true, false, ◌==◌, if◌then◌else◌, Option, Some, None}
 use Rattle.std.specs.FinMap.{empty}
-use Rattle.pk_base.specs.Shape.{Shape}
-use Rattle.pk_base.specs.Map.{Map}
-use Rattle.pk_nvme.specs.declared.limits.TheConstants.{ALL_NAMESPACES}
-use Rattle.pk_nvme.specs.declared.opcode.Opcode.{Opcode}
+use Rattle.pk_base.{specs.Shape.Shape, specs.Map.Map}
+use Rattle.pk_nvme.{specs.declared.limits.TheConstants.ALL_NAMESPACES, specs.declared.opcode.Opcode.Opcode, specs.Opcode.op_of, specs.Command.Command, specs.Reply.Reply, specs.Reply.refusal}
 use Rattle.pk_nvme.specs.declared.status.TheConstants.{INVALID_COMMAND_OPCODE, INVALID_NAMESPACE_OR_FORMAT}
-use Rattle.pk_nvme.specs.Opcode.{op_of}
-use Rattle.pk_nvme.specs.Command.{Command}
-use Rattle.pk_nvme.specs.Reply.{Reply, refusal}
-use Rattle.pk_model.specs.Spaces.{Terms}
-use Rattle.pk_model.specs.Answer.{is_namespace, Answer}
+use Rattle.pk_model.{specs.Spaces.Terms, specs.Answer.is_namespace, specs.Answer.Answer}
 use Rattle.pk_law_isolation.specs.Isolation.{map_alone, terms_alone, command_alone}
 
 -- the maps of n namespaces from this one on, each as the map of a drive that has it alone

@@ -1,7 +1,6 @@
 -- The live pages of all namespaces, and what a port of the first one sees.
 use Rattle.std.specs.Prelude.{◌≡◌, ℕ, ◌≤◌, List, length, sum}
-use Rattle.pk_base.specs.Shape.{Shape}
-use Rattle.pk_base.specs.Map.{Map, live}
+use Rattle.pk_base.{specs.Shape.Shape, specs.Map.Map, specs.Map.live}
 use Rattle.pk_model.specs.Spaces.{limit_of, in_space, AreInSpaces}
 use Rattle.pk_law_isolation.specs.Isolation.{map_alone}
 

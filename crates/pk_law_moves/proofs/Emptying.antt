@@ -1,31 +1,17 @@
 -- Where values lie of which those of one block are moved to another.
 use Rattle.std.proofs.Common.{◌≡◌, ◌⊎◌, inl, inr, ℕ, suc, ◌+◌, ◌-◌, ◌*◌, ◌/◌, ◌<◌, ◌≤◌, refl, sym, ap, subst, ◌∙◌, arith, true, false, cond, T, List, [], ◌∷◌, length, nat_le, if◌then◌else◌, ◌==◌}
 use Rattle.std.proofs.Common.{Option, Some, None, leb→le, leb-false, length-append}
-use Rattle.std.specs.List.{sum_by}
-use Rattle.std.proofs.lemmas.List.Sums.{sum_by-cons}
-use Rattle.std.proofs.lemmas.List.{length-map}
-use Rattle.std.proofs.lemmas.Bool.{eq-eqb, ne_eqb}
-use Rattle.std.proofs.Math.Nat.{mul-suc, suc-mul, mul-div-le}
-use Rattle.std.specs.List.{AllByRecursion}
-use Rattle.std.specs.Ordering.{is_eq, eq_by_cmp}
-use Rattle.std.specs.Cmp.{tied_itself}
+use Rattle.std.{specs.List.sum_by, specs.List.AllByRecursion, proofs.lemmas.List.Sums.sum_by-cons, proofs.lemmas.List.length-map, proofs.lemmas.Bool.eq-eqb, proofs.lemmas.Bool.ne_eqb}
+use Rattle.std.{proofs.Math.Nat.mul-suc, proofs.Math.Nat.suc-mul, proofs.Math.Nat.mul-div-le, specs.Ordering.is_eq, specs.Ordering.eq_by_cmp, specs.Cmp.tied_itself}
 use Rattle.std.specs.FinMap.Entries.{put, find, is_sorted, below_all, find-put, is_sorted-put}
-use Rattle.std.proofs.lemmas.Nat.{div-mul-add, div-add-mod'}
-use Rattle.std.proofs.lemmas.List.FromFn.{length-range_with_len}
-use Rattle.pk_base.specs.Key.{Key, key_cmp}
-use Rattle.pk_base.specs.Shape.{Shape, IsShape, charge, dense, data_blocks, limit}
-use Rattle.pk_base.specs.Entry.{Place}
-use Rattle.pk_base.specs.EntryChecks.{IsPlace}
-use Rattle.pk_segfmt.specs.Value.{value_pages}
-use Rattle.pk_segfmt.proofs.StoredLemmas.{charge_some}
-use Rattle.pk_model.specs.Values.{all_pages}
-use Rattle.pk_model.specs.Laws.{AnyByRecursion, IsPageOf}
-use Rattle.pk_model.proofs.MapLemmas.{key_total, missing}
-use Rattle.pk_model.proofs.Lookups.{same_key}
+use Rattle.std.{proofs.lemmas.Nat.div-mul-add, proofs.lemmas.Nat.div-add-mod', proofs.lemmas.List.FromFn.length-range_with_len}
+use Rattle.pk_base.{specs.Key.Key, specs.Key.key_cmp, specs.Shape.Shape, specs.Shape.IsShape, specs.Shape.charge, specs.Shape.dense, specs.Shape.data_blocks, specs.Shape.limit, specs.Entry.Place}
+use Rattle.pk_base.{specs.EntryChecks.IsPlace, proofs.Logic.left_part, proofs.Logic.right_part}
+use Rattle.pk_segfmt.{specs.Value.value_pages, proofs.StoredLemmas.charge_some}
+use Rattle.pk_model.{specs.Values.all_pages, specs.Laws.AnyByRecursion, specs.Laws.IsPageOf, proofs.MapLemmas.key_total, proofs.MapLemmas.missing, proofs.Lookups.same_key}
 use Rattle.pk_law_steps.specs.Under.{IsValuePage}
 use Rattle.pk_law_moves.specs.Moves.{moved}
 use Rattle.pk_law_moves.specs.Victims.{exchanged, AreMoved, LieInOthers, NoneLeft, OneIsSparse, FitOnePage, LeavesRoom}
-use Rattle.pk_base.proofs.Logic.{left_part, right_part}
 
 -- ---- keys that are found
 

@@ -1,24 +1,16 @@
 -- Keys whose values go to other places: what is read, and where the pages lie.
 use Rattle.std.proofs.Common.{◌≡◌, ◌⊎◌, inl, inr, ℕ, refl, sym, ap, ◌∙◌, arith, true, false, cond, T, List, [], ◌∷◌, ◌++◌, length, Option, Some, length-append, ◌==◌, ◌+◌, if◌then◌else◌}
-use Rattle.std.specs.List.{AllByRecursion}
-use Rattle.std.specs.declared.cmp.Ordering.TheVariants.{Less, Equal, Greater}
-use Rattle.std.specs.Ordering.{is_eq, eq_by_cmp}
+use Rattle.std.{specs.List.AllByRecursion, specs.declared.cmp.Ordering.TheVariants.Less, specs.declared.cmp.Ordering.TheVariants.Equal, specs.declared.cmp.Ordering.TheVariants.Greater}
+use Rattle.std.{specs.Ordering.is_eq, specs.Ordering.eq_by_cmp, proofs.lemmas.List.FromFn.length-range_with_len}
 use Rattle.std.specs.FinMap.Entries.{put, find, is_sorted, below_all, by_order, find-put, is_sorted-put}
-use Rattle.std.proofs.lemmas.List.FromFn.{length-range_with_len}
-use Rattle.pk_base.specs.Key.{Key, key_cmp, space_of}
-use Rattle.pk_base.specs.Shape.{Shape, charge}
-use Rattle.pk_base.specs.Entry.{Place}
+use Rattle.pk_base.{specs.Key.Key, specs.Key.key_cmp, specs.Key.space_of, specs.Shape.Shape, specs.Shape.charge, specs.Entry.Place, proofs.Logic.left_part, proofs.Logic.right_part}
 use Rattle.pk_segfmt.specs.Value.{value_pages}
 use Rattle.pk_rootfmt.specs.Root.{differ}
-use Rattle.pk_model.specs.Values.{all_pages, pages_of_space}
-use Rattle.pk_model.specs.Laws.{IsPageOf}
-use Rattle.pk_model.proofs.MapLemmas.{key_total, missing, below_less}
-use Rattle.pk_model.proofs.Commits.{apart, rest_differs}
-use Rattle.pk_model.proofs.Lookups.{same_key}
+use Rattle.pk_model.{specs.Values.all_pages, specs.Values.pages_of_space, specs.Laws.IsPageOf, proofs.MapLemmas.key_total, proofs.MapLemmas.missing, proofs.MapLemmas.below_less}
+use Rattle.pk_model.{proofs.Commits.apart, proofs.Commits.rest_differs, proofs.Lookups.same_key}
 use Rattle.pk_law_steps.specs.Under.{IsValuePage}
 use Rattle.pk_law_steps.proofs.Places.{differ_append, differ_range, value_in, in_value, range_in, in_range}
 use Rattle.pk_law_moves.specs.Moves.{moved, AreApart}
-use Rattle.pk_base.proofs.Logic.{left_part, right_part}
 
 -- a key that exists is put over itself
 pub put_same : {X : Type 0} (k : Key) (x : X) (es : List (Key × X)) → T (is_sorted key_cmp es) → find key_cmp k es ≡ Some x → put key_cmp k x es ≡ es

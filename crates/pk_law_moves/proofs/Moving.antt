@@ -1,41 +1,24 @@
 -- The entries that name copies do not change the map.
-use Rattle.std.proofs.Common.{◌≡◌, inl, inr, ℕ, zero, suc, ◌+◌, ◌-◌, ◌*◌, ◌/◌, ◌%◌, ◌<◌, ◌≤◌, mod-lt, div-add-mod', refl, sym, ap, subst, ◌∙◌, arith, Bool, true, not, T, List, [], ◌∷◌, ◌++◌, length, false, cond, Ordering}
-use Rattle.std.proofs.Common.{drop, nat_le, nat_eq, ◌==◌, Some, Ok, le→leb, le_trans, append_assoc, append-nil, add-zero}
-use Rattle.std.specs.List.{list_any, list_all, starts_with, AllByRecursion}
-use Rattle.std.specs.FinMap.Entries.{put, find, is_sorted}
-use Rattle.std.proofs.lemmas.Nat.{div-mul-add}
-use Rattle.pk_base.specs.Key.{Key, key_cmp, space_of}
-use Rattle.pk_base.specs.Shape.{Shape, IsShape, charge, buffer}
-use Rattle.pk_base.specs.Page.{Page, Flash, page_at, erased, whole, torn}
-use Rattle.pk_base.specs.Entry.{Entry, Place}
-use Rattle.pk_base.specs.Refusal.{ensure}
-use Rattle.pk_base.specs.Firsts.{firsts}
-use Rattle.pk_nand.specs.Pairs.{first_of_pair}
-use Rattle.pk_nand.proofs.Pairing.{outside_pair}
+use Rattle.std.proofs.Common.{◌≡◌, inl, inr, ℕ, zero, suc, ◌+◌, ◌-◌, ◌*◌, ◌/◌, ◌%◌, ◌<◌, ◌≤◌, mod-lt, div-add-mod', refl, sym, ap, subst, ◌∙◌, arith, Bool, true, not, T, List, [], ◌∷◌, ◌++◌, length}
+use Rattle.std.proofs.Common.{false, cond, Ordering, drop, nat_le, nat_eq, ◌==◌, Some, Ok, le→leb, le_trans, append_assoc, append-nil, add-zero}
+use Rattle.std.{specs.List.list_any, specs.List.list_all, specs.List.starts_with, specs.List.AllByRecursion, specs.FinMap.Entries.put, specs.FinMap.Entries.find, specs.FinMap.Entries.is_sorted}
+use Rattle.std.{proofs.lemmas.Nat.div-mul-add, specs.Ordering.eq_by_cmp}
+use Rattle.pk_base.{specs.Key.Key, specs.Key.key_cmp, specs.Key.space_of, specs.Shape.Shape, specs.Shape.IsShape, specs.Shape.charge, specs.Shape.buffer, specs.Entry.Entry, specs.Entry.Place}
+use Rattle.pk_base.{specs.Page.Page, specs.Page.Flash, specs.Page.page_at, specs.Page.erased, specs.Page.whole, specs.Page.torn, specs.Refusal.ensure, specs.Firsts.firsts}
+use Rattle.pk_base.{proofs.Logic.is_true, proofs.Logic.left_part, proofs.Logic.right_part, proofs.Logic.passed, proofs.Logic.both, proofs.KeyLemmas.firsts_sorted}
+use Rattle.pk_nand.{specs.Pairs.first_of_pair, proofs.Pairing.outside_pair}
 use Rattle.pk_segfmt.specs.Value.{head_bytes, value_page, value_from, value_at}
 use Rattle.pk_rootfmt.specs.Root.{Root, named}
-use Rattle.pk_model.specs.Found.{Found, entries_in_order}
-use Rattle.pk_model.specs.Values.{placed, fits, values_of, all_pages}
-use Rattle.pk_model.specs.Reading.{map_under, may_add}
-use Rattle.pk_model.proofs.StrangePages.{bind_ok}
-use Rattle.pk_model.proofs.Lookups.{Has, find-values, same_key}
+use Rattle.pk_model.{specs.Found.Found, specs.Found.entries_in_order, specs.Values.placed, specs.Values.fits, specs.Values.values_of, specs.Values.all_pages, proofs.StrangePages.bind_ok}
+use Rattle.pk_model.{specs.Reading.map_under, specs.Reading.may_add, proofs.Lookups.Has, proofs.Lookups.find-values, proofs.Lookups.same_key, proofs.Merges.placed_sorted, proofs.HeldMap.nothing_fits}
 use Rattle.pk_model.proofs.ValueSets.{values_sound, values_complete, Reads, fits_parts, parts_fit, IsPlacedIn, under_in_spaces}
-use Rattle.pk_model.proofs.Stores.{placed-put, reads-put, entries_in_order-push}
-use Rattle.pk_model.proofs.Merges.{placed_sorted}
-use Rattle.pk_model.proofs.HeldMap.{nothing_fits}
-use Rattle.pk_law_steps.specs.Under.{counting, places}
-use Rattle.pk_law_steps.proofs.Untouched.{values_under, erases}
+use Rattle.pk_model.{proofs.Stores.placed-put, proofs.Stores.reads-put, proofs.Stores.entries_in_order-push, specs.RootLimits.root_limits, specs.RootLimits.root_spaces, specs.Spaces.limit_of}
+use Rattle.pk_law_steps.{specs.Under.counting, specs.Under.places, proofs.Untouched.values_under, proofs.Untouched.erases, proofs.Counting.sorted_read}
 use Rattle.pk_law_steps.proofs.Places.{In, in_value, value_in, not_of, any_in_back, all_of, few_blocks}
 use Rattle.pk_law_steps.proofs.Committing.{commits, commits_pair, commit_done}
 use Rattle.pk_law_moves.specs.Moves.{entries_of, moved, AreCopies, CanMove, MovesLeaveMap, PlacesMove, MovesCommit, MovesPair, MovesCommitted, Copies}
-use Rattle.pk_law_steps.proofs.Counting.{sorted_read}
 use Rattle.pk_law_moves.proofs.Moved.{put_same, page_moved, differ_moved, HaveLength, length_moved, space_moved}
-use Rattle.pk_base.proofs.Logic.{is_true, left_part, right_part, passed, both}
-use Rattle.pk_base.proofs.KeyLemmas.{firsts_sorted}
-use Rattle.pk_model.specs.RootLimits.{root_limits, root_spaces}
 use Rattle.pk_space.specs.Entries.{in_spaces}
-use Rattle.std.specs.Ordering.{eq_by_cmp}
-use Rattle.pk_model.specs.Spaces.{limit_of}
 
 -- ---- a copy is read as the value
 

@@ -1,20 +1,12 @@
 -- Values that are copied to other places, and the entries that name these: the statements.
 use Rattle.std.specs.Prelude.{◌≡◌, ◌⊎◌, ℕ, ◌+◌, ◌-◌, ◌/◌, ◌<◌, ◌≤◌, List, [], ◌∷◌, ◌++◌, length, Some}
-use Rattle.std.specs.List.{AllByRecursion}
-use Rattle.std.specs.FinMap.Entries.{put, find}
-use Rattle.pk_base.specs.Key.{Key, key_cmp}
-use Rattle.pk_base.specs.Shape.{Shape, IsShape, charge, buffer, data_blocks}
-use Rattle.pk_base.specs.Page.{Flash, page_at, whole, commit_page}
-use Rattle.pk_base.specs.Entry.{Entry, Place, put_entry}
-use Rattle.pk_base.specs.Firsts.{firsts}
-use Rattle.pk_base.specs.Map.{Map}
-use Rattle.pk_nand.specs.Cut.{Cut}
-use Rattle.pk_nand.specs.Pairs.{marks_of_pair, IsPairCut, SameOutsidePair}
+use Rattle.std.{specs.List.AllByRecursion, specs.FinMap.Entries.put, specs.FinMap.Entries.find}
+use Rattle.pk_base.{specs.Key.Key, specs.Key.key_cmp, specs.Shape.Shape, specs.Shape.IsShape, specs.Shape.charge, specs.Shape.buffer, specs.Shape.data_blocks, specs.Firsts.firsts, specs.Map.Map}
+use Rattle.pk_base.{specs.Page.Flash, specs.Page.page_at, specs.Page.whole, specs.Page.commit_page, specs.Entry.Entry, specs.Entry.Place, specs.Entry.put_entry}
+use Rattle.pk_nand.{specs.Cut.Cut, specs.Pairs.marks_of_pair, specs.Pairs.IsPairCut, specs.Pairs.SameOutsidePair}
 use Rattle.pk_rootfmt.specs.Root.{Root}
-use Rattle.pk_model.specs.Found.{Found}
-use Rattle.pk_model.specs.Laws.{AnyByRecursion, IsPageOf, IsCommit}
-use Rattle.pk_law_steps.specs.Under.{IsUnder, IsNamed, IsValuePage, places}
-use Rattle.pk_law_steps.specs.Roots.{committed}
+use Rattle.pk_model.{specs.Found.Found, specs.Laws.AnyByRecursion, specs.Laws.IsPageOf, specs.Laws.IsCommit}
+use Rattle.pk_law_steps.{specs.Under.IsUnder, specs.Under.IsNamed, specs.Under.IsValuePage, specs.Under.places, specs.Roots.committed}
 
 -- the entries that name these places
 abbrev pub entries_of : List (Key × Place) → List Entry

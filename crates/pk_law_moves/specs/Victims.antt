@@ -1,13 +1,9 @@
 -- Which block may be reclaimed, and where the values are before and after a reclaim: the statements.
 use Rattle.std.specs.Prelude.{◌≡◌, ℕ, ◌+◌, ◌-◌, ◌/◌, ◌≤◌, List, length, map, sum_by, ◌==◌, if◌then◌else◌, Some, T}
-use Rattle.std.specs.List.{AllByRecursion}
-use Rattle.std.specs.FinMap.Entries.{find, is_sorted}
-use Rattle.pk_base.specs.Key.{Key, key_cmp}
+use Rattle.std.{specs.List.AllByRecursion, specs.FinMap.Entries.find, specs.FinMap.Entries.is_sorted}
+use Rattle.pk_base.{specs.Key.Key, specs.Key.key_cmp, specs.Entry.Place, specs.EntryChecks.IsPlace}
 use Rattle.pk_base.specs.Shape.{Shape, IsShape, page_entries, most_pages, dense, data_blocks, limit}
-use Rattle.pk_base.specs.Entry.{Place}
-use Rattle.pk_base.specs.EntryChecks.{IsPlace}
-use Rattle.pk_model.specs.Values.{all_pages}
-use Rattle.pk_model.specs.Laws.{AnyByRecursion}
+use Rattle.pk_model.{specs.Values.all_pages, specs.Laws.AnyByRecursion}
 use Rattle.pk_law_steps.specs.Under.{IsValuePage}
 use Rattle.pk_law_moves.specs.Moves.{moved, LieIn}
 

@@ -1,31 +1,19 @@
 -- How many entries a run and an epoch have, and how many blocks hold them.
 use Rattle.std.proofs.Common.{◌≡◌, inl, inr, ℕ, zero, suc, ◌+◌, ◌-◌, ◌*◌, ◌/◌, ◌<◌, ◌≤◌, min, max, refl, sym, ap, subst, ◌∙◌, arith, Bool, true, false, not, ◌&&◌, ◌||◌, T, List, [], ◌∷◌, ◌++◌, length}
 use Rattle.std.proofs.Common.{map, zip, nat_le, nat_lt, ◌==◌, is_some, Some, Ok, leb→le, length-append, mul-le-mul_right, add-mul, le_trans}
-use Rattle.std.specs.Prelude.{bytes_eq}
-use Rattle.std.specs.List.{list_all, concat}
-use Rattle.std.specs.FinMap.Entries.{is_sorted}
-use Rattle.pk_base.specs.Key.{key_cmp}
+use Rattle.std.{specs.Prelude.bytes_eq, specs.List.list_all, specs.List.concat, specs.FinMap.Entries.is_sorted}
+use Rattle.pk_base.{specs.Key.key_cmp, specs.Entry.Entry, specs.EntryBytes.entries_from, specs.Refusal.damaged, specs.Refusal.ensure, specs.Refusal.some_or, specs.Firsts.firsts, specs.Merge.room}
 use Rattle.pk_base.specs.Shape.{Shape, IsShape, page_entries, buffer, caps, run_pages, run_blocks, blocks_of, meta_blocks, deepest}
 use Rattle.pk_base.specs.Page.{Page, erased, whole, torn, page_in, pages_of_blocks, NumberedPages, commits_of}
-use Rattle.pk_base.specs.Entry.{Entry}
-use Rattle.pk_base.specs.EntryBytes.{entries_from}
-use Rattle.pk_base.specs.Refusal.{damaged, ensure, some_or}
-use Rattle.pk_base.specs.Firsts.{firsts}
-use Rattle.pk_base.specs.Merge.{room}
-use Rattle.pk_space.specs.Entries.{in_spaces}
-use Rattle.pk_jrnfmt.specs.Page.{journal_entries}
-use Rattle.pk_jrnfmt.specs.Epoch.{may_follow, journal, epoch}
-use Rattle.pk_meta.specs.Page.{meta_entries}
-use Rattle.pk_meta.specs.Run.{may_hold, meta, run}
-use Rattle.pk_rootfmt.specs.Root.{Root, is_root, is_number, has_runs, named, differ, is_laid_out, are_limits}
-use Rattle.pk_model.proofs.StrangePages.{bind_ok, some_ok}
-use Rattle.pk_base.proofs.Sound.{if_some}
-use Rattle.pk_model.proofs.Live.{ceil_room}
-use Rattle.pk_model.proofs.RootAlone.{bytes_equal, third_of, head_same, tail_same}
-use Rattle.pk_base.proofs.ShapeLemmas.{block_pages_positive, ceil_most}
-use Rattle.pk_law_steps.specs.Fitting.{QuotaFits}
-use Rattle.pk_law_steps.proofs.FourRuns.{IsLevel, four_of_root, four_of, runs_part}
+use Rattle.pk_base.{proofs.Sound.if_some, proofs.ShapeLemmas.block_pages_positive, proofs.ShapeLemmas.ceil_most}
 use Rattle.pk_base.proofs.Logic.{left_part, right_part, ok_same, passed}
+use Rattle.pk_space.specs.Entries.{in_spaces}
+use Rattle.pk_jrnfmt.{specs.Page.journal_entries, specs.Epoch.may_follow, specs.Epoch.journal, specs.Epoch.epoch}
+use Rattle.pk_meta.{specs.Page.meta_entries, specs.Run.may_hold, specs.Run.meta, specs.Run.run}
+use Rattle.pk_rootfmt.specs.Root.{Root, is_root, is_number, has_runs, named, differ, is_laid_out, are_limits}
+use Rattle.pk_model.{proofs.StrangePages.bind_ok, proofs.StrangePages.some_ok, proofs.Live.ceil_room}
+use Rattle.pk_model.proofs.RootAlone.{bytes_equal, third_of, head_same, tail_same}
+use Rattle.pk_law_steps.{specs.Fitting.QuotaFits, proofs.FourRuns.IsLevel, proofs.FourRuns.four_of_root, proofs.FourRuns.four_of, proofs.FourRuns.runs_part}
 
 -- ---- entries that are read
 

@@ -1,24 +1,14 @@
 -- A commit that is cut does not change what is under the root, or has its entries in the newest epoch.
 use Rattle.std.proofs.Common.{◌≡◌, inl, inr, ℕ, ◌+◌, ◌*◌, ◌<◌, ◌≤◌, ap, subst, List, [], ◌++◌, Some, Ok, append-nil, length, nat_le, true}
-use Rattle.pk_base.specs.Shape.{Shape, IsShape, epoch_pages, epoch_commits, buffer}
-use Rattle.pk_base.specs.Page.{Page, Flash, page_at, erased, whole, page_in, commit_page, commit_at}
-use Rattle.pk_base.specs.Entry.{Entry}
-use Rattle.pk_base.specs.Map.{Map}
-use Rattle.pk_base.proofs.CommitPages.{even_page}
+use Rattle.pk_base.{specs.Shape.Shape, specs.Shape.IsShape, specs.Shape.epoch_pages, specs.Shape.epoch_commits, specs.Shape.buffer, specs.Entry.Entry, specs.Map.Map, proofs.CommitPages.even_page}
+use Rattle.pk_base.{specs.Page.Page, specs.Page.Flash, specs.Page.page_at, specs.Page.erased, specs.Page.whole, specs.Page.page_in, specs.Page.commit_page, specs.Page.commit_at, specs.Firsts.firsts}
+use Rattle.pk_base.{proofs.Logic.both_true, specs.Refusal.ensure}
 use Rattle.pk_nand.proofs.Pairing.{pair_cut, pair_read, read_first, outside_pair}
 use Rattle.pk_jrnfmt.specs.Page.{journal_entries}
-use Rattle.pk_rootfmt.specs.Root.{Root}
-use Rattle.pk_rootfmt.specs.Newest.{newest_root}
-use Rattle.pk_model.specs.Found.{Found, found_under}
-use Rattle.pk_model.specs.Reading.{may_add, map_under}
-use Rattle.pk_model.specs.Laws.{IsWholePage}
+use Rattle.pk_rootfmt.{specs.Root.Root, specs.Newest.newest_root}
+use Rattle.pk_model.{specs.Found.Found, specs.Found.found_under, specs.Reading.may_add, specs.Reading.map_under, specs.Laws.IsWholePage, proofs.StrangePages.bind_ok}
 use Rattle.pk_model.proofs.Commits.{Blocks, valid_blocks, roots_stay, stands_apart, under, within_buffer, read_without, read_with, commit_start}
-use Rattle.pk_law_steps.specs.Under.{IsUnder}
-use Rattle.pk_law_steps.specs.Roots.{committed, Commits, CommitsPair, Committed}
-use Rattle.pk_base.specs.Firsts.{firsts}
-use Rattle.pk_base.proofs.Logic.{both_true}
-use Rattle.pk_model.proofs.StrangePages.{bind_ok}
-use Rattle.pk_base.specs.Refusal.{ensure}
+use Rattle.pk_law_steps.{specs.Under.IsUnder, specs.Roots.committed, specs.Roots.Commits, specs.Roots.CommitsPair, specs.Roots.Committed}
 
 module _ (shape : Shape) (flash cut : Flash) (top : ℕ × Root) (found : Found) (es : List Entry) (index : ℕ) (bytes : List ℕ) (is_shape : IsShape shape)
     (is_top : newest_root shape (page_at flash) ≡ Some top) (is_found : found_under shape (page_at flash) top.1 ≡ Ok found) (blocks : Blocks top.1) (inside : index < epoch_commits shape)

@@ -1,30 +1,15 @@
 -- What the entries that count say of the map.
 use Rattle.std.proofs.Common.{◌≡◌, ℕ, suc, ◌<◌, refl, sym, ap, subst, ◌∙◌, arith, true, false, cond, T, List, [], ◌∷◌, ◌++◌, length, map, reverse, Option, Some, None}
-use Rattle.std.specs.List.{flat_map}
-use Rattle.std.specs.Ordering.{is_lt, eq_by_cmp}
+use Rattle.std.{specs.List.flat_map, specs.Ordering.is_lt, specs.Ordering.eq_by_cmp}
 use Rattle.std.specs.FinMap.{get, entries, from_entries, entries-insert, len-entries}
 use Rattle.std.specs.FinMap.Entries.{put, find, is_sorted, below_all}
-use Rattle.pk_base.specs.Choices.{or_else}
-use Rattle.pk_base.specs.Key.{Key, key_cmp}
-use Rattle.pk_base.specs.Shape.{Shape}
-use Rattle.pk_base.specs.Page.{Page, Flash, page_at}
-use Rattle.pk_base.specs.Entry.{Entry, Place}
-use Rattle.pk_base.specs.Map.{Map, pages_in}
+use Rattle.pk_base.{specs.Choices.or_else, specs.Key.Key, specs.Key.key_cmp, specs.Shape.Shape, specs.Page.Page, specs.Page.Flash, specs.Page.page_at, specs.Entry.Entry, specs.Entry.Place}
+use Rattle.pk_base.{specs.Map.Map, specs.Map.pages_in, proofs.Logic.left_part, proofs.Logic.right_part, proofs.Logic.both, proofs.KeyLemmas.firsts_sorted}
 use Rattle.pk_rootfmt.specs.Root.{named}
-use Rattle.pk_model.specs.RootLimits.{root_limits}
-use Rattle.pk_model.specs.Found.{entries_in_order}
-use Rattle.pk_model.proofs.MapLemmas.{key_total}
-use Rattle.pk_model.proofs.Lookups.{flat, Has, map_under_get, find-firsts}
-use Rattle.pk_model.proofs.ValueSets.{values_sound, Reads}
-use Rattle.pk_model.proofs.Stores.{put-below}
-use Rattle.pk_model.proofs.Merges.{placed_sorted}
-use Rattle.pk_model.proofs.Live.{live-pages}
+use Rattle.pk_model.{specs.RootLimits.root_limits, specs.Found.entries_in_order, proofs.MapLemmas.key_total, proofs.ValueSets.values_sound, proofs.ValueSets.Reads, proofs.Stores.put-below}
+use Rattle.pk_model.{proofs.Lookups.flat, proofs.Lookups.Has, proofs.Lookups.map_under_get, proofs.Lookups.find-firsts, proofs.Merges.placed_sorted, proofs.Live.live-pages}
 use Rattle.pk_model.proofs.HeldMap.{nothing_fits, none_of_empty}
-use Rattle.pk_law_steps.specs.Under.{counting, places}
-use Rattle.pk_law_steps.specs.Lookups.{IsValueOf, LookupFinds, FoundIn, Counts}
-use Rattle.pk_law_steps.proofs.Untouched.{values_under}
-use Rattle.pk_base.proofs.Logic.{left_part, right_part, both}
-use Rattle.pk_base.proofs.KeyLemmas.{firsts_sorted}
+use Rattle.pk_law_steps.{specs.Under.counting, specs.Under.places, specs.Lookups.IsValueOf, specs.Lookups.LookupFinds, specs.Lookups.FoundIn, specs.Lookups.Counts, proofs.Untouched.values_under}
 
 value_of : (shape : Shape) (flash : Flash) (q : Key) (e : Option (Option Place)) (value : Option (List ℕ)) → Has shape (page_at flash) q (flat e) value → IsValueOf shape flash q e value
 value_of shape flash q None value is = is

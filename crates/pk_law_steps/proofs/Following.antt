@@ -1,27 +1,16 @@
 -- The root after a merge is a valid successor.
 use Rattle.std.proofs.Common.{◌≡◌, inl, inr, ℕ, ◌-◌, ◌/◌, refl, T, Bool, true, false, List, [], ◌++◌, length, map, nat_le, ◌==◌, ◌||◌, if◌then◌else◌, Ok, leb→le}
 use Rattle.std.specs.List.{concat}
-use Rattle.pk_base.specs.Shape.{Shape, IsShape}
-use Rattle.pk_base.specs.Page.{Page, Flash, page_at, page_in}
-use Rattle.pk_base.specs.Entry.{Entry}
-use Rattle.pk_base.specs.Firsts.{firsts}
-use Rattle.pk_base.specs.Map.{Map}
+use Rattle.pk_base.{specs.Shape.Shape, specs.Shape.IsShape, specs.Page.Page, specs.Page.Flash, specs.Page.page_at, specs.Page.page_in, specs.Entry.Entry, specs.Firsts.firsts, specs.Map.Map}
 use Rattle.pk_base.specs.Refusal.{ensure, ◌>>=◌}
 use Rattle.pk_jrnfmt.specs.Epoch.{epoch}
 use Rattle.pk_rootfmt.specs.Root.{Root, is_root, named}
-use Rattle.pk_model.specs.RootLimits.{root_limits, root_spaces}
-use Rattle.pk_model.specs.Found.{Found, older_epoch, newest_epoch, found_under}
-use Rattle.pk_model.specs.Tree.{blocks_after}
-use Rattle.pk_model.proofs.SamePages.{any_front, any_back}
-use Rattle.pk_model.proofs.Roots.{newest_sound}
-use Rattle.pk_model.proofs.Commits.{root_valid, values_apart, is_any_back}
-use Rattle.pk_law_steps.specs.Under.{IsUnder, IsNamed, IsValuePage, places}
-use Rattle.pk_law_steps.proofs.Untouched.{Values, values_under}
-use Rattle.pk_law_steps.proofs.Places.{In, in_append}
-use Rattle.pk_law_steps.specs.Merging.{IsMerged, Merged, merged_root, merged_found}
+use Rattle.pk_model.{specs.RootLimits.root_limits, specs.RootLimits.root_spaces, specs.Found.Found, specs.Found.older_epoch, specs.Found.newest_epoch, specs.Found.found_under, specs.Tree.blocks_after}
+use Rattle.pk_model.{proofs.SamePages.any_front, proofs.SamePages.any_back, proofs.Roots.newest_sound, proofs.Commits.root_valid, proofs.Commits.values_apart, proofs.Commits.is_any_back}
+use Rattle.pk_law_steps.{specs.Under.IsUnder, specs.Under.IsNamed, specs.Under.IsValuePage, specs.Under.places, proofs.Untouched.Values, proofs.Untouched.values_under, proofs.Freezing.no_blocks}
+use Rattle.pk_law_steps.{proofs.Places.In, proofs.Places.in_append, specs.Merging.IsMerged, specs.Merging.Merged, specs.Merging.merged_root, specs.Merging.merged_found}
 use Rattle.pk_law_steps.proofs.FourRuns.{Runs, IsLevel, FourOf, Pieces, four_of_root, four_runs, next_is_level, pieces_of}
 use Rattle.pk_law_steps.proofs.Merging.{runs_after, same_places, in_after}
-use Rattle.pk_law_steps.proofs.Freezing.{no_blocks}
 
 -- no older epoch is named, or the former one
 older_is : (shape : Shape) (spaces : ℕ) (at : ℕ → Page) (number : ℕ) (one : Bool) (blocks : List ℕ) (es : List Entry)

@@ -2,15 +2,9 @@
 use Rattle.std.proofs.Common.{◌≡◌, inl, inr, ℕ, zero, suc, ◌+◌, ◌-◌, ◌<◌, sym, subst, arith, T, List, [], ◌∷◌, ◌++◌, length, slice_set, slice_index_or, ◌==◌, if◌then◌else◌, length-append}
 use Rattle.std.specs.List.{concat}
 use Rattle.pk_rootfmt.specs.Root.{differ}
-use Rattle.pk_model.specs.Tree.{blocks_after}
-use Rattle.pk_model.proofs.SamePages.{any_front}
-use Rattle.pk_model.proofs.Commits.{apart, differ_front, blocks_of_root}
-use Rattle.pk_law_steps.proofs.Places.{In, differ_back}
-use Rattle.pk_law_steps.specs.Merging.{FreedCounted, blocks_at}
-use Rattle.pk_law_steps.proofs.FourRuns.{IsLevel, four_of_root}
-use Rattle.pk_law_steps.proofs.Amounts.{levels}
-use Rattle.pk_law_steps.proofs.Freeing.{in_one, was_named}
-use Rattle.pk_law_steps.proofs.Spelling.{differ_both}
+use Rattle.pk_model.{specs.Tree.blocks_after, proofs.SamePages.any_front, proofs.Commits.apart, proofs.Commits.differ_front, proofs.Commits.blocks_of_root}
+use Rattle.pk_law_steps.{proofs.Places.In, proofs.Places.differ_back, specs.Merging.FreedCounted, specs.Merging.blocks_at, proofs.FourRuns.IsLevel, proofs.FourRuns.four_of_root, proofs.Amounts.levels}
+use Rattle.pk_law_steps.{proofs.Freeing.in_one, proofs.Freeing.was_named, proofs.Spelling.differ_both}
 use Rattle.pk_base.proofs.Logic.{is_true}
 
 -- ---- two consecutive runs

@@ -1,21 +1,12 @@
 -- No reading uses the blocks that a merge frees.
 use Rattle.std.proofs.Common.{◌≡◌, inl, inr, ℕ, zero, suc, ◌-◌, ◌/◌, sym, subst, T, Bool, true, false, List, [], ◌∷◌, ◌++◌, length, map, ◌==◌, slice_set, slice_index_or, if◌then◌else◌}
 use Rattle.std.specs.List.{concat}
-use Rattle.pk_base.specs.Page.{page_at}
-use Rattle.pk_base.specs.Firsts.{firsts}
+use Rattle.pk_base.{specs.Page.page_at, specs.Firsts.firsts}
 use Rattle.pk_rootfmt.specs.Root.{named, differ}
-use Rattle.pk_model.specs.Tree.{blocks_after}
-use Rattle.pk_model.proofs.SamePages.{any_front, any_back}
+use Rattle.pk_model.{specs.Tree.blocks_after, proofs.SamePages.any_front, proofs.SamePages.any_back, proofs.Roots.newest_sound, specs.RootLimits.root_limits}
 use Rattle.pk_model.proofs.Commits.{apart, rest_differs, differ_front, blocks_of_root, root_valid, values_apart, is_any_back}
-use Rattle.pk_model.proofs.Roots.{newest_sound}
-use Rattle.pk_law_steps.specs.Under.{IsValuePage, places}
-use Rattle.pk_law_steps.proofs.Untouched.{values_under}
-use Rattle.pk_law_steps.proofs.Places.{In, in_append, differ_back}
-use Rattle.pk_law_steps.specs.Merging.{Freed, blocks_at}
-use Rattle.pk_law_steps.proofs.FourRuns.{IsLevel, next_is_level}
-use Rattle.pk_law_steps.proofs.Merging.{in_set}
-use Rattle.pk_law_steps.proofs.Following.{merged_next}
-use Rattle.pk_model.specs.RootLimits.{root_limits}
+use Rattle.pk_law_steps.{specs.Under.IsValuePage, specs.Under.places, proofs.Untouched.values_under, proofs.Places.In, proofs.Places.in_append, proofs.Places.differ_back, proofs.Merging.in_set}
+use Rattle.pk_law_steps.{specs.Merging.Freed, specs.Merging.blocks_at, proofs.FourRuns.IsLevel, proofs.FourRuns.next_is_level, proofs.Following.merged_next}
 
 -- a block of one run is a block of the runs
 pub in_one : (b i : ℕ) (runs : List (List ℕ)) → In b (slice_index_or runs i []) → In b (concat runs)

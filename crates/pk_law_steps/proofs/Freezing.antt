@@ -1,36 +1,21 @@
 -- A freeze does not change the map: the entries of the newest epoch are those of the older one.
 use Rattle.std.proofs.Common.{◌≡◌, inl, inr, ℕ, suc, ◌+◌, ◌-◌, ◌*◌, ◌/◌, ◌%◌, ◌<◌, ◌≤◌, refl, sym, ap, subst, ◌∙◌, arith, true, false, not, ◌||◌, T, List, [], ◌∷◌, ◌++◌, length, reverse, nat_le}
 use Rattle.std.proofs.Common.{slice_index, ◌==◌, if◌then◌else◌, Ok, append-nil, mul-le-mul_right, div-add-mod', mod-lt, zero-mul, eqb→eq, le→leb}
-use Rattle.std.proofs.lemmas.Nat.{div-mul-add}
-use Rattle.std.specs.List.{list_any, concat}
-use Rattle.pk_base.specs.Shape.{Shape, IsShape, buffer, epoch_pages}
-use Rattle.pk_base.specs.Page.{Page, Flash, page_at, erased, page_in}
-use Rattle.pk_base.specs.Entry.{Entry}
-use Rattle.pk_base.specs.EntryChecks.{IsEntry}
-use Rattle.pk_base.specs.Refusal.{ensure, ◌>>=◌}
-use Rattle.pk_base.specs.Firsts.{firsts}
-use Rattle.pk_base.specs.Map.{Map}
+use Rattle.std.{proofs.lemmas.Nat.div-mul-add, specs.List.list_any, specs.List.concat}
+use Rattle.pk_base.{specs.Shape.Shape, specs.Shape.IsShape, specs.Shape.buffer, specs.Shape.epoch_pages, specs.Page.Page, specs.Page.Flash, specs.Page.page_at, specs.Page.erased, specs.Page.page_in}
+use Rattle.pk_base.{specs.Entry.Entry, specs.EntryChecks.IsEntry, specs.Refusal.ensure, specs.Refusal.◌>>=◌, specs.Firsts.firsts, specs.Map.Map, proofs.ShapeLemmas.block_pages_positive}
+use Rattle.pk_base.{proofs.CommitPages.second as next_page, proofs.Logic.is_true, proofs.Logic.ok_same}
 use Rattle.pk_jrnfmt.specs.Epoch.{epoch}
 use Rattle.pk_rootfmt.specs.Root.{Root, is_root, named}
-use Rattle.pk_model.specs.RootLimits.{root_limits, root_spaces}
-use Rattle.pk_model.specs.Found.{Found, older_epoch, newest_epoch, runs_from, found_under, entries_in_order}
-use Rattle.pk_model.specs.Values.{placed, values_of, all_pages}
-use Rattle.pk_model.specs.Reading.{map_under}
-use Rattle.pk_base.proofs.ShapeLemmas.{block_pages_positive}
-use Rattle.pk_model.proofs.StrangePages.{bind_ok}
-use Rattle.pk_model.proofs.SamePages.{any_front, any_back, values_same}
-use Rattle.pk_model.proofs.Roots.{newest_sound}
-use Rattle.pk_model.proofs.RootAlone.{found_alone, values_behind}
-use Rattle.pk_base.proofs.CommitPages.{second as next_page}
+use Rattle.pk_model.{specs.RootLimits.root_limits, specs.RootLimits.root_spaces, specs.Values.placed, specs.Values.values_of, specs.Values.all_pages, specs.Reading.map_under}
+use Rattle.pk_model.{specs.Found.Found, specs.Found.older_epoch, specs.Found.newest_epoch, specs.Found.runs_from, specs.Found.found_under, specs.Found.entries_in_order, proofs.StrangePages.bind_ok}
+use Rattle.pk_model.{proofs.SamePages.any_front, proofs.SamePages.any_back, proofs.SamePages.values_same, proofs.Roots.newest_sound, proofs.RootAlone.found_alone, proofs.RootAlone.values_behind}
 use Rattle.pk_model.proofs.Commits.{blocks_of_root, root_valid, ends, not_read, erased_not, behind_roots, values_apart, is_any_back}
-use Rattle.pk_model.proofs.Entries.{counting_all, journal_are, meta_are}
+use Rattle.pk_model.{proofs.Entries.counting_all, proofs.Entries.journal_are, proofs.Entries.meta_are, proofs.HeldMap.nothing_fits}
 use Rattle.pk_model.proofs.ValueSets.{values_sound, values_complete, fits_parts, parts_fit}
-use Rattle.pk_model.proofs.HeldMap.{nothing_fits}
-use Rattle.pk_law_steps.specs.Under.{IsUnder, places}
-use Rattle.pk_law_steps.specs.Roots.{frozen_root, frozen, FreezeLeavesMap}
+use Rattle.pk_law_steps.{specs.Under.IsUnder, specs.Under.places, specs.Roots.frozen_root, specs.Roots.frozen, specs.Roots.FreezeLeavesMap}
 use Rattle.pk_law_steps.proofs.Untouched.{Values, values_under, value_page_whole, not_erased}
 use Rattle.pk_law_steps.proofs.Places.{In, in_append, any_in_back, all_of, in_value, not_of}
-use Rattle.pk_base.proofs.Logic.{is_true, ok_same}
 
 -- a list with an element is not empty
 not_empty : (n : ℕ) → (suc n == 0) ≡ false

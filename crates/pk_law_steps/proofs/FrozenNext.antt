@@ -1,33 +1,17 @@
 -- The root after a freeze is a valid successor.
 use Rattle.std.proofs.Common.{◌≡◌, inl, inr, ℕ, suc, ◌+◌, ◌-◌, ◌*◌, ◌/◌, ◌%◌, ◌<◌, ◌≤◌, refl, sym, ap, subst, ◌∙◌, arith, true, false, T, List, [], ◌∷◌, ◌++◌, length, reverse, slice_index, ◌==◌}
 use Rattle.std.proofs.Common.{if◌then◌else◌, Ok, append-nil, mul-le-mul_right, div-add-mod', mod-lt, eqb→eq, leb→le, le_trans}
-use Rattle.std.proofs.lemmas.Nat.{div-mul-add}
-use Rattle.std.proofs.lemmas.List.{reverse-append}
-use Rattle.std.specs.List.{concat, flat_map}
-use Rattle.pk_base.specs.Shape.{Shape, IsShape, buffer, epoch_pages}
-use Rattle.pk_base.specs.Page.{Flash, page_at, erased, page_in}
-use Rattle.pk_base.specs.Entry.{Entry}
-use Rattle.pk_base.specs.Firsts.{firsts}
-use Rattle.pk_base.specs.Map.{Map}
+use Rattle.std.{proofs.lemmas.Nat.div-mul-add, proofs.lemmas.List.reverse-append, specs.List.concat, specs.List.flat_map}
+use Rattle.pk_base.{specs.Shape.Shape, specs.Shape.IsShape, specs.Shape.buffer, specs.Shape.epoch_pages, specs.Page.Flash, specs.Page.page_at, specs.Page.erased, specs.Page.page_in, specs.Entry.Entry}
+use Rattle.pk_base.{specs.Firsts.firsts, specs.Map.Map, proofs.ShapeLemmas.block_pages_positive, proofs.CommitPages.second as next_page, proofs.KeyLemmas.firsts_sorted}
 use Rattle.pk_jrnfmt.specs.Epoch.{epoch}
 use Rattle.pk_rootfmt.specs.Root.{Root, is_root, named}
-use Rattle.pk_model.specs.RootLimits.{root_limits, root_spaces}
+use Rattle.pk_model.{specs.RootLimits.root_limits, specs.RootLimits.root_spaces, specs.Values.placed, proofs.SamePages.any_front, proofs.SamePages.any_back, proofs.Roots.newest_sound}
 use Rattle.pk_model.specs.Found.{Found, older_epoch, newest_epoch, found_under, entries_in_order}
-use Rattle.pk_model.specs.Values.{placed}
-use Rattle.pk_base.proofs.ShapeLemmas.{block_pages_positive}
-use Rattle.pk_model.proofs.SamePages.{any_front, any_back}
-use Rattle.pk_model.proofs.Roots.{newest_sound}
-use Rattle.pk_base.proofs.CommitPages.{second as next_page}
 use Rattle.pk_model.proofs.Commits.{blocks_of_root, root_valid, ends, not_read, erased_not, values_apart, is_any_back}
-use Rattle.pk_law_steps.specs.Under.{IsUnder, IsNamed, IsValuePage, places}
-use Rattle.pk_law_steps.specs.Roots.{frozen_root, frozen}
-use Rattle.pk_law_steps.proofs.Untouched.{Values, values_under, value_page_whole, not_erased}
-use Rattle.pk_law_steps.proofs.Places.{In, in_append}
-use Rattle.pk_law_steps.specs.Freezing.{IsFrozen, Frozen}
-use Rattle.pk_law_steps.proofs.FourRuns.{pieces_of}
-use Rattle.pk_law_steps.proofs.Keys.{no_more_keys, has_firsts, firsts_has, has_behind}
-use Rattle.pk_base.proofs.KeyLemmas.{firsts_sorted}
-use Rattle.pk_law_steps.proofs.Freezing.{older_is}
+use Rattle.pk_law_steps.{specs.Under.IsUnder, specs.Under.IsNamed, specs.Under.IsValuePage, specs.Under.places, specs.Roots.frozen_root, specs.Roots.frozen, proofs.Places.In, proofs.Places.in_append}
+use Rattle.pk_law_steps.{proofs.Untouched.Values, proofs.Untouched.values_under, proofs.Untouched.value_page_whole, proofs.Untouched.not_erased, specs.Freezing.IsFrozen, specs.Freezing.Frozen}
+use Rattle.pk_law_steps.{proofs.FourRuns.pieces_of, proofs.Keys.no_more_keys, proofs.Keys.has_firsts, proofs.Keys.firsts_has, proofs.Keys.has_behind, proofs.Freezing.older_is}
 
 -- a list with an element is not empty
 not_empty : (n : ℕ) → (suc n == 0) ≡ false

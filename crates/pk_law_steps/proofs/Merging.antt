@@ -1,23 +1,12 @@
 -- A merge leaves the entries that count, and its root names the output in place of source and target.
 use Rattle.std.proofs.Common.{◌≡◌, ◌⊎◌, inl, inr, ℕ, zero, suc, ◌-◌, refl, sym, ap, subst, ◌∙◌, List, [], ◌∷◌, ◌++◌, reverse, true, false, Option, None, if◌then◌else◌, ◌==◌, slice_set, Ok}
-use Rattle.std.specs.List.{concat}
-use Rattle.pk_base.specs.Shape.{Shape}
-use Rattle.pk_base.specs.Page.{Page}
-use Rattle.pk_base.specs.Key.{key_cmp}
-use Rattle.std.specs.FinMap.Entries.{find}
-use Rattle.pk_base.specs.Entry.{Entry}
-use Rattle.pk_base.specs.Firsts.{firsts}
-use Rattle.pk_meta.specs.Over.{over}
-use Rattle.pk_meta.specs.Run.{run}
-use Rattle.pk_model.specs.Found.{Found, entries_in_order, runs_from}
-use Rattle.pk_model.specs.Values.{placed}
-use Rattle.pk_model.specs.Tree.{merged, blocks_after}
+use Rattle.std.{specs.List.concat, specs.FinMap.Entries.find}
+use Rattle.pk_base.{specs.Shape.Shape, specs.Page.Page, specs.Key.key_cmp, specs.Entry.Entry, specs.Firsts.firsts}
+use Rattle.pk_meta.{specs.Over.over, specs.Run.run}
+use Rattle.pk_model.{specs.Found.Found, specs.Found.entries_in_order, specs.Found.runs_from, specs.Values.placed, specs.Tree.merged, specs.Tree.blocks_after, proofs.Lookups.flat}
 use Rattle.pk_model.proofs.Merges.{first_some, first_some_assoc, first_some_none, found_in, found_over, same_placed, merge_one, merge_two, merge_four}
-use Rattle.pk_model.proofs.Lookups.{flat}
 use Rattle.pk_model.proofs.SamePages.{any_front, any_back}
-use Rattle.pk_law_steps.proofs.Places.{In, in_append}
-use Rattle.pk_law_steps.specs.Merging.{output_of, counts_after}
-use Rattle.pk_law_steps.proofs.FourRuns.{Runs, IsLevel, empty_run}
+use Rattle.pk_law_steps.{proofs.Places.In, proofs.Places.in_append, specs.Merging.output_of, specs.Merging.counts_after, proofs.FourRuns.Runs, proofs.FourRuns.IsLevel, proofs.FourRuns.empty_run}
 
 -- ---- what is found
 

@@ -1,14 +1,11 @@
 -- The blocks of the newest epoch of a root, and that a root which is found keeps to its grammar.
 use Rattle.std.proofs.Common.{◌≡◌, ◌≢◌, ℕ, ◌<◌, arith, Bool, true, false, ◌&&◌, ◌||◌, T, ◌++◌, length, nat_le, nat_lt, slice_index, ◌==◌, Some}
-use Rattle.std.specs.List.{list_all, concat}
-use Rattle.std.proofs.lemmas.Bool.{ltb-true}
-use Rattle.pk_base.specs.Shape.{Shape}
-use Rattle.pk_base.specs.Page.{Page}
+use Rattle.std.{specs.List.list_all, specs.List.concat, proofs.lemmas.Bool.ltb-true}
+use Rattle.pk_base.{specs.Shape.Shape, specs.Page.Page, proofs.Logic.is_true, proofs.Logic.right_part, proofs.Logic.left_part}
 use Rattle.pk_rootfmt.specs.Root.{Root, named, is_root, is_number, has_runs, differ, is_laid_out, are_limits}
 use Rattle.pk_rootfmt.specs.Newest.{newest_root}
 use Rattle.pk_model.proofs.Roots.{newest_sound}
 use Rattle.pk_model.proofs.Commits.{all_at, all_front, root_valid, blocks_of_root, differ_front, injective}
-use Rattle.pk_base.proofs.Logic.{is_true, right_part, left_part}
 
 all_of_root : (a b c d e f g h : Bool) → T (a && b && c && d && e && f && g && h) → T g
 all_of_root true true true true true true true true is = tt

@@ -1,16 +1,11 @@
 -- The output of a merge is of namespaces of the drive.
 use Rattle.std.proofs.Common.{◌≡◌, ℕ, zero, suc, ◌-◌, Bool, true, false, ◌==◌, T, List, [], ◌∷◌, ◌++◌, reverse, filter, cond, Ok, is_some, if◌then◌else◌}
-use Rattle.std.specs.Prelude.{slice_index_or}
-use Rattle.std.specs.List.{AllByRecursion}
-use Rattle.pk_base.specs.Shape.{Shape}
-use Rattle.pk_base.specs.Page.{Page}
-use Rattle.pk_base.specs.Entry.{Entry}
+use Rattle.std.{specs.Prelude.slice_index_or, specs.List.AllByRecursion}
+use Rattle.pk_base.{specs.Shape.Shape, specs.Page.Page, specs.Entry.Entry}
 use Rattle.pk_space.specs.Entries.{in_spaces}
 use Rattle.pk_meta.specs.Over.{over, kept_at}
 use Rattle.pk_rootfmt.specs.Root.{Root}
-use Rattle.pk_model.specs.RootLimits.{root_spaces}
-use Rattle.pk_model.specs.Found.{Found, found_under}
-use Rattle.pk_model.specs.Tree.{run_at}
+use Rattle.pk_model.{specs.RootLimits.root_spaces, specs.Found.Found, specs.Found.found_under, specs.Tree.run_at}
 use Rattle.pk_model.proofs.Entries.{AllFound, IsInSpaces, all_append, all_reverse, all_firsts, all_in_spaces, found_in_spaces}
 use Rattle.pk_law_steps.specs.Merging.{source_of, output_of}
 

@@ -1,49 +1,23 @@
 -- The output of the next merge fits into its run.
-use Rattle.std.proofs.Common.{◌≡◌, ◌⊎◌, inl, inr, ℕ, ◌+◌, ◌-◌, ◌*◌, ◌<◌, ◌≤◌, sym, ap, subst, ◌∙◌, arith, Bool, true, false, T, List, [], ◌∷◌, ◌++◌, length, map, reverse, filter, nat_le, ◌==◌}
-use Rattle.std.proofs.Common.{refl, cond, is_some, slice_index, if◌then◌else◌, Option, Some, None, ◌||◌, zip, leb→le, length-append, mul-le-mul_right, add-mul, append_assoc, append-nil, le_trans}
-use Rattle.std.specs.Int.{div_ceil}
-use Rattle.std.specs.Ordering.{eq_by_cmp}
-use Rattle.std.specs.FinMap.Entries.{find, is_sorted, below_all}
+use Rattle.std.proofs.Common.{◌≡◌, ◌⊎◌, inl, inr, ℕ, ◌+◌, ◌-◌, ◌*◌, ◌<◌, ◌≤◌, sym, ap, subst, ◌∙◌, arith, Bool, true, false, T, List, [], ◌∷◌, ◌++◌, length, map, reverse, filter, nat_le, ◌==◌, refl}
+use Rattle.std.proofs.Common.{cond, is_some, slice_index, if◌then◌else◌, Option, Some, None, ◌||◌, zip, leb→le, length-append, mul-le-mul_right, add-mul, append_assoc, append-nil, le_trans}
+use Rattle.std.{specs.Int.div_ceil, specs.Ordering.eq_by_cmp, specs.FinMap.Entries.find, specs.FinMap.Entries.is_sorted, specs.FinMap.Entries.below_all, specs.List.list_all, specs.List.flat_map}
 use Rattle.std.proofs.lemmas.List.FromFn.{length-range_with_len}
-use Rattle.pk_base.specs.Choices.{or_else}
-use Rattle.pk_base.specs.Key.{Key, key_cmp}
-use Rattle.pk_base.specs.Shape.{Shape, IsShape, page_entries, buffer, deepest, limit, data_blocks, dense, charge}
-use Rattle.pk_base.specs.Page.{Flash, page_at}
-use Rattle.pk_base.specs.Entry.{Entry, Place}
-use Rattle.pk_base.specs.Firsts.{firsts}
-use Rattle.pk_base.specs.Map.{Map}
-use Rattle.pk_base.specs.Merge.{room, next_merge}
+use Rattle.pk_base.{specs.Choices.or_else, specs.Key.Key, specs.Key.key_cmp, specs.Page.Flash, specs.Page.page_at, specs.Page.page_in, specs.Entry.Entry, specs.Entry.Place, specs.Firsts.firsts}
+use Rattle.pk_base.specs.Shape.{Shape, IsShape, page_entries, buffer, deepest, limit, data_blocks, dense, charge, caps, meta_blocks}
+use Rattle.pk_base.{specs.Map.Map, specs.Merge.room, specs.Merge.next_merge, proofs.ShapeLemmas.charge_least, specs.Refusal.ensure, proofs.KeyLemmas.firsts_sorted}
+use Rattle.pk_base.proofs.Logic.{left_part, right_part, both, ok_same}
 use Rattle.pk_segfmt.specs.Value.{value_pages}
 use Rattle.pk_meta.specs.Over.{over}
-use Rattle.pk_rootfmt.specs.Root.{Root, named}
-use Rattle.pk_model.specs.RootLimits.{root_limits, root_spaces}
-use Rattle.pk_model.specs.Found.{Found, entries_in_order}
-use Rattle.pk_model.specs.Values.{placed, all_pages}
-use Rattle.pk_model.proofs.MapLemmas.{missing}
-use Rattle.pk_model.proofs.Lookups.{find-firsts, find-placed, flat, same_key}
-use Rattle.pk_model.proofs.Merges.{placed_sorted}
-use Rattle.pk_base.proofs.ShapeLemmas.{charge_least}
-use Rattle.pk_model.proofs.Live.{ceil_room}
-use Rattle.pk_base.specs.Refusal.{ensure}
-use Rattle.pk_base.specs.Page.{page_in}
-use Rattle.pk_base.specs.Shape.{caps, meta_blocks}
-use Rattle.std.specs.List.{list_all, flat_map}
+use Rattle.pk_rootfmt.specs.Root.{Root, named, is_root}
+use Rattle.pk_model.{specs.RootLimits.root_limits, specs.RootLimits.root_spaces, specs.Found.Found, specs.Found.entries_in_order, specs.Values.placed, specs.Values.all_pages, proofs.MapLemmas.missing}
+use Rattle.pk_model.{proofs.Lookups.find-firsts, proofs.Lookups.find-placed, proofs.Lookups.flat, proofs.Lookups.same_key, proofs.Merges.placed_sorted, proofs.Live.ceil_room}
+use Rattle.pk_model.{proofs.StrangePages.bind_ok, proofs.Roots.newest_sound, proofs.Commits.root_valid, proofs.ValueSets.values_sound, proofs.ValueSets.fits_parts, proofs.HeldMap.nothing_fits}
 use Rattle.pk_jrnfmt.specs.Epoch.{epoch}
-use Rattle.pk_rootfmt.specs.Root.{is_root}
-use Rattle.pk_model.proofs.StrangePages.{bind_ok}
-use Rattle.pk_model.proofs.Roots.{newest_sound}
-use Rattle.pk_model.proofs.Commits.{root_valid}
-use Rattle.pk_model.proofs.ValueSets.{values_sound, fits_parts}
-use Rattle.pk_model.proofs.HeldMap.{nothing_fits}
-use Rattle.pk_law_steps.proofs.Untouched.{Values, values_under}
-use Rattle.pk_law_steps.specs.Under.{IsUnder, places}
-use Rattle.pk_law_steps.specs.Merging.{output_of}
-use Rattle.pk_law_steps.specs.Fitting.{OutputFits}
+use Rattle.pk_law_steps.{proofs.Untouched.Values, proofs.Untouched.values_under, specs.Under.IsUnder, specs.Under.places, specs.Merging.output_of, specs.Fitting.OutputFits}
 use Rattle.pk_law_steps.proofs.FourRuns.{Runs, Pieces, four_of_root, four_runs, pieces_of}
 use Rattle.pk_law_steps.proofs.Amounts.{run_most, epoch_most, WithinCaps, within_caps, counted_of}
 use Rattle.pk_law_steps.proofs.Keys.{Has, no_more_than_both, find-both, has_firsts, firsts_of_both, firsts_reversed, firsts_fewer}
-use Rattle.pk_base.proofs.Logic.{left_part, right_part, both, ok_same}
-use Rattle.pk_base.proofs.KeyLemmas.{firsts_sorted}
 
 -- ---- which test led to the level
 

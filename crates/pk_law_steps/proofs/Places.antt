@@ -2,21 +2,15 @@
 use Rattle.std.proofs.Common.{◌≡◌, ◌⊎◌, inl, inr, ℕ, zero, suc, ◌+◌, ◌/◌, ◌<◌, ◌≤◌, refl, sym, ap, subst, ◌∙◌, arith, Bool, true, false, not, ◌||◌, cond, T, List, [], ◌∷◌, ◌++◌, length, filter, ◌==◌}
 use Rattle.std.proofs.Common.{eqb→eq, le_trans, eq-or-lt_of_le, length-append}
 use Rattle.std.specs.declared.cmp.Ordering.TheVariants.{Less, Equal, Greater}
-use Rattle.std.specs.List.{list_any, list_all, range_with_len}
-use Rattle.std.specs.FinMap.Entries.{put, by_order}
-use Rattle.pk_base.specs.Key.{Key, key_cmp}
-use Rattle.pk_base.specs.Shape.{Shape, charge}
-use Rattle.pk_base.specs.Entry.{Place}
+use Rattle.std.{specs.List.list_any, specs.List.list_all, specs.List.range_with_len, specs.FinMap.Entries.put, specs.FinMap.Entries.by_order}
+use Rattle.pk_base.{specs.Key.Key, specs.Key.key_cmp, specs.Shape.Shape, specs.Shape.charge, specs.Entry.Place}
+use Rattle.pk_base.proofs.Logic.{is_true, left_part, right_part, both, or_cases}
 use Rattle.pk_segfmt.specs.Value.{value_pages}
 use Rattle.pk_rootfmt.specs.Root.{differ}
-use Rattle.pk_model.specs.Values.{fits, blocks_with, all_pages, KeepsWithin, pages_of_space}
-use Rattle.pk_model.specs.Laws.{AnyByRecursion}
+use Rattle.pk_model.{specs.Values.fits, specs.Values.blocks_with, specs.Values.all_pages, specs.Values.KeepsWithin, specs.Values.pages_of_space, specs.Laws.AnyByRecursion, proofs.SamePages.any_front}
 use Rattle.pk_model.proofs.Commits.{refuted, rest_differs, any_behind, apart, differ_front, all_front, is_any}
-use Rattle.pk_model.proofs.SamePages.{any_front}
 use Rattle.pk_model.proofs.ValueSets.{fits_parts, parts_fit, any_more, filter_more}
-use Rattle.pk_law_steps.specs.Under.{IsValuePage}
-use Rattle.pk_law_steps.specs.Stores.{Fits}
-use Rattle.pk_base.proofs.Logic.{is_true, left_part, right_part, both, or_cases}
+use Rattle.pk_law_steps.{specs.Under.IsValuePage, specs.Stores.Fits}
 
 abbrev pub In : ℕ → List ℕ → Type 0
 In k xs = AnyByRecursion (λ y. k ≡ y) xs

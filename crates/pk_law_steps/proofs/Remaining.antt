@@ -1,22 +1,12 @@
 -- The output of a merge is unchanged while commands are served.
 use Rattle.std.proofs.Common.{◌≡◌, ℕ, ◌*◌, ◌/◌, ◌%◌, ◌<◌, slice_index, div-lt_iff_lt-mul, mod-lt, sym, ap, subst, ◌∙◌, arith, true, List, length, map, Ok}
-use Rattle.pk_base.specs.Shape.{Shape, run_pages, run_blocks}
-use Rattle.pk_base.specs.Page.{page_at, page_in}
-use Rattle.pk_base.specs.Entry.{Entry}
-use Rattle.pk_base.specs.Firsts.{firsts}
-use Rattle.pk_base.specs.Merge.{next_merge}
-use Rattle.pk_rootfmt.specs.Root.{Root, is_root, named}
-use Rattle.pk_base.proofs.ShapeLemmas.{block_pages_positive}
-use Rattle.pk_model.specs.Found.{Found}
-use Rattle.pk_model.specs.Laws.{AnyByRecursion}
-use Rattle.pk_model.proofs.SamePages.{run_same}
-use Rattle.pk_model.proofs.Commits.{member}
-use Rattle.pk_model.proofs.Live.{ceil_room}
 use Rattle.std.proofs.lemmas.Nat.{div-mul-add}
-use Rattle.pk_law_steps.proofs.Places.{In}
-use Rattle.pk_law_steps.specs.Merging.{MergedStill, merged_root, output_of}
+use Rattle.pk_base.{specs.Shape.Shape, specs.Shape.run_pages, specs.Shape.run_blocks, specs.Page.page_at, specs.Page.page_in, specs.Entry.Entry, specs.Firsts.firsts, specs.Merge.next_merge}
+use Rattle.pk_base.proofs.ShapeLemmas.{block_pages_positive}
+use Rattle.pk_rootfmt.specs.Root.{Root, is_root, named}
+use Rattle.pk_model.{specs.Found.Found, specs.Laws.AnyByRecursion, proofs.SamePages.run_same, proofs.Commits.member, proofs.Live.ceil_room, specs.RootLimits.root_spaces}
+use Rattle.pk_law_steps.{proofs.Places.In, specs.Merging.MergedStill, specs.Merging.merged_root, specs.Merging.output_of}
 use Rattle.pk_meta.specs.Run.{run}
-use Rattle.pk_model.specs.RootLimits.{root_spaces}
 
 same_output : (level : ℕ) (found then_found : Found) → then_found.older ≡ found.older → then_found.runs ≡ found.runs → output_of level then_found ≡ output_of level found
 same_output level found then_found older runs = λ i. output_of level (record { newest = found.newest; older = older i; runs = runs i })

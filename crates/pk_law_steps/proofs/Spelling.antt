@@ -1,23 +1,15 @@
 -- The root after a merge is one of the grammar.
 use Rattle.std.proofs.Common.{◌≡◌, ◌⊎◌, inl, inr, ℕ, zero, suc, ◌+◌, ◌-◌, ◌*◌, ◌/◌, ◌%◌, ◌<◌, ◌≤◌, min, refl, sym, ap, subst, ◌∙◌, arith, Bool, true, false, not, ◌&&◌, ◌||◌, T, List, [], ◌∷◌, ◌++◌}
 use Rattle.std.proofs.Common.{length, map, zip, nat_le, nat_lt, ◌==◌, slice_set, if◌then◌else◌, leb→le, le→leb, append-nil}
-use Rattle.std.specs.Prelude.{bytes_eq}
-use Rattle.std.proofs.Math.Nat.{zero-div, zero-mod}
-use Rattle.std.proofs.lemmas.Slice.Eq.{bytes_eq-Decides}
-use Rattle.std.specs.List.{list_all, list_any, concat}
-use Rattle.pk_base.specs.Shape.{Shape, page_entries, caps, deepest, run_pages, run_blocks}
-use Rattle.pk_base.specs.Merge.{room}
+use Rattle.std.{specs.Prelude.bytes_eq, proofs.Math.Nat.zero-div, proofs.Math.Nat.zero-mod, proofs.lemmas.Slice.Eq.bytes_eq-Decides, specs.List.list_all, specs.List.list_any, specs.List.concat}
+use Rattle.pk_base.{specs.Shape.Shape, specs.Shape.page_entries, specs.Shape.caps, specs.Shape.deepest, specs.Shape.run_pages, specs.Shape.run_blocks, specs.Merge.room}
+use Rattle.pk_base.proofs.Logic.{is_true, left_part, right_part, both}
 use Rattle.pk_rootfmt.specs.Root.{Root, named, is_root, is_number, has_runs, differ, is_laid_out, are_limits}
-use Rattle.pk_model.specs.Tree.{blocks_after}
-use Rattle.pk_model.proofs.SamePages.{any_front, any_back}
-use Rattle.pk_model.proofs.RootAlone.{head_same, tail_same}
+use Rattle.pk_model.{specs.Tree.blocks_after, proofs.SamePages.any_front, proofs.SamePages.any_back, proofs.RootAlone.head_same, proofs.RootAlone.tail_same}
 use Rattle.pk_model.proofs.Commits.{rest_differs, apart, differ_front, is_any}
 use Rattle.pk_law_steps.proofs.Places.{In, in_append, all_of, not_of, any_in, differ_back}
-use Rattle.pk_law_steps.specs.Merging.{merged_root, counts_after, MergedGrammar}
-use Rattle.pk_law_steps.proofs.FourRuns.{IsLevel, four_of, four_of_root}
-use Rattle.pk_law_steps.proofs.Amounts.{WithinCaps, within_caps, counted_of, levels}
-use Rattle.pk_law_steps.proofs.Merging.{in_set, in_after}
-use Rattle.pk_base.proofs.Logic.{is_true, left_part, right_part, both}
+use Rattle.pk_law_steps.{specs.Merging.merged_root, specs.Merging.counts_after, specs.Merging.MergedGrammar, proofs.FourRuns.IsLevel, proofs.FourRuns.four_of, proofs.FourRuns.four_of_root}
+use Rattle.pk_law_steps.{proofs.Amounts.WithinCaps, proofs.Amounts.within_caps, proofs.Amounts.counted_of, proofs.Amounts.levels, proofs.Merging.in_set, proofs.Merging.in_after}
 
 -- ---- tests one after another
 

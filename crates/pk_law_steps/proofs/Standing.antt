@@ -1,36 +1,18 @@
 -- A valid successor does not change the map, at any cut of its install.
 use Rattle.std.proofs.Common.{◌≡◌, inl, inr, ℕ, ◌/◌, ◌<◌, sym, ap, subst, ◌∙◌, T, true, List, [], ◌++◌, length, nat_le, ◌==◌, not, Some, Ok, le→leb, ◌⊎◌}
 use Rattle.std.specs.List.{AllByRecursion, list_any}
-use Rattle.pk_base.specs.Shape.{Shape, IsShape, buffer}
-use Rattle.pk_base.specs.Page.{Flash, page_at, SameBehind}
-use Rattle.pk_base.specs.Entry.{Entry, Place}
-use Rattle.pk_base.specs.EntryChecks.{IsEntry}
-use Rattle.pk_base.specs.Firsts.{firsts}
-use Rattle.pk_base.specs.Key.{Key}
-use Rattle.pk_base.specs.Map.{Map}
+use Rattle.pk_base.{specs.Shape.Shape, specs.Shape.IsShape, specs.Shape.buffer, specs.Page.Flash, specs.Page.page_at, specs.Page.SameBehind, specs.Entry.Entry, specs.Entry.Place, specs.Firsts.firsts}
+use Rattle.pk_base.{specs.EntryChecks.IsEntry, specs.Key.Key, specs.Map.Map, proofs.ShapeLemmas.block_pages_positive, proofs.Logic.is_true, proofs.Logic.both}
 use Rattle.pk_space.specs.Entries.{in_spaces}
-use Rattle.pk_rootfmt.specs.Root.{Root, named}
-use Rattle.pk_rootfmt.specs.Newest.{newest_root}
-use Rattle.pk_model.specs.RootLimits.{root_limits}
-use Rattle.pk_model.specs.Found.{Found, found_under, entries_in_order}
-use Rattle.pk_model.specs.Values.{placed, values_of, all_pages, KeepsWithin}
-use Rattle.pk_model.specs.Reading.{may_add, map_under}
-use Rattle.pk_model.specs.Laws.{AnyByRecursion, IsPageOf}
-use Rattle.pk_base.proofs.ShapeLemmas.{block_pages_positive}
-use Rattle.pk_model.proofs.RootLimits.{limits_alike}
-use Rattle.pk_model.proofs.SamePages.{values_same, map_under_same}
-use Rattle.pk_model.proofs.Roots.{newest_sound}
-use Rattle.pk_model.proofs.RootAlone.{found_alone, values_behind}
-use Rattle.pk_model.proofs.Commits.{root_valid}
-use Rattle.pk_model.proofs.Entries.{counting_all, journal_are, meta_are}
+use Rattle.pk_rootfmt.{specs.Root.Root, specs.Root.named, specs.Newest.newest_root}
+use Rattle.pk_model.{specs.RootLimits.root_limits, specs.Found.Found, specs.Found.found_under, specs.Found.entries_in_order, specs.Reading.may_add, specs.Reading.map_under, proofs.Roots.newest_sound}
+use Rattle.pk_model.{specs.Values.placed, specs.Values.values_of, specs.Values.all_pages, specs.Values.KeepsWithin, specs.Laws.AnyByRecursion, specs.Laws.IsPageOf, proofs.RootLimits.limits_alike}
+use Rattle.pk_model.{proofs.SamePages.values_same, proofs.SamePages.map_under_same, proofs.RootAlone.found_alone, proofs.RootAlone.values_behind, proofs.Commits.root_valid}
+use Rattle.pk_model.{proofs.Entries.counting_all, proofs.Entries.journal_are, proofs.Entries.meta_are, proofs.HeldMap.nothing_fits, specs.Tree.TreeFreezes, specs.Tree.Merges}
 use Rattle.pk_model.proofs.ValueSets.{values_sound, values_complete, fits_parts, parts_fit}
-use Rattle.pk_model.proofs.HeldMap.{nothing_fits}
-use Rattle.pk_law_steps.specs.Under.{IsUnder, places}
-use Rattle.pk_law_steps.proofs.Untouched.{Values, values_under}
+use Rattle.pk_law_steps.{specs.Under.IsUnder, specs.Under.places, proofs.Untouched.Values, proofs.Untouched.values_under}
 use Rattle.pk_law_steps.proofs.Places.{In, all_of, any_in_back, in_value, not_of}
 use Rattle.pk_law_steps.specs.Next.{IsNext, Installed, Installs, tree_of}
-use Rattle.pk_base.proofs.Logic.{is_true, both}
-use Rattle.pk_model.specs.Tree.{TreeFreezes, Merges}
 
 module _ (shape : Shape) (flash new : Flash) (extra : List Entry) (top : ℕ × Root) (found : Found) (m : Map) (is_shape : IsShape shape) (entries : AllByRecursion (IsEntry shape) extra)
     (before : IsUnder shape flash extra top found m) (behind : SameBehind shape flash new) where

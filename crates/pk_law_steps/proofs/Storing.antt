@@ -1,31 +1,18 @@
 -- One more entry puts a value into the map, or takes a key out of it.
 use Rattle.std.proofs.Common.{◌≡◌, ℕ, refl, sym, ap, subst, ◌∙◌, Bool, true, false, not, cond, T, List, [], ◌∷◌, ◌++◌, length, nat_le, Option, Some, None, Ok, le→leb, ◌≤◌}
-use Rattle.std.specs.declared.cmp.Ordering.TheVariants.{Less, Equal, Greater}
+use Rattle.std.{specs.declared.cmp.Ordering.TheVariants.Less, specs.declared.cmp.Ordering.TheVariants.Equal, specs.declared.cmp.Ordering.TheVariants.Greater, specs.Cmp.eq_by_cmp_equiv}
 use Rattle.std.specs.Ordering.{is_lt, is_eq, eq_by_cmp}
-use Rattle.std.specs.Cmp.{eq_by_cmp_equiv}
 use Rattle.std.specs.FinMap.{from_entries, get-from_entries, remove, get-remove, same_map}
 use Rattle.std.specs.FinMap.Entries.{put, find, is_sorted, below_all, by_order, where_key, find-where_key}
-use Rattle.pk_base.specs.Key.{Key, key_cmp, space_of}
-use Rattle.pk_base.specs.Shape.{Shape, buffer}
-use Rattle.pk_base.specs.Page.{Page, page_at}
-use Rattle.pk_base.specs.Entry.{Entry, Place}
-use Rattle.pk_base.specs.Firsts.{firsts}
+use Rattle.pk_base.{specs.Key.Key, specs.Key.key_cmp, specs.Key.space_of, specs.Shape.Shape, specs.Shape.buffer, specs.Page.Page, specs.Page.page_at, specs.Entry.Entry, specs.Entry.Place}
+use Rattle.pk_base.{specs.Firsts.firsts, proofs.Logic.is_true, proofs.Logic.left_part, proofs.Logic.right_part, proofs.Logic.both, proofs.Logic.less, proofs.KeyLemmas.firsts_sorted}
 use Rattle.pk_rootfmt.specs.Root.{named}
-use Rattle.pk_model.specs.RootLimits.{root_limits, root_spaces}
-use Rattle.pk_model.specs.Found.{entries_in_order}
-use Rattle.pk_model.specs.Values.{placed, values_of}
-use Rattle.pk_model.specs.Reading.{may_add, map_under}
-use Rattle.pk_model.proofs.RootLimits.{in_spaces_last}
-use Rattle.pk_model.proofs.MapLemmas.{key_total, key_antisymm, below_less}
+use Rattle.pk_model.{specs.RootLimits.root_limits, specs.RootLimits.root_spaces, specs.Found.entries_in_order, specs.Values.placed, specs.Values.values_of, proofs.RootLimits.in_spaces_last}
+use Rattle.pk_model.{specs.Reading.may_add, specs.Reading.map_under, proofs.MapLemmas.key_total, proofs.MapLemmas.key_antisymm, proofs.MapLemmas.below_less, proofs.HeldMap.nothing_fits}
 use Rattle.pk_model.proofs.ValueSets.{values_sound, values_complete, Reads}
 use Rattle.pk_model.proofs.Stores.{below_placed, reading-store, entries_in_order-push}
-use Rattle.pk_model.proofs.HeldMap.{nothing_fits}
-use Rattle.pk_law_steps.specs.Under.{counting, places}
-use Rattle.pk_law_steps.specs.Stores.{Stores, Deletes}
-use Rattle.pk_law_steps.proofs.Untouched.{values_under}
+use Rattle.pk_law_steps.{specs.Under.counting, specs.Under.places, specs.Stores.Stores, specs.Stores.Deletes, proofs.Untouched.values_under}
 use Rattle.pk_law_steps.proofs.Places.{kept, kept_fit, within_kept}
-use Rattle.pk_base.proofs.Logic.{is_true, left_part, right_part, both, less}
-use Rattle.pk_base.proofs.KeyLemmas.{firsts_sorted}
 
 pub stores : Stores
 stores shape flash pending top found m key place value under own stands room fit within =

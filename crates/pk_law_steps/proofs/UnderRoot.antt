@@ -1,15 +1,9 @@
 -- What was found under a root, list by list.
 use Rattle.std.proofs.Common.{◌≡◌, ℕ, ◌-◌, ap, subst, ◌∙◌, arith, refl, Bool, true, false, ◌||◌, ◌==◌, T, List, [], ◌∷◌, length, nat_le, Result, Ok, eqb→eq}
-use Rattle.pk_base.specs.Shape.{Shape}
-use Rattle.pk_base.specs.Page.{Page, page_in}
-use Rattle.pk_base.specs.Entry.{Entry}
-use Rattle.pk_base.specs.Refusal.{Refusal, ensure}
+use Rattle.pk_base.{specs.Shape.Shape, specs.Page.Page, specs.Page.page_in, specs.Entry.Entry, specs.Refusal.Refusal, specs.Refusal.ensure, proofs.Logic.ok_same, proofs.Logic.passed}
 use Rattle.pk_rootfmt.specs.Root.{Root}
 use Rattle.pk_jrnfmt.specs.Epoch.{epoch}
-use Rattle.pk_model.specs.RootLimits.{root_spaces}
-use Rattle.pk_model.specs.Found.{Found, older_epoch, newest_epoch, runs_from, found_under}
-use Rattle.pk_model.proofs.StrangePages.{bind_ok}
-use Rattle.pk_base.proofs.Logic.{ok_same, passed}
+use Rattle.pk_model.{specs.RootLimits.root_spaces, specs.Found.Found, specs.Found.older_epoch, specs.Found.newest_epoch, specs.Found.runs_from, specs.Found.found_under, proofs.StrangePages.bind_ok}
 
 -- ---- the entries of the newest epoch
 

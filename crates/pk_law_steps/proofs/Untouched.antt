@@ -1,30 +1,18 @@
 -- What is not read may change.
-use Rattle.std.proofs.Common.{◌≡◌, ◌⊎◌, inl, inr, ℕ, zero, suc, ◌+◌, ◌-◌, ◌/◌, ◌<◌, ◌≤◌, refl, sym, subst, ◌∙◌, arith, true, false, T, List, [], ◌∷◌, ◌++◌, length, drop, nat_le, nat_eq, ◌==◌, Result, Bool}
-use Rattle.std.proofs.Common.{Ok, leb→le, leb-false, eq-or-lt_of_le, div-lt_iff_lt-mul}
-use Rattle.std.specs.List.{list_all, starts_with, concat}
-use Rattle.pk_base.specs.Key.{Key}
-use Rattle.pk_base.specs.Shape.{Shape, charge, buffer}
-use Rattle.pk_base.specs.Page.{Page, Flash, page_at, erased, whole, torn, page_in}
-use Rattle.pk_base.specs.Entry.{Entry, Place}
-use Rattle.pk_base.specs.Refusal.{Refusal, not_formatted, ensure, some_or}
-use Rattle.pk_base.specs.Firsts.{firsts}
-use Rattle.std.specs.FinMap.{from_entries}
+use Rattle.std.proofs.Common.{◌≡◌, ◌⊎◌, inl, inr, ℕ, zero, suc, ◌+◌, ◌-◌, ◌/◌, ◌<◌, ◌≤◌, refl, sym, subst, ◌∙◌, arith, true, false, T, List, [], ◌∷◌, ◌++◌, length, drop, nat_le, nat_eq, ◌==◌, Result}
+use Rattle.std.proofs.Common.{Bool, Ok, leb→le, leb-false, eq-or-lt_of_le, div-lt_iff_lt-mul}
+use Rattle.std.{specs.List.list_all, specs.List.starts_with, specs.List.concat, specs.FinMap.from_entries}
+use Rattle.pk_base.{specs.Key.Key, specs.Shape.Shape, specs.Shape.charge, specs.Shape.buffer, specs.Entry.Entry, specs.Entry.Place, specs.Firsts.firsts, specs.Map.Map}
+use Rattle.pk_base.{specs.Page.Page, specs.Page.Flash, specs.Page.page_at, specs.Page.erased, specs.Page.whole, specs.Page.torn, specs.Page.page_in, proofs.ShapeLemmas.block_pages_positive}
+use Rattle.pk_base.{specs.Refusal.Refusal, specs.Refusal.not_formatted, specs.Refusal.ensure, specs.Refusal.some_or, proofs.Logic.passed, proofs.Logic.left_part, proofs.Logic.right_part}
 use Rattle.pk_segfmt.specs.Value.{head_bytes, value_pages, value_page, value_from, value_at}
-use Rattle.pk_rootfmt.specs.Root.{Root, named}
-use Rattle.pk_rootfmt.specs.Newest.{newest_root}
-use Rattle.pk_base.specs.Map.{Map}
-use Rattle.pk_model.specs.RootLimits.{root_limits, root_spaces}
-use Rattle.pk_model.specs.Found.{Found, found_under, entries_in_order}
-use Rattle.pk_model.specs.Values.{values_of}
-use Rattle.pk_model.specs.Reading.{reading_of, map_under, may_add}
-use Rattle.pk_model.specs.Laws.{AnyByRecursion, IsPageOf, IsRead, IsWholePage}
-use Rattle.pk_base.proofs.ShapeLemmas.{block_pages_positive}
+use Rattle.pk_rootfmt.{specs.Root.Root, specs.Root.named, specs.Newest.newest_root}
+use Rattle.pk_model.{specs.RootLimits.root_limits, specs.RootLimits.root_spaces, specs.Found.Found, specs.Found.found_under, specs.Found.entries_in_order, specs.Values.values_of}
+use Rattle.pk_model.{specs.Reading.reading_of, specs.Reading.map_under, specs.Reading.may_add, specs.Laws.AnyByRecursion, specs.Laws.IsPageOf, specs.Laws.IsRead, specs.Laws.IsWholePage}
 use Rattle.pk_model.proofs.SamePages.{newest_root_same, found_same, map_under_same, agrees, agree_runs, any_front, any_back, any_in_concat}
-use Rattle.pk_model.proofs.StrangePages.{bind_ok, some_ok}
-use Rattle.pk_model.proofs.Lookups.{values_step}
+use Rattle.pk_model.{proofs.StrangePages.bind_ok, proofs.StrangePages.some_ok, proofs.Lookups.values_step}
 use Rattle.pk_law_steps.specs.Under.{IsUnder, IsValuePage, places}
 use Rattle.pk_law_steps.specs.Reads.{ReadsUnder, UnderReads, Same, ProgramsUnread, Erases}
-use Rattle.pk_base.proofs.Logic.{passed, left_part, right_part}
 use Rattle.pk_space.specs.Entries.{in_spaces}
 
 pub reads_under : ReadsUnder

@@ -1,16 +1,11 @@
 -- How large the output of a merge gets: the statements.
 use Rattle.std.specs.Prelude.{◌≡◌, ℕ, ◌+◌, ◌≤◌, List, length, map, true, Some}
 use Rattle.std.specs.List.{concat}
-use Rattle.pk_base.specs.Shape.{Shape, IsShape, run_blocks, meta_blocks}
-use Rattle.pk_base.specs.Page.{Flash}
-use Rattle.pk_base.specs.Entry.{Entry}
-use Rattle.pk_base.specs.Firsts.{firsts}
-use Rattle.pk_base.specs.Map.{Map}
+use Rattle.pk_base.{specs.Shape.Shape, specs.Shape.IsShape, specs.Shape.run_blocks, specs.Shape.meta_blocks, specs.Page.Flash, specs.Entry.Entry, specs.Firsts.firsts, specs.Map.Map}
 use Rattle.pk_base.specs.Merge.{room, next_merge}
 use Rattle.pk_rootfmt.specs.Root.{Root, is_root}
 use Rattle.pk_model.specs.Found.{Found}
-use Rattle.pk_law_steps.specs.Under.{IsUnder}
-use Rattle.pk_law_steps.specs.Merging.{output_of}
+use Rattle.pk_law_steps.{specs.Under.IsUnder, specs.Merging.output_of}
 
 -- The output of the next merge fits into its run. Into run 4 that is so since each of its keys has a value, or is deleted by an entry of the buffers or of runs 1 and 2.
 abbrev pub OutputFits : Type 0

@@ -1,14 +1,9 @@
 -- What a freeze makes of what is under the root, as a root that may follow: the statement.
 use Rattle.std.specs.Prelude.{◌≡◌, ℕ, ◌<◌, List, [], ◌∷◌, true}
-use Rattle.pk_base.specs.Shape.{Shape, IsShape, epoch_pages}
-use Rattle.pk_base.specs.Page.{Flash, page_at, erased, page_in}
-use Rattle.pk_base.specs.Entry.{Entry}
-use Rattle.pk_base.specs.Map.{Map}
+use Rattle.pk_base.{specs.Shape.Shape, specs.Shape.IsShape, specs.Shape.epoch_pages, specs.Page.Flash, specs.Page.page_at, specs.Page.erased, specs.Page.page_in, specs.Entry.Entry, specs.Map.Map}
 use Rattle.pk_rootfmt.specs.Root.{Root, is_root}
 use Rattle.pk_model.specs.Found.{Found}
-use Rattle.pk_law_steps.specs.Under.{IsUnder}
-use Rattle.pk_law_steps.specs.Roots.{frozen_root, frozen}
-use Rattle.pk_law_steps.specs.Next.{IsNext}
+use Rattle.pk_law_steps.{specs.Under.IsUnder, specs.Roots.frozen_root, specs.Roots.frozen, specs.Next.IsNext}
 
 -- Nothing is frozen, these two blocks are Erased, and the root that follows can be written.
 pub record IsFrozen (shape : Shape) (flash : Flash) (top : ℕ × Root) (found : Found) (first second : ℕ) : Type 0 where

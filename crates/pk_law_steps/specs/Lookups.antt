@@ -1,19 +1,11 @@
 -- What the entries that count say of the map: the statements.
 use Rattle.std.specs.Prelude.{◌≡◌, ℕ, List, ◌++◌, length, map, reverse, Option, Some, None, Ok, T}
-use Rattle.std.specs.List.{flat_map}
-use Rattle.std.specs.FinMap.{get, len, keys}
-use Rattle.std.specs.FinMap.Entries.{find, is_sorted}
-use Rattle.pk_base.specs.Choices.{or_else}
-use Rattle.pk_base.specs.Key.{Key, key_cmp}
-use Rattle.pk_base.specs.Shape.{Shape, IsShape}
-use Rattle.pk_base.specs.Page.{Flash, IsFlash, page_at}
-use Rattle.pk_base.specs.Entry.{Entry, Place}
-use Rattle.pk_base.specs.Firsts.{firsts}
-use Rattle.pk_base.specs.Map.{Map, live}
+use Rattle.std.{specs.List.flat_map, specs.FinMap.get, specs.FinMap.len, specs.FinMap.keys, specs.FinMap.Entries.find, specs.FinMap.Entries.is_sorted}
+use Rattle.pk_base.{specs.Choices.or_else, specs.Key.Key, specs.Key.key_cmp, specs.Shape.Shape, specs.Shape.IsShape, specs.Page.Flash, specs.Page.IsFlash, specs.Page.page_at, specs.Firsts.firsts}
+use Rattle.pk_base.{specs.Entry.Entry, specs.Entry.Place, specs.Map.Map, specs.Map.live}
 use Rattle.pk_segfmt.specs.Value.{value_at}
 use Rattle.pk_rootfmt.specs.Root.{Root}
-use Rattle.pk_model.specs.Found.{Found, entries_in_order}
-use Rattle.pk_model.specs.Values.{all_pages}
+use Rattle.pk_model.{specs.Found.Found, specs.Found.entries_in_order, specs.Values.all_pages}
 use Rattle.pk_law_steps.specs.Under.{IsUnder, places}
 
 -- what a map has if the entry that counts says so: nothing if there is none or the key is deleted, otherwise the value at the place

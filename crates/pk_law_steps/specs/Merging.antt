@@ -1,20 +1,11 @@
 -- What a merge makes of what is under the root: the statements.
 use Rattle.std.specs.Prelude.{◌≡◌, ℕ, ◌+◌, ◌-◌, ◌/◌, ◌<◌, ◌≤◌, List, [], length, map, reverse, true, ◌==◌, if◌then◌else◌, slice_set, slice_index_or, ◌++◌, Some, Ok}
-use Rattle.pk_base.specs.Shape.{Shape, IsShape, run_blocks}
-use Rattle.pk_base.specs.Page.{Flash, page_at}
-use Rattle.pk_base.specs.Entry.{Entry}
-use Rattle.pk_base.specs.Firsts.{firsts}
+use Rattle.pk_base.{specs.Shape.Shape, specs.Shape.IsShape, specs.Shape.run_blocks, specs.Page.Flash, specs.Page.page_at, specs.Entry.Entry, specs.Firsts.firsts, specs.Map.Map}
 use Rattle.pk_base.specs.Merge.{next_merge, room}
-use Rattle.pk_base.specs.Map.{Map}
-use Rattle.pk_meta.specs.Over.{over, kept_at}
-use Rattle.pk_meta.specs.Run.{run}
+use Rattle.pk_meta.{specs.Over.over, specs.Over.kept_at, specs.Run.run}
 use Rattle.pk_rootfmt.specs.Root.{Root, is_root, named, differ, last_number}
-use Rattle.pk_model.specs.RootLimits.{root_spaces}
-use Rattle.pk_model.specs.Found.{Found}
-use Rattle.pk_model.specs.Laws.{AnyByRecursion}
-use Rattle.pk_model.specs.Tree.{run_at, merged, blocks_after}
-use Rattle.pk_law_steps.specs.Under.{IsUnder, IsValuePage, places}
-use Rattle.pk_law_steps.specs.Next.{IsNext}
+use Rattle.pk_model.{specs.RootLimits.root_spaces, specs.Found.Found, specs.Laws.AnyByRecursion, specs.Tree.run_at, specs.Tree.merged, specs.Tree.blocks_after}
+use Rattle.pk_law_steps.{specs.Under.IsUnder, specs.Under.IsValuePage, specs.Under.places, specs.Next.IsNext}
 
 -- the source of a merge into this level: the older epoch, the later entries of which count, or the run above
 abbrev pub source_of : ℕ → Found → List Entry

@@ -1,16 +1,10 @@
 -- A root that may follow the newest one: the same map is under it. Statements on its install.
 use Rattle.std.specs.Prelude.{◌≡◌, ◌⊎◌, ℕ, ◌≤◌, List, ◌++◌, length, true, Some, Ok}
 use Rattle.std.specs.List.{AllByRecursion}
-use Rattle.pk_base.specs.Shape.{Shape, IsShape, buffer, root_pages}
-use Rattle.pk_base.specs.Page.{Flash, page_at, SameBehind}
-use Rattle.pk_base.specs.Entry.{Entry}
-use Rattle.pk_base.specs.EntryChecks.{IsEntry}
-use Rattle.pk_base.specs.Firsts.{firsts}
-use Rattle.pk_base.specs.Map.{Map}
-use Rattle.pk_rootfmt.specs.Root.{Root, is_root}
-use Rattle.pk_rootfmt.specs.Newest.{newest_root}
-use Rattle.pk_model.specs.Found.{Found, found_under}
-use Rattle.pk_model.specs.Tree.{Tree, TreeFreezes, Merges, Follows}
+use Rattle.pk_base.{specs.Shape.Shape, specs.Shape.IsShape, specs.Shape.buffer, specs.Shape.root_pages, specs.Page.Flash, specs.Page.page_at, specs.Page.SameBehind, specs.Entry.Entry, specs.Map.Map}
+use Rattle.pk_base.{specs.EntryChecks.IsEntry, specs.Firsts.firsts}
+use Rattle.pk_rootfmt.{specs.Root.Root, specs.Root.is_root, specs.Newest.newest_root}
+use Rattle.pk_model.{specs.Found.Found, specs.Found.found_under, specs.Tree.Tree, specs.Tree.TreeFreezes, specs.Tree.Merges, specs.Tree.Follows}
 use Rattle.pk_law_steps.specs.Under.{IsUnder, IsNamed, IsValuePage, places}
 
 -- a root and what is found under it

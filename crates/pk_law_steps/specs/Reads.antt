@@ -1,14 +1,9 @@
 -- Which changes of a flash leave what is read of it: the statements.
 use Rattle.std.specs.Prelude.{◌≡◌, ℕ, ◌+◌, ◌/◌, ◌<◌, ◌≤◌, List, Ok}
-use Rattle.pk_base.specs.Shape.{Shape, IsShape, root_pages}
-use Rattle.pk_base.specs.Page.{Flash, page_at, erased}
-use Rattle.pk_base.specs.Entry.{Entry}
-use Rattle.pk_base.specs.Map.{Map}
+use Rattle.pk_base.{specs.Shape.Shape, specs.Shape.IsShape, specs.Shape.root_pages, specs.Page.Flash, specs.Page.page_at, specs.Page.erased, specs.Entry.Entry, specs.Map.Map}
 use Rattle.pk_rootfmt.specs.Root.{Root, named}
 use Rattle.pk_nand.specs.Crash.{SameOutside}
-use Rattle.pk_model.specs.Found.{Found, entries_in_order}
-use Rattle.pk_model.specs.Reading.{reading}
-use Rattle.pk_model.specs.Laws.{AnyByRecursion, IsRead}
+use Rattle.pk_model.{specs.Found.Found, specs.Found.entries_in_order, specs.Reading.reading, specs.Laws.AnyByRecursion, specs.Laws.IsRead}
 use Rattle.pk_law_steps.specs.Under.{IsUnder, IsNamed, IsValuePage, places}
 
 -- a map that is read is under the newest root

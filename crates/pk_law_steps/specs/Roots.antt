@@ -1,16 +1,10 @@
 -- What a commit and a freeze make of what is under the root: the statements.
 use Rattle.std.specs.Prelude.{◌≡◌, ◌⊎◌, ℕ, ◌+◌, ◌<◌, ◌≤◌, List, [], ◌∷◌, ◌++◌, length, true, ◌==◌, if◌then◌else◌, Some}
-use Rattle.pk_base.specs.Shape.{Shape, IsShape, epoch_pages, root_pages}
+use Rattle.pk_base.{specs.Shape.Shape, specs.Shape.IsShape, specs.Shape.epoch_pages, specs.Shape.root_pages, specs.Entry.Entry, specs.Map.Map}
 use Rattle.pk_base.specs.Page.{Flash, page_at, erased, whole, page_in, commit_page}
-use Rattle.pk_base.specs.Entry.{Entry}
-use Rattle.pk_base.specs.Map.{Map}
-use Rattle.pk_rootfmt.specs.Root.{Root, is_root}
-use Rattle.pk_rootfmt.specs.Newest.{newest_root}
-use Rattle.pk_nand.specs.Cut.{Cut}
-use Rattle.pk_nand.specs.Pairs.{marks_of_pair, IsPairCut}
-use Rattle.pk_model.specs.Found.{Found}
-use Rattle.pk_model.specs.Laws.{IsCommit}
-use Rattle.pk_model.specs.Tree.{Follows}
+use Rattle.pk_rootfmt.{specs.Root.Root, specs.Root.is_root, specs.Newest.newest_root}
+use Rattle.pk_nand.{specs.Cut.Cut, specs.Pairs.marks_of_pair, specs.Pairs.IsPairCut}
+use Rattle.pk_model.{specs.Found.Found, specs.Laws.IsCommit, specs.Tree.Follows}
 use Rattle.pk_law_steps.specs.Under.{IsUnder}
 
 -- these entries after those of the newest epoch

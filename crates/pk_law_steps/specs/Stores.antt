@@ -1,18 +1,11 @@
 -- What one more entry makes of the map: the statements.
 use Rattle.std.specs.Prelude.{◌≡◌, ℕ, ◌-◌, ◌/◌, ◌≤◌, List, [], ◌∷◌, ◌++◌, length, true, Some, None, Ok}
-use Rattle.std.specs.FinMap.{insert, remove}
-use Rattle.std.specs.FinMap.Entries.{put}
-use Rattle.pk_base.specs.Key.{Key, key_cmp, space_of}
-use Rattle.pk_base.specs.Shape.{Shape, buffer, limit, data_blocks}
-use Rattle.pk_base.specs.Page.{Flash, page_at}
-use Rattle.pk_base.specs.Entry.{Entry, Place}
-use Rattle.pk_base.specs.Firsts.{firsts}
-use Rattle.pk_base.specs.Map.{Map}
+use Rattle.std.{specs.FinMap.insert, specs.FinMap.remove, specs.FinMap.Entries.put}
+use Rattle.pk_base.{specs.Key.Key, specs.Key.key_cmp, specs.Key.space_of, specs.Shape.Shape, specs.Shape.buffer, specs.Shape.limit, specs.Shape.data_blocks, specs.Page.Flash, specs.Page.page_at}
+use Rattle.pk_base.{specs.Entry.Entry, specs.Entry.Place, specs.Firsts.firsts, specs.Map.Map}
 use Rattle.pk_segfmt.specs.Value.{value_at}
 use Rattle.pk_rootfmt.specs.Root.{Root, named}
-use Rattle.pk_model.specs.RootLimits.{root_limits, root_spaces}
-use Rattle.pk_model.specs.Found.{Found}
-use Rattle.pk_model.specs.Values.{fits, all_pages, KeepsWithin}
+use Rattle.pk_model.{specs.RootLimits.root_limits, specs.RootLimits.root_spaces, specs.Found.Found, specs.Values.fits, specs.Values.all_pages, specs.Values.KeepsWithin}
 use Rattle.pk_model.specs.Laws.{AnyByRecursion, IsPageOf}
 use Rattle.pk_law_steps.specs.Under.{IsUnder, IsValuePage, places}
 

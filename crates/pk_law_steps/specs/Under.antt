@@ -1,17 +1,8 @@
 -- What is under the newest root of a flash, and the map that it makes with entries that are not yet there.
 use Rattle.std.specs.Prelude.{◌≡◌, ℕ, ◌/◌, List, Some, Ok}
-use Rattle.pk_base.specs.Shape.{Shape}
-use Rattle.pk_base.specs.Page.{Flash, page_at}
-use Rattle.pk_base.specs.Entry.{Entry, Place}
-use Rattle.pk_base.specs.Key.{Key}
-use Rattle.pk_base.specs.Firsts.{firsts}
-use Rattle.pk_base.specs.Map.{Map}
-use Rattle.pk_rootfmt.specs.Root.{Root, named}
-use Rattle.pk_rootfmt.specs.Newest.{newest_root}
-use Rattle.pk_model.specs.Found.{Found, found_under, entries_in_order}
-use Rattle.pk_model.specs.Values.{placed}
-use Rattle.pk_model.specs.Reading.{map_under}
-use Rattle.pk_model.specs.Laws.{AnyByRecursion, IsPageOf}
+use Rattle.pk_base.{specs.Shape.Shape, specs.Page.Flash, specs.Page.page_at, specs.Entry.Entry, specs.Entry.Place, specs.Key.Key, specs.Firsts.firsts, specs.Map.Map}
+use Rattle.pk_rootfmt.{specs.Root.Root, specs.Root.named, specs.Newest.newest_root}
+use Rattle.pk_model.{specs.Found.Found, specs.Found.found_under, specs.Found.entries_in_order, specs.Values.placed, specs.Reading.map_under, specs.Laws.AnyByRecursion, specs.Laws.IsPageOf}
 
 -- the newest root and its page, the lists found under it, and the map that they make with the extra entries
 pub record IsUnder (shape : Shape) (flash : Flash) (extra : List Entry) (top : ℕ × Root) (found : Found) (m : Map) : Type 0 where

@@ -1,11 +1,8 @@
 -- How much whole jobs add up to.
 use Rattle.std.proofs.Common.{◌≡◌, ℕ, zero, suc, ◌+◌, ◌-◌, ◌*◌, ◌<◌, ◌≤◌, arith, refl}
-use Rattle.std.proofs.Math.Nat.{mul-le-mul_left}
-use Rattle.std.proofs.lemmas.Grind.{div_ceil_times}
-use Rattle.std.specs.Int.{div_ceil}
+use Rattle.std.{proofs.Math.Nat.mul-le-mul_left, proofs.lemmas.Grind.div_ceil_times, specs.Int.div_ceil}
 use Rattle.pk_base.specs.Shape.{Shape, IsShape, cap, deepest}
-use Rattle.pk_law_work.specs.Rest.{whole_merge}
-use Rattle.pk_law_work.specs.Work.{emptying}
+use Rattle.pk_law_work.{specs.Rest.whole_merge, specs.Work.emptying}
 
 few_blocks : (blocks n pages : ℕ) → 8 ≤ n → 4 ≤ pages → blocks * n < pages + n → 2 * blocks ≤ pages
 few_blocks zero n pages block some fits = omega arith

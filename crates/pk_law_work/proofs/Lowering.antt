@@ -1,15 +1,11 @@
 -- Each step lowers the work.
 use Rattle.std.proofs.Common.{◌≡◌, inl, inr, ℕ, zero, suc, ◌+◌, ◌-◌, ◌<◌, ◌≤◌, arith, refl, sym, ap, subst, Bool, true, false}
 use Rattle.std.specs.Prelude.{Option, Some, None, unwrap_or, ◌==◌, nat_le, slice_index, min}
-use Rattle.pk_base.specs.Shape.{Shape, buffer}
-use Rattle.pk_base.specs.Merge.{room, next_merge}
-use Rattle.pk_law_work.specs.Rest.{left_of, whole_merge, whole_freeze}
-use Rattle.pk_law_work.specs.Backlog.{Backlog, IsBacklog, due_level}
+use Rattle.pk_base.{specs.Shape.Shape, specs.Shape.buffer, specs.Merge.room, specs.Merge.next_merge}
+use Rattle.pk_law_work.{specs.Rest.left_of, specs.Rest.whole_merge, specs.Rest.whole_freeze, specs.Backlog.Backlog, specs.Backlog.IsBacklog, specs.Backlog.due_level, specs.Steps.EndsMerge}
 use Rattle.pk_law_work.specs.Work.{emptying, merging_from, merging, freezing_from, freezing, reclaiming, filling_from, filling, most_filling, after_freeze, repeating, work}
-use Rattle.pk_law_work.specs.Steps.{EndsMerge}
 use Rattle.pk_law_work.specs.Laws.{MergeMoves, MergeEnds, FreezeMoves, FreezeEnds, PairEnds, Reclaims, FrameFills}
-use Rattle.pk_law_work.proofs.Emptying.{emptying-suc, emptying-zero, emptying_rises}
-use Rattle.pk_law_work.proofs.Within.{due_most, filling_within}
+use Rattle.pk_law_work.{proofs.Emptying.emptying-suc, proofs.Emptying.emptying-zero, proofs.Emptying.emptying_rises, proofs.Within.due_most, proofs.Within.filling_within}
 use Rattle.pk_law_work.proofs.Targets.{next_told, first_next, second_next, third_next}
 
 pub due-some : (shape : Shape) (b : Backlog) (level : ℕ) → next_merge shape b.frozen b.runs ≡ Some level → due_level shape b ≡ level

@@ -1,10 +1,7 @@
 -- Pages and blocks of a run.
-use Rattle.std.proofs.Common.{ℕ, ◌<◌, ◌≤◌, arith}
-use Rattle.std.proofs.lemmas.Grind.{div_ceil_times}
-use Rattle.std.specs.Int.{div_ceil}
-use Rattle.pk_base.specs.Shape.{cap, page_entries, blocks_of, run_pages, run_blocks}
+use Rattle.std.{proofs.Common.ℕ, proofs.Common.◌<◌, proofs.Common.◌≤◌, proofs.Common.arith, proofs.lemmas.Grind.div_ceil_times, specs.Int.div_ceil}
+use Rattle.pk_base.{specs.Shape.cap, specs.Shape.page_entries, specs.Shape.blocks_of, specs.Shape.run_pages, specs.Shape.run_blocks, proofs.ShapeLemmas.ceil_most}
 use Rattle.pk_law_work.specs.Laws.{FewPages, FewBlocks, MergeWithin}
-use Rattle.pk_base.proofs.ShapeLemmas.{ceil_most}
 
 ceil_rises : (x z y : ℕ) → 0 < y → x ≤ z → div_ceil x y ≤ div_ceil z y
 ceil_rises x z y some more = ceil_most x y (div_ceil z y) some (omega (arith, (div_ceil_times z y some).0))

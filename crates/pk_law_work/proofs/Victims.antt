@@ -1,9 +1,6 @@
 -- A block with few live pages.
 use Rattle.std.proofs.Common.{◌≡◌, inl, inr, ℕ, suc, ◌+◌, ◌*◌, ◌<◌, ◌≤◌, List, [], ◌∷◌, length, arith, ap}
-use Rattle.std.specs.Prelude.{sum, slice_index}
-use Rattle.std.proofs.Math.Nat.{suc-mul}
-use Rattle.std.proofs.lemmas.Bool.{cases_lt}
-use Rattle.std.proofs.lemmas.List.Sums.{sum_by-cons}
+use Rattle.std.{specs.Prelude.sum, specs.Prelude.slice_index, proofs.Math.Nat.suc-mul, proofs.lemmas.Bool.cases_lt, proofs.lemmas.List.Sums.sum_by-cons}
 use Rattle.pk_base.specs.Shape.{meta_blocks, data_blocks, limit, dense}
 use Rattle.pk_law_work.specs.Laws.{LightVictim}
 

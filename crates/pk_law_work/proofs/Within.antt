@@ -1,14 +1,10 @@
 -- The work is less than its bound, and so are the calls of a command.
 use Rattle.std.proofs.Common.{ℕ, zero, suc, ◌+◌, ◌*◌, ◌≤◌, arith, Bool, true, false}
 use Rattle.std.specs.Prelude.{Option, Some, None, IfSome, unwrap_or, if◌then◌else◌, ◌==◌, nat_le, slice_index}
-use Rattle.pk_base.specs.Shape.{Shape, deepest, most_calls}
-use Rattle.pk_base.specs.Merge.{room}
-use Rattle.pk_law_work.specs.Rest.{left_of, whole_merge, whole_freeze, whole_reclaim}
-use Rattle.pk_law_work.specs.Backlog.{Backlog, due_level}
+use Rattle.pk_base.{specs.Shape.Shape, specs.Shape.deepest, specs.Shape.most_calls, specs.Merge.room}
+use Rattle.pk_law_work.{specs.Rest.left_of, specs.Rest.whole_merge, specs.Rest.whole_freeze, specs.Rest.whole_reclaim, specs.Backlog.Backlog, specs.Backlog.due_level, specs.Calls.CallsMost}
 use Rattle.pk_law_work.specs.Work.{emptying, merging_from, merging, freezing_from, freezing, reclaiming_from, reclaiming, filling_from, filling, most_filling, after_freeze, repeating, work}
-use Rattle.pk_law_work.specs.Laws.{WorkMost, MergingMost}
-use Rattle.pk_law_work.specs.Calls.{CallsMost}
-use Rattle.pk_law_work.proofs.Emptying.{deep, emptying_most, emptying_rises, emptying-suc}
+use Rattle.pk_law_work.{specs.Laws.WorkMost, specs.Laws.MergingMost, proofs.Emptying.deep, proofs.Emptying.emptying_most, proofs.Emptying.emptying_rises, proofs.Emptying.emptying-suc}
 
 picked_most : (b0 b1 b2 b3 : Bool) → unwrap_or (if b0 then None else if b1 then Some 1 else if b2 then Some 2 else if b3 then Some 3 else Some 4) 0 ≤ 4
 picked_most true b1 b2 b3 = omega arith

@@ -1,7 +1,6 @@
 -- What a drive keeps of which its background steps depend.
 use Rattle.std.specs.Prelude.{ℕ, ◌+◌, ◌<◌, ◌≤◌, List, slice_index, Bool, ◌||◌, ◌==◌, nat_lt, Option, IfSome, unwrap_or}
-use Rattle.pk_base.specs.Shape.{Shape, buffer, dense}
-use Rattle.pk_base.specs.Merge.{room, next_merge}
+use Rattle.pk_base.{specs.Shape.Shape, specs.Shape.buffer, specs.Shape.dense, specs.Merge.room, specs.Merge.next_merge}
 use Rattle.pk_law_work.specs.Rest.{whole_merge, whole_freeze, whole_reclaim}
 
 pub record Backlog : Type 0 where

@@ -1,8 +1,7 @@
 -- The most flash operations that a command makes, and the most roots that it installs, part by part.
 use Rattle.std.specs.Prelude.{ℕ, ◌+◌, ◌*◌, ◌≤◌, sum}
 use Rattle.pk_base.specs.Shape.{Shape, IsShape, caps, most_pages, most_calls, commit_programs}
-use Rattle.pk_law_work.specs.Rest.{whole_freeze, whole_reclaim}
-use Rattle.pk_law_work.specs.Work.{emptying}
+use Rattle.pk_law_work.{specs.Rest.whole_freeze, specs.Rest.whole_reclaim, specs.Work.emptying}
 
 -- a page of each run
 abbrev pub lookup_calls : ℕ

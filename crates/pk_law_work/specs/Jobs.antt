@@ -1,7 +1,6 @@
 -- What remains of each job, by how far it has come.
 use Rattle.std.specs.Prelude.{ℕ, ◌-◌, Bool, if◌then◌else◌}
-use Rattle.pk_base.specs.declared.sizes.TheConstants.{EPOCH_BLOCKS}
-use Rattle.pk_base.specs.Shape.{Shape, run_pages, run_blocks}
+use Rattle.pk_base.{specs.declared.sizes.TheConstants.EPOCH_BLOCKS, specs.Shape.Shape, specs.Shape.run_pages, specs.Shape.run_blocks}
 use Rattle.pk_law_work.specs.Rest.{Rest}
 
 -- A merge that still has this many pages to read, with an output of n entries, of which this many pages are programmed and this many blocks

@@ -1,11 +1,9 @@
 -- What steps make of the work, and how much it is: the statements.
 use Rattle.std.specs.Prelude.{◌≡◌, ℕ, ◌+◌, ◌-◌, ◌*◌, ◌<◌, ◌≤◌, List, length, sum, slice_index, Bool, true, false}
-use Rattle.pk_base.specs.declared.sizes.TheConstants.{EPOCH_BLOCKS}
+use Rattle.pk_base.{specs.declared.sizes.TheConstants.EPOCH_BLOCKS, specs.Merge.room}
 use Rattle.pk_base.specs.Shape.{Shape, IsShape, buffer, dense, epoch_commits, blocks_of, cap, run_pages, run_blocks, most_pages, data_blocks, limit, most_calls}
-use Rattle.pk_base.specs.Merge.{room}
 use Rattle.pk_law_work.specs.Rest.{steps_of, other_steps, whole_merge, whole_freeze, whole_reclaim}
-use Rattle.pk_law_work.specs.Jobs.{merge_rest, freeze_rest, reclaim_rest}
-use Rattle.pk_law_work.specs.Backlog.{Backlog, IsBacklog, is_tight, due_level}
+use Rattle.pk_law_work.{specs.Jobs.merge_rest, specs.Jobs.freeze_rest, specs.Jobs.reclaim_rest, specs.Backlog.Backlog, specs.Backlog.IsBacklog, specs.Backlog.is_tight, specs.Backlog.due_level}
 use Rattle.pk_law_work.specs.Work.{emptying, merging, merging_left, work}
 use Rattle.pk_law_work.specs.Steps.{MovesMerge, EndsMerge, MovesFreeze, EndsFreeze, EndsPair, StepsReclaim, FillsFrame, ErasesBlock}
 

@@ -1,10 +1,7 @@
 -- The background steps, each as what it does to the backlog.
 use Rattle.std.specs.Prelude.{◌≡◌, ℕ, ◌+◌, ◌-◌, ◌<◌, ◌≤◌, sum, slice_index, true, false, ◌==◌, if◌then◌else◌, Some, None}
-use Rattle.pk_base.specs.Shape.{Shape, caps}
-use Rattle.pk_base.specs.Merge.{next_merge}
-use Rattle.pk_law_work.specs.Rest.{left_of, whole_merge, whole_freeze, Lowers}
-use Rattle.pk_law_work.specs.Backlog.{Backlog}
-use Rattle.pk_law_work.specs.Work.{reclaiming}
+use Rattle.pk_base.{specs.Shape.Shape, specs.Shape.caps, specs.Merge.next_merge}
+use Rattle.pk_law_work.{specs.Rest.left_of, specs.Rest.whole_merge, specs.Rest.whole_freeze, specs.Rest.Lowers, specs.Backlog.Backlog, specs.Work.reclaiming}
 
 -- the merge that is due begins or goes on
 pub record MovesMerge (shape : Shape) (b b' : Backlog) : Type 0 where

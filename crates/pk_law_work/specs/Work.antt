@@ -1,8 +1,7 @@
 -- A bound of the background steps that remain, as a sum over the jobs that run or are due and the blocks that are not ready.
 use Rattle.std.specs.Prelude.{ℕ, zero, suc, ◌+◌, min, sum, Bool, true, false, if◌then◌else◌, Option, Some, None}
 use Rattle.pk_base.specs.Shape.{Shape, caps}
-use Rattle.pk_law_work.specs.Rest.{left_of, whole_merge, whole_freeze, whole_reclaim}
-use Rattle.pk_law_work.specs.Backlog.{Backlog, due_level}
+use Rattle.pk_law_work.{specs.Rest.left_of, specs.Rest.whole_merge, specs.Rest.whole_freeze, specs.Rest.whole_reclaim, specs.Backlog.Backlog, specs.Backlog.due_level}
 
 module _ (shape : Shape) where
   -- whole merges into this level and all above it, which empty the frozen buffer

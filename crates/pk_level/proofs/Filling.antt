@@ -1,19 +1,13 @@
 -- Pages that get frames, and the frames that are free for them.
 use Rattle.std.proofs.Common.{◌≡◌, inl, inr, ℕ, zero, suc, ◌+◌, ◌-◌, ◌<◌, ◌≤◌, Bool, true, false, if◌then◌else◌, nat_le, List, [], ◌∷◌, ◌++◌, length, map, slice_get, take, drop, sum, refl, ap, sym}
 use Rattle.std.proofs.Common.{subst, ◌∙◌, arith, Some, Result, Ok, Err, OnOk, length-append, append-nil, length-set, get_or-set_same}
-use Rattle.std.specs.Prelude.{max, fold, slice_set, slice_index_or, ◌&&◌, not}
-use Rattle.std.specs.List.{AllByRecursion}
-use Rattle.std.proofs.lemmas.Bool.{cases_lt}
-use Rattle.std.proofs.lemmas.Bool.Decides.{nat_tests}
-use Rattle.std.proofs.lemmas.Option.{slice_get-get_or}
-use Rattle.pk_base.specs.Shape.{Shape, cap, caps, need, pinned}
-use Rattle.pk_base.specs.Entry.{Entry}
-use Rattle.pk_base.specs.Page.{Flash}
+use Rattle.std.{specs.Prelude.max, specs.Prelude.fold, specs.Prelude.slice_set, specs.Prelude.slice_index_or, specs.Prelude.◌&&◌, specs.Prelude.not, specs.List.AllByRecursion}
+use Rattle.std.{proofs.lemmas.Bool.cases_lt, proofs.lemmas.Bool.Decides.nat_tests, proofs.lemmas.Option.slice_get-get_or}
+use Rattle.pk_base.{specs.Shape.Shape, specs.Shape.cap, specs.Shape.caps, specs.Shape.need, specs.Shape.pinned, specs.Entry.Entry, specs.Page.Flash}
 use Rattle.pk_nand.specs.declared.types.Fault.{Fault}
 use Rattle.pk_pin.specs.Frames.{Frames, AreLeases, free_frames, leased, filled, times}
 use Rattle.pk_pin.proofs.Leases.{times-append, leases_taken, leases_filled, leases_counted, frames_counted}
-use Rattle.pk_adapt.specs.Adapted.{pages_of_first, adapted, IsAdapted}
-use Rattle.pk_adapt.proofs.Fitting.{need_most, is_adapted}
+use Rattle.pk_adapt.{specs.Adapted.pages_of_first, specs.Adapted.adapted, specs.Adapted.IsAdapted, proofs.Fitting.need_most, proofs.Fitting.is_adapted}
 use Rattle.pk_run.specs.Kept.{Kept, IsKept, RunOnFlash, FillsPage, empty, is_pinned}
 use Rattle.pk_run.proofs.Others.{RunOnFlash-taken, RunOnFlash-filled}
 use Rattle.pk_level.specs.Levels.{Levels, IsOfLevel, AreOfLevels, IsLevels, RunsOnFlash, HaveBlocks, run_of, with_run}

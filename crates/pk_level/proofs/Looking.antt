@@ -1,24 +1,12 @@
 -- A lookup through the runs, from the first on.
 use Rattle.std.proofs.Common.{◌≡◌, inl, inr, ℕ, zero, suc, ◌+◌, ◌-◌, ◌<◌, ◌≤◌, Bool, true, false, cond, if◌then◌else◌, nat_le, nat_lt, List, [], ◌∷◌, ◌++◌, length, slice_get, drop, refl, ap, sym}
-use Rattle.std.proofs.Common.{subst, ◌∙◌, arith, Option}
-use Rattle.std.proofs.Common.{Some, None, MatchOption}
-use Rattle.std.specs.Ordering.{eq_by_cmp}
-use Rattle.std.specs.FinMap.Entries.{find}
-use Rattle.std.proofs.lemmas.Bool.{cases_lt}
-use Rattle.std.proofs.lemmas.Bool.Decides.{nat_tests}
-use Rattle.pk_base.specs.Key.{Key, key_cmp}
-use Rattle.pk_base.specs.Shape.{Shape}
-use Rattle.pk_base.specs.Entry.{Entry, Place}
-use Rattle.pk_base.specs.Seen.{entry as seen}
-use Rattle.pk_base.specs.declared.entry.Entry.{Entry as RustEntry}
+use Rattle.std.proofs.Common.{subst, ◌∙◌, arith, Option, Some, None, MatchOption}
+use Rattle.std.{specs.Ordering.eq_by_cmp, specs.FinMap.Entries.find, proofs.lemmas.Bool.cases_lt, proofs.lemmas.Bool.Decides.nat_tests}
+use Rattle.pk_base.{specs.Key.Key, specs.Key.key_cmp, specs.Shape.Shape, specs.Entry.Entry, specs.Entry.Place, specs.Seen.entry as seen, specs.declared.entry.Entry.Entry as RustEntry}
 use Rattle.pk_base.specs.Page.{Flash}
-use Rattle.pk_nand.specs.BoardState.{BoardState}
-use Rattle.pk_nand.specs.Calls.{counted}
-use Rattle.pk_nand.specs.Operations.{ReadFailed}
-use Rattle.pk_nand.specs.Counts.{counted_by, after_reads}
+use Rattle.pk_nand.{specs.BoardState.BoardState, specs.Calls.counted, specs.Operations.ReadFailed, specs.Counts.counted_by, specs.Counts.after_reads}
 use Rattle.pk_pin.specs.Frames.{Frames}
-use Rattle.pk_run.specs.Kept.{Kept, IsPinned, RunOnFlash, after_look, is_pinned}
-use Rattle.pk_run.specs.Search.{IsFound, RunLooks}
+use Rattle.pk_run.{specs.Kept.Kept, specs.Kept.IsPinned, specs.Kept.RunOnFlash, specs.Kept.after_look, specs.Kept.is_pinned, specs.Search.IsFound, specs.Search.RunLooks}
 use Rattle.pk_level.specs.Levels.{Levels, IsOfLevel, AreOfLevels, IsLevels, RunsOnFlash, all_entries, is_held, held_from, held_levels, most_reads, reads_through, LooksFor, ReadsUpTo, ReadFailsWithin}
 
 -- ---- entries of several lists

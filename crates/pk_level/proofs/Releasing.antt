@@ -1,18 +1,11 @@
 -- Frames of levels that are freed, one run after another.
 use Rattle.std.proofs.Common.{◌≡◌, ℕ, zero, suc, ◌+◌, ◌-◌, ◌<◌, ◌≤◌, Bool, true, false, cond, if◌then◌else◌, nat_le, List, [], ◌∷◌, ◌++◌, length, map, slice_get, get_or, refl, ap, sym, subst, ◌∙◌}
 use Rattle.std.proofs.Common.{arith, Some, append_assoc}
-use Rattle.std.specs.Prelude.{slice_set, slice_index_or}
-use Rattle.std.proofs.lemmas.Bool.Decides.{nat_tests}
-use Rattle.std.proofs.lemmas.Option.{slice_get-get_or}
-use Rattle.pk_base.specs.Shape.{Shape}
-use Rattle.pk_base.specs.Entry.{Entry}
-use Rattle.pk_base.specs.Page.{Flash}
-use Rattle.pk_pin.specs.Frames.{Frames, AreLeases, times}
-use Rattle.pk_pin.proofs.Leases.{times-append}
+use Rattle.std.{specs.Prelude.slice_set, specs.Prelude.slice_index_or, proofs.lemmas.Bool.Decides.nat_tests, proofs.lemmas.Option.slice_get-get_or}
+use Rattle.pk_base.{specs.Shape.Shape, specs.Entry.Entry, specs.Page.Flash}
+use Rattle.pk_pin.{specs.Frames.Frames, specs.Frames.AreLeases, specs.Frames.times, proofs.Leases.times-append}
 use Rattle.pk_adapt.specs.Adapted.{adapted}
-use Rattle.pk_run.specs.Kept.{Kept, RunOnFlash, empty}
-use Rattle.pk_run.specs.Leases.{AreLeased, LeavesOthers, LeavesOtherLeases}
-use Rattle.pk_run.proofs.Leasing.{are_leased}
+use Rattle.pk_run.{specs.Kept.Kept, specs.Kept.RunOnFlash, specs.Kept.empty, specs.Leases.AreLeased, specs.Leases.LeavesOthers, specs.Leases.LeavesOtherLeases, proofs.Leasing.are_leased}
 use Rattle.pk_run.proofs.Others.{among}
 use Rattle.pk_level.specs.Levels.{Levels, IsLevels, RunsOnFlash, HaveBlocks, run_of, with_run}
 use Rattle.pk_level.specs.Arenas.{AreBareAbove, BaresRun, Releases, bared, bare_from, leases_of, page_counts, last_level}

@@ -1,14 +1,10 @@
 -- The arena of the frames of runs: which frames there are, and who has them.
 use Rattle.std.specs.Prelude.{◌≡◌, ⊤, ℕ, suc, ◌+◌, ◌-◌, ◌<◌, ◌≤◌, Bool, true, false, nat_le, ◌&&◌, not, if◌then◌else◌, List, [], ◌∷◌, ◌++◌, length, map}
-use Rattle.pk_base.specs.Shape.{Shape, pinned}
-use Rattle.pk_nand.specs.BoardState.{BoardState}
-use Rattle.pk_nand.specs.Operations.{after_read}
+use Rattle.pk_base.{specs.Shape.Shape, specs.Shape.pinned, specs.Entry.Entry, specs.Page.Flash}
+use Rattle.pk_nand.{specs.BoardState.BoardState, specs.Operations.after_read}
 use Rattle.pk_adapt.specs.Adapted.{adapted}
 use Rattle.pk_pin.specs.Frames.{Frames, AreLeases}
-use Rattle.pk_base.specs.Entry.{Entry}
-use Rattle.pk_base.specs.Page.{Flash}
-use Rattle.pk_run.specs.Kept.{Kept, IsPinned, RunOnFlash, FillsPage, is_pinned}
-use Rattle.pk_run.specs.Leases.{LeavesOthers}
+use Rattle.pk_run.{specs.Kept.Kept, specs.Kept.IsPinned, specs.Kept.RunOnFlash, specs.Kept.FillsPage, specs.Kept.is_pinned, specs.Leases.LeavesOthers}
 use Rattle.pk_level.specs.Levels.{Levels, RunsOnFlash, run_of, with_run}
 
 -- all leases of these runs

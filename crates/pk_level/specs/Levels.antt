@@ -1,18 +1,10 @@
 -- The four runs of a drive, and a lookup through them.
 use Rattle.std.specs.Prelude.{◌≡◌, ⊤, ℕ, suc, ◌+◌, ◌-◌, ◌<◌, ◌≤◌, Bool, nat_lt, ◌&&◌, if◌then◌else◌, List, [], ◌∷◌, length, slice_index_or, slice_set, MatchOption}
-use Rattle.std.specs.List.{flat_map}
-use Rattle.std.specs.FinMap.Entries.{find}
-use Rattle.pk_base.specs.declared.sizes.TheConstants.{LEVELS}
-use Rattle.pk_base.specs.Key.{Key, key_cmp}
-use Rattle.pk_base.specs.Shape.{Shape}
-use Rattle.pk_base.specs.Entry.{Entry}
-use Rattle.pk_base.specs.Page.{Flash}
-use Rattle.pk_nand.specs.BoardState.{BoardState}
-use Rattle.pk_nand.specs.Operations.{ReadFailed}
-use Rattle.pk_nand.specs.Counts.{after_reads}
+use Rattle.std.{specs.List.flat_map, specs.FinMap.Entries.find}
+use Rattle.pk_base.{specs.declared.sizes.TheConstants.LEVELS, specs.Key.Key, specs.Key.key_cmp, specs.Shape.Shape, specs.Entry.Entry, specs.Page.Flash}
+use Rattle.pk_nand.{specs.BoardState.BoardState, specs.Operations.ReadFailed, specs.Counts.after_reads}
 use Rattle.pk_pin.specs.Frames.{Frames}
-use Rattle.pk_run.specs.Kept.{Kept, IsPinned, RunOnFlash, empty, is_pinned}
-use Rattle.pk_run.specs.Search.{RunLooks}
+use Rattle.pk_run.{specs.Kept.Kept, specs.Kept.IsPinned, specs.Kept.RunOnFlash, specs.Kept.empty, specs.Kept.is_pinned, specs.Search.RunLooks}
 
 -- how many levels have frames for all their pages, and runs 1 to 4
 pub record Levels : Type 0 where

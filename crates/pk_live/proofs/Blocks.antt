@@ -1,11 +1,7 @@
 -- Pages of a value within their block.
-use Rattle.std.proofs.Common.{◌≡◌, ℕ, suc, ◌+◌, ◌*◌, ◌/◌, ◌%◌, ◌<◌, ◌≤◌, subst, arith}
-use Rattle.std.proofs.Math.Nat.{div-lt_iff_lt-mul, mul-le-mul_right, suc-mul, mul_comm}
-use Rattle.std.proofs.lemmas.Nat.{div-mul-add}
-use Rattle.std.proofs.Common.{div-add-mod'}
-use Rattle.pk_base.specs.Entry.{Place}
-use Rattle.pk_base.specs.EntryChecks.{IsPlace}
-use Rattle.pk_base.specs.Shape.{Shape, IsShape, page_count, charge}
+use Rattle.std.proofs.Common.{◌≡◌, ℕ, suc, ◌+◌, ◌*◌, ◌/◌, ◌%◌, ◌<◌, ◌≤◌, subst, arith, div-add-mod'}
+use Rattle.std.{proofs.Math.Nat.div-lt_iff_lt-mul, proofs.Math.Nat.mul-le-mul_right, proofs.Math.Nat.suc-mul, proofs.Math.Nat.mul_comm, proofs.lemmas.Nat.div-mul-add}
+use Rattle.pk_base.{specs.Entry.Place, specs.EntryChecks.IsPlace, specs.Shape.Shape, specs.Shape.IsShape, specs.Shape.page_count, specs.Shape.charge}
 
 -- the block of a page exists
 pub block_exists : (n m page : ℕ) → 0 < n → page < n * m → page / n < m

@@ -1,17 +1,10 @@
 -- The sums of blocks after one head is written.
 use Rattle.std.proofs.Common.{◌≡◌, ◌≢◌, ℕ, ◌+◌, ◌*◌, ◌/◌, ◌-◌, ◌<◌, ◌≤◌, Bool, List, length, get_or, take, drop, ap, sym, ◌∙◌, arith, sum, replicate, length-set, length-take, length-drop}
 use Rattle.std.proofs.Common.{get_or-set_same, get_or-set_other, get_or-take, get_or-drop, suc, min, inl, inr, false}
-use Rattle.std.proofs.lemmas.List.{length-replicate, get_or-replicate}
-use Rattle.std.proofs.lemmas.List.Elements.{All-replicate}
-use Rattle.std.proofs.Math.ListN.{set}
-use Rattle.std.specs.Prelude.{All}
+use Rattle.std.proofs.lemmas.List.{length-replicate, get_or-replicate, drop-set-add, drop-set-lt, take-set-le}
+use Rattle.std.{proofs.lemmas.List.Elements.All-replicate, proofs.lemmas.List.Elements.All-set, proofs.Math.ListN.set, specs.Prelude.All, proofs.Math.Seq.take-set-lt, proofs.lemmas.Nat.mul-le}
 use Rattle.std.proofs.Math.Nat.{div-lt_iff_lt-mul, mul-le-mul_right, suc-mul, lt-div-mul-add, div-mul-le_self, mul_comm}
-use Rattle.std.proofs.Math.Seq.{take-set-lt}
-use Rattle.std.proofs.lemmas.List.{drop-set-add, drop-set-lt, take-set-le}
-use Rattle.std.proofs.lemmas.List.Sums.{sum_by-set, sum_by-le}
-use Rattle.std.proofs.lemmas.List.Elements.{All-set}
-use Rattle.std.proofs.lemmas.Nat.{mul-le}
-use Rattle.std.proofs.lemmas.Bool.{cases_lt, cases_eq}
+use Rattle.std.{proofs.lemmas.List.Sums.sum_by-set, proofs.lemmas.List.Sums.sum_by-le, proofs.lemmas.Bool.cases_lt, proofs.lemmas.Bool.cases_eq}
 use Rattle.pk_live.specs.Values.{block_sum, IsCounted}
 
 -- a page of n pages a block is in one of m blocks

@@ -1,14 +1,10 @@
 -- The live map without values.
 use Rattle.std.proofs.Common.{◌≡◌, ℕ, ◌-◌, true, false, List, [], ◌∷◌, length, map, replicate, refl, arith}
-use Rattle.std.specs.Prelude.{nat_le, filter}
-use Rattle.std.specs.List.{range_with_len}
-use Rattle.std.proofs.lemmas.Bool.{le-leb}
-use Rattle.std.proofs.lemmas.List.{length-replicate, get_or-replicate}
+use Rattle.std.{specs.Prelude.nat_le, specs.Prelude.filter, specs.List.range_with_len, proofs.lemmas.Bool.le-leb, proofs.lemmas.List.length-replicate, proofs.lemmas.List.get_or-replicate}
 use Rattle.std.proofs.lemmas.List.FromFn.{fill_by_all}
 use Rattle.pk_base.specs.Shape.{Shape, IsShape, page_count, limit, data_blocks}
-use Rattle.pk_live.specs.Values.{no_values}
+use Rattle.pk_live.{specs.Values.no_values, specs.Lives.head_of, specs.Lives.is_used, specs.Lives.Lives}
 use Rattle.pk_model.specs.Values.{fits, blocks_with}
-use Rattle.pk_live.specs.Lives.{head_of, is_used, Lives}
 
 filter_none : (xs : List ℕ) → length (filter (λ b. false) xs) ≡ 0
 filter_none [] = refl

@@ -1,8 +1,7 @@
 -- Tests over consecutive numbers, and lists in which no number occurs twice.
 use Rattle.std.proofs.Common.{◌≡◌, inl, inr, ℕ, zero, suc, ◌+◌, ◌<◌, ◌≤◌, Bool, true, false, not, ◌&&◌, ◌||◌, List, [], ◌∷◌, ◌++◌, refl, subst, ◌∙◌, arith, ◌==◌}
-use Rattle.std.specs.List.{list_any, list_all, range_with_len}
+use Rattle.std.{specs.List.list_any, specs.List.list_all, specs.List.range_with_len, proofs.lemmas.List.Folds.list_any-append}
 use Rattle.std.proofs.lemmas.Bool.{false≢true, or_from, or_cases, or_left, or_right, and_from, and_left, not_from_false, eqb-true, eq-eqb, cases_lt, cases_eq, false_from_ne_true}
-use Rattle.std.proofs.lemmas.List.Folds.{list_any-append}
 use Rattle.pk_rootfmt.specs.Root.{differ}
 
 -- ---- consecutive numbers

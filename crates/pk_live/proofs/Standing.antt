@@ -1,27 +1,17 @@
 -- The live map of a list of values.
 use Rattle.std.proofs.Common.{◌≡◌, ◌≢◌, inl, inr, ℕ, ◌+◌, ◌/◌, ◌<◌, ◌≤◌, Bool, true, false, not, ◌&&◌, ◌||◌, cond, List, [], ◌∷◌, ◌++◌, length, get_or, map, sum, replicate, refl, sym, subst, ap, ◌∙◌}
 use Rattle.std.proofs.Common.{arith, ◌==◌, length-append, append-nil, append_assoc, length-set, get_or-set_same, get_or-set_other}
-use Rattle.std.specs.Prelude.{count_by}
-use Rattle.std.specs.List.{list_any, range_with_len, AllByRecursion}
-use Rattle.std.proofs.Math.ListN.{set}
+use Rattle.std.{specs.Prelude.count_by, specs.List.list_any, specs.List.range_with_len, specs.List.AllByRecursion, proofs.Math.ListN.set, proofs.lemmas.List.Folds.list_any-append}
 use Rattle.std.proofs.lemmas.Bool.{false≢true, or_cases, or_left, or_right, and_parts, eq-eqb, ne_eqb, cases_lt, cases_eq}
-use Rattle.std.proofs.lemmas.List.{length-replicate, get_or-replicate, get_or_past}
+use Rattle.std.{proofs.lemmas.List.length-replicate, proofs.lemmas.List.get_or-replicate, proofs.lemmas.List.get_or_past, proofs.lemmas.List.Sums.sum_by-set, proofs.lemmas.List.Sums.sum_by-cons}
 use Rattle.std.proofs.lemmas.List.FromFn.{length-range_with_len, length-map-range_with_len, get_or-map-range_with_len, fill_by_all}
-use Rattle.std.proofs.lemmas.List.Folds.{list_any-append}
-use Rattle.std.proofs.lemmas.List.Sums.{sum_by-set, sum_by-cons}
-use Rattle.pk_base.specs.Key.{Key}
-use Rattle.pk_base.specs.Shape.{Shape, IsShape, page_count, charge}
-use Rattle.pk_base.specs.Entry.{Place}
-use Rattle.pk_base.specs.EntryChecks.{IsPlace}
-use Rattle.pk_live.specs.Values.{block_sum}
-use Rattle.pk_live.proofs.Counts.{block_sum-set_same, block_sum-set_other, counted_none}
-use Rattle.pk_segfmt.specs.Value.{value_pages}
-use Rattle.pk_segfmt.proofs.StoredLemmas.{charge_some}
-use Rattle.pk_model.specs.Values.{all_pages}
-use Rattle.pk_rootfmt.specs.Root.{differ}
-use Rattle.pk_live.specs.Lives.{head_of, is_used}
+use Rattle.pk_base.{specs.Key.Key, specs.Shape.Shape, specs.Shape.IsShape, specs.Shape.page_count, specs.Shape.charge, specs.Entry.Place, specs.EntryChecks.IsPlace}
+use Rattle.pk_live.{specs.Values.block_sum, proofs.Counts.block_sum-set_same, proofs.Counts.block_sum-set_other, proofs.Counts.counted_none, specs.Lives.head_of, specs.Lives.is_used}
 use Rattle.pk_live.proofs.Blocks.{same_block}
 use Rattle.pk_live.proofs.Ranges.{any_same, has, has_range, range_has, meets, meets_from, differ_append}
+use Rattle.pk_segfmt.{specs.Value.value_pages, proofs.StoredLemmas.charge_some}
+use Rattle.pk_model.specs.Values.{all_pages}
+use Rattle.pk_rootfmt.specs.Root.{differ}
 
 -- ---- lists that are made from a function
 

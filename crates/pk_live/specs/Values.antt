@@ -1,7 +1,6 @@
 -- Live values, by the page at which each begins.
 use Rattle.std.specs.Prelude.{◌≡◌, ℕ, Bool, true, false, ◌+◌, ◌*◌, ◌<◌, ◌≤◌, List, length, replicate, sum, take, drop, slice_index, slice_get, Some, Option, MatchOption, All}
-use Rattle.pk_base.specs.declared.sizes.TheConstants.{MOST_BLOCK_PAGES, MOST_BLOCKS}
-use Rattle.pk_base.specs.Shape.{Shape, page_count}
+use Rattle.pk_base.{specs.declared.sizes.TheConstants.MOST_BLOCK_PAGES, specs.declared.sizes.TheConstants.MOST_BLOCKS, specs.Shape.Shape, specs.Shape.page_count}
 
 -- the pages of a block, the pages of the value that begins at each page, 0 if none does, and which blocks are closed
 pub record Values : Type 0 where

@@ -1,16 +1,9 @@
 -- Buffers without entries, and epochs in erased blocks.
 use Rattle.std.proofs.Common.{◌≡◌, ℕ, zero, suc, ◌<◌, refl, arith, true, false, not, ◌==◌, T, List, [], ◌∷◌, length, nat_lt, Option}
-use Rattle.std.proofs.lemmas.Bool.Decides.{nat_tests}
-use Rattle.std.specs.FinMap.Entries.{put, is_sorted}
-use Rattle.pk_base.specs.Key.{Key, key_cmp}
-use Rattle.pk_base.specs.Shape.{Shape}
-use Rattle.pk_base.specs.Page.{Flash}
-use Rattle.pk_base.specs.Entry.{Entry, Place}
-use Rattle.pk_base.specs.Firsts.{firsts}
-use Rattle.pk_jrn.specs.Epochs.{AreErased}
-use Rattle.pk_jrn.proofs.Puts.{put_grows}
+use Rattle.std.{proofs.lemmas.Bool.Decides.nat_tests, specs.FinMap.Entries.put, specs.FinMap.Entries.is_sorted}
+use Rattle.pk_base.{specs.Key.Key, specs.Key.key_cmp, specs.Shape.Shape, specs.Page.Flash, specs.Entry.Entry, specs.Entry.Place, specs.Firsts.firsts, proofs.KeyLemmas.firsts_sorted}
+use Rattle.pk_jrn.{specs.Epochs.AreErased, proofs.Puts.put_grows}
 use Rattle.pk_nand.specs.Operations.{IsErasedBlock}
-use Rattle.pk_base.proofs.KeyLemmas.{firsts_sorted}
 
 -- ---- buffers without entries
 

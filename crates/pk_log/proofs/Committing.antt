@@ -1,48 +1,24 @@
 -- What a commit leaves of a log and of a flash, cut or not.
 use Rattle.std.proofs.Common.{◌≡◌, ◌≢◌, inl, inr, ℕ, ◌+◌, ◌-◌, ◌*◌, ◌%◌, ◌<◌, ◌≤◌, refl, sym, ap, subst, ◌∙◌, arith, Bool, if◌then◌else◌, List, [], ◌++◌, length, Some, Ok, append-nil, le→leb, true, T}
-use Rattle.pk_base.specs.Shape.{Shape, buffer, epoch_pages, epoch_commits}
+use Rattle.pk_base.{specs.Shape.Shape, specs.Shape.buffer, specs.Shape.epoch_pages, specs.Shape.epoch_commits, specs.Firsts.firsts, specs.Map.Map, proofs.Logic.is_true, proofs.Logic.both}
 use Rattle.pk_base.specs.Page.{Page, Flash, page_at, erased, whole, page_in, commit_page, commit_at}
-use Rattle.pk_base.specs.Firsts.{firsts}
-use Rattle.pk_base.specs.Map.{Map}
-use Rattle.pk_base.specs.Mark.{program, after, all_posted}
-use Rattle.pk_base.proofs.CommitPages.{within, second, even_page}
-use Rattle.pk_nand.specs.BoardState.{BoardState}
-use Rattle.pk_nand.specs.Cut.{Interrupted}
-use Rattle.pk_nand.specs.Calls.{IsReady, after_program, after_programs, ProgramFailed, ProgramsFailed}
-use Rattle.pk_nand.specs.Pairs.{programs_of_pair, IsPairCut}
-use Rattle.pk_nand.proofs.Leaving.{page_at-slice_set, page_at-slice_set_same}
+use Rattle.pk_base.{specs.Mark.program, specs.Mark.after, specs.Mark.all_posted, proofs.CommitPages.within, proofs.CommitPages.second, proofs.CommitPages.even_page}
+use Rattle.pk_nand.{specs.BoardState.BoardState, specs.Cut.Interrupted, specs.Pairs.programs_of_pair, specs.Pairs.IsPairCut, proofs.Leaving.page_at-slice_set, proofs.Leaving.page_at-slice_set_same}
+use Rattle.pk_nand.{specs.Calls.IsReady, specs.Calls.after_program, specs.Calls.after_programs, specs.Calls.ProgramFailed, specs.Calls.ProgramsFailed, proofs.Reaching.Reached-start}
 use Rattle.pk_nand.proofs.Pairing.{IsPairCut-cut, IsPairCut-done, outside_pair}
-use Rattle.pk_nand.proofs.Reaching.{Reached-start}
-use Rattle.pk_jrnfmt.specs.Page.{journal_entries}
-use Rattle.pk_jrnfmt.specs.Epoch.{epoch, may_follow}
-use Rattle.pk_rootfmt.specs.Root.{Root}
-use Rattle.pk_rootfmt.specs.Newest.{newest_root}
+use Rattle.pk_jrnfmt.{specs.Page.journal_entries, specs.Epoch.epoch, specs.Epoch.may_follow}
+use Rattle.pk_rootfmt.{specs.Root.Root, specs.Newest.newest_root}
 use Rattle.pk_root.proofs.Places.{InstallerOnFlash-by_same}
 use Rattle.pk_buf.specs.Table.{Table}
-use Rattle.pk_jrn.specs.Epochs.{JournalEpoch, EpochOnFlash, Reads, left_of, next_page, pages_of}
-use Rattle.pk_jrn.specs.Appends.{AddsAll}
-use Rattle.pk_jrn.specs.Replays.{buffer_of}
-use Rattle.pk_jrn.proofs.Places.{page_exists}
-use Rattle.pk_jrn.proofs.Appending.{takes_more, commit_left}
-use Rattle.pk_jrn.proofs.Puts.{firsts-reverse}
-use Rattle.pk_model.specs.Found.{Found, newest_epoch}
-use Rattle.pk_model.specs.Laws.{IsWholePage, IsCommit}
+use Rattle.pk_jrn.{specs.Epochs.JournalEpoch, specs.Epochs.EpochOnFlash, specs.Epochs.Reads, specs.Epochs.left_of, specs.Epochs.next_page, specs.Epochs.pages_of, specs.Appends.AddsAll}
+use Rattle.pk_jrn.{specs.Replays.buffer_of, proofs.Places.page_exists, proofs.Appending.takes_more, proofs.Appending.commit_left, proofs.Puts.firsts-reverse}
+use Rattle.pk_model.{specs.Found.Found, specs.Found.newest_epoch, specs.Laws.IsWholePage, specs.Laws.IsCommit, specs.Growth.Grows, specs.Growth.Reaches, specs.Growth.Goes, specs.Spaces.limits_at}
 use Rattle.pk_model.proofs.Commits.{Blocks, valid_blocks, pair_behind_roots, roots_stay, under, commit_start}
-use Rattle.pk_law_steps.specs.Under.{IsUnder}
-use Rattle.pk_law_steps.specs.Roots.{committed}
-use Rattle.pk_law_steps.proofs.Committing.{commits_pair, commit_done}
-use Rattle.pk_model.specs.Growth.{Grows, Reaches, Goes}
-use Rattle.pk_log.specs.State.{LogState, all_committed}
-use Rattle.pk_log.specs.Logs.{LogOnFlash}
-use Rattle.pk_log.specs.Commits.{CommitStands, CommitCut, CommitHolds, CommitReaches}
-use Rattle.pk_model.proofs.Growing.{at_end, top_limits, Reaches-then, Goes-then}
-use Rattle.pk_model.specs.Spaces.{limits_at}
-use Rattle.pk_model.proofs.Running.{Reaches-program, Goes-program}
-use Rattle.pk_law_steps.proofs.NewestBlocks.{valid_root}
-use Rattle.pk_log.proofs.Standing.{blocks_are}
-use Rattle.pk_law_steps.proofs.UnderRoot.{newest_found}
+use Rattle.pk_model.{proofs.Growing.at_end, proofs.Growing.top_limits, proofs.Growing.Reaches-then, proofs.Growing.Goes-then, proofs.Running.Reaches-program, proofs.Running.Goes-program}
 use Rattle.pk_model.specs.RootLimits.{root_spaces}
-use Rattle.pk_base.proofs.Logic.{is_true, both}
+use Rattle.pk_law_steps.{specs.Under.IsUnder, specs.Roots.committed, proofs.Committing.commits_pair, proofs.Committing.commit_done, proofs.NewestBlocks.valid_root, proofs.UnderRoot.newest_found}
+use Rattle.pk_log.{specs.State.LogState, specs.State.all_committed, specs.Logs.LogOnFlash, specs.Commits.CommitStands, specs.Commits.CommitCut, specs.Commits.CommitHolds, specs.Commits.CommitReaches}
+use Rattle.pk_log.proofs.Standing.{blocks_are}
 
 -- ---- the programs
 

@@ -1,19 +1,15 @@
 -- A log matches a flash that was just formatted.
 use Rattle.std.proofs.Common.{◌≡◌, ℕ, zero, suc, ◌<◌, ◌≤◌, [], ◌∷◌, replicate, Ok, refl, ◌∙◌, arith}
-use Rattle.pk_base.specs.Shape.{IsShape}
-use Rattle.pk_base.specs.Page.{Flash, page_at, erased, whole}
+use Rattle.pk_base.{specs.Shape.IsShape, specs.Page.Flash, specs.Page.page_at, specs.Page.erased, specs.Page.whole}
 use Rattle.pk_nand.proofs.Leaving.{page_at-slice_set}
 use Rattle.pk_jrnfmt.specs.Epoch.{epoch}
 use Rattle.pk_meta.specs.Run.{run}
-use Rattle.pk_rootfmt.specs.Root.{root_bytes}
-use Rattle.pk_rootfmt.specs.Held.{first}
+use Rattle.pk_rootfmt.{specs.Root.root_bytes, specs.Held.first}
 use Rattle.pk_buf.specs.Table.{no_entries}
 use Rattle.pk_jrn.specs.Epochs.{JournalEpoch, started, AreErased, EpochOnFlash}
 use Rattle.pk_model.specs.Found.{Found, found_under, runs_from}
 use Rattle.pk_compact.proofs.Examples.{small, made, made_newest}
-use Rattle.pk_log.specs.Logs.{LogOnFlash, Opens}
-use Rattle.pk_log.specs.State.{opened}
-use Rattle.pk_log.proofs.Standing.{opens}
+use Rattle.pk_log.{specs.Logs.LogOnFlash, specs.Logs.Opens, specs.State.opened, proofs.Standing.opens}
 
 abbrev nothing : Found
 nothing = record { newest = []; older = []; runs = [] ∷ [] ∷ [] ∷ [] ∷ [] }

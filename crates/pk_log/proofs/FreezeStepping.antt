@@ -1,47 +1,23 @@
 -- A step of a freeze of a log.
 use Rattle.std.proofs.Common.{◌≡◌, ℕ, ◌-◌, ◌+◌, ◌*◌, ◌/◌, ◌<◌, ◌≤◌, refl, sym, ap, subst, ◌∙◌, arith, Bool, true, false, not, ◌==◌, List, [], ◌∷◌, ◌++◌, length, reverse, nat_lt, slice_index}
 use Rattle.std.proofs.Common.{if◌then◌else◌, append-nil, mul-le-mul_right}
-use Rattle.std.specs.List.{concat}
-use Rattle.std.proofs.lemmas.Nat.{div-mul-add}
-use Rattle.pk_base.specs.Shape.{Shape, IsShape}
-use Rattle.pk_base.specs.Page.{Flash, page_at}
-use Rattle.pk_base.specs.Entry.{Entry}
-use Rattle.pk_base.specs.Firsts.{firsts}
-use Rattle.pk_base.specs.Map.{Map}
+use Rattle.std.{specs.List.concat, proofs.lemmas.Nat.div-mul-add}
+use Rattle.pk_base.{specs.Shape.Shape, specs.Shape.IsShape, specs.Page.Flash, specs.Page.page_at, specs.Entry.Entry, specs.Firsts.firsts, specs.Map.Map}
 use Rattle.pk_law_work.specs.Rest.{Lowers}
 use Rattle.pk_plan.specs.declared.owner.Owner.TheVariants.{Journal}
 use Rattle.pk_nand.specs.BoardState.{BoardState}
 use Rattle.pk_space.specs.Entries.{in_spaces}
-use Rattle.pk_rootfmt.specs.Root.{Root, named}
-use Rattle.pk_rootfmt.specs.Held.{Held, two_of}
+use Rattle.pk_rootfmt.{specs.Root.Root, specs.Root.named, specs.Held.Held, specs.Held.two_of}
 use Rattle.pk_root.specs.declared.next.Next.{Next}
 use Rattle.pk_buf.specs.Table.{Table}
-use Rattle.pk_jrn.specs.Epochs.{started, AreErased, EpochOnFlash}
-use Rattle.pk_jrn.specs.Laws.{SameBlocks}
-use Rattle.pk_jrn.specs.Replays.{buffer_of}
-use Rattle.pk_jrn.proofs.Places.{EpochOnFlash-same}
-use Rattle.pk_jrn.proofs.Puts.{firsts-reverse}
-use Rattle.pk_model.specs.Found.{Found}
-use Rattle.pk_model.specs.RootLimits.{root_spaces}
-use Rattle.pk_model.proofs.Commits.{blocks_of_root, member}
-use Rattle.pk_model.proofs.SamePages.{any_front}
-use Rattle.pk_pool.specs.declared.state.BlockState.TheVariants.{Leaving}
-use Rattle.pk_pool.specs.Blocks.{Blocks, PoolOnFlash, with_state, given_back, left_by}
-use Rattle.pk_pool.specs.Unready.{unready}
-use Rattle.pk_pool.proofs.Leaving.{left_unready}
-use Rattle.pk_pool.proofs.States.{get-set_other}
-use Rattle.pk_law_steps.specs.Roots.{frozen, frozen_root}
-use Rattle.pk_law_steps.proofs.NewestBlocks.{valid_root}
-use Rattle.pk_law_steps.proofs.Places.{In}
-use Rattle.pk_law_steps.proofs.UnderRoot.{none_named}
-use Rattle.pk_compact.specs.Freezing.{IsApart}
+use Rattle.pk_jrn.{specs.Epochs.started, specs.Epochs.AreErased, specs.Epochs.EpochOnFlash, specs.Laws.SameBlocks, specs.Replays.buffer_of, proofs.Places.EpochOnFlash-same, proofs.Puts.firsts-reverse}
+use Rattle.pk_model.{specs.Found.Found, specs.RootLimits.root_spaces, proofs.Commits.blocks_of_root, proofs.Commits.member, proofs.SamePages.any_front}
+use Rattle.pk_pool.{specs.declared.state.BlockState.TheVariants.Leaving, specs.Blocks.Blocks, specs.Blocks.PoolOnFlash, specs.Blocks.with_state, specs.Blocks.given_back, specs.Blocks.left_by}
+use Rattle.pk_pool.{specs.Unready.unready, proofs.Leaving.left_unready, proofs.States.get-set_other}
+use Rattle.pk_law_steps.{specs.Roots.frozen, specs.Roots.frozen_root, proofs.NewestBlocks.valid_root, proofs.Places.In, proofs.UnderRoot.none_named}
+use Rattle.pk_compact.{specs.Freezing.IsApart, specs.declared.freezing.FreezeJob.FreezeJob, proofs.TakingOne.all_in, proofs.Pairs.two_are, proofs.Pairs.two_same}
 use Rattle.pk_compact.specs.FreezeSteps.{IsFreezing, IsTaken, AreOwned, FreezeGoesOn, FreezeInstalled, FreezeSteps, taken_by, freeze_left}
-use Rattle.pk_compact.specs.declared.freezing.FreezeJob.{FreezeJob}
-use Rattle.pk_compact.proofs.TakingOne.{all_in}
-use Rattle.pk_compact.proofs.Pairs.{two_are, two_same}
-use Rattle.pk_log.specs.State.{LogState}
-use Rattle.pk_log.specs.Logs.{LogOnFlash}
-use Rattle.pk_log.specs.FreezeSteps.{freeze_begun, CanStep, LogGoesOn, LogFrozen}
+use Rattle.pk_log.{specs.State.LogState, specs.Logs.LogOnFlash, specs.FreezeSteps.freeze_begun, specs.FreezeSteps.CanStep, specs.FreezeSteps.LogGoesOn, specs.FreezeSteps.LogFrozen}
 use Rattle.pk_log.proofs.Buffers.{none_of_firsts, tells_some, two_erased}
 
 -- what a step did, by its answer

@@ -1,29 +1,17 @@
 -- The install of a merge over a log, and the second program of a root.
 use Rattle.std.proofs.Common.{◌≡◌, ℕ, ◌*◌, ◌≤◌, refl, sym, ap, subst, ◌∙◌, arith, Bool, true, false, List, [], length, slice_index, ◌==◌, if◌then◌else◌, mul-le-mul_right}
-use Rattle.pk_base.specs.Shape.{Shape, IsShape}
-use Rattle.pk_base.specs.Page.{Flash, page_at, SameBehind}
-use Rattle.pk_base.specs.Entry.{Entry}
-use Rattle.pk_base.specs.Map.{Map}
+use Rattle.pk_base.{specs.Shape.Shape, specs.Shape.IsShape, specs.Page.Flash, specs.Page.page_at, specs.Page.SameBehind, specs.Entry.Entry, specs.Map.Map}
 use Rattle.pk_nand.specs.BoardState.{BoardState}
 use Rattle.pk_space.specs.Entries.{in_spaces}
 use Rattle.pk_rootfmt.specs.Root.{Root}
 use Rattle.pk_root.specs.declared.next.Next.{Next}
 use Rattle.pk_buf.specs.Table.{Table}
-use Rattle.pk_jrn.specs.Epochs.{EpochOnFlash}
-use Rattle.pk_jrn.specs.Laws.{SameBlocks}
-use Rattle.pk_jrn.specs.Replays.{buffer_of}
-use Rattle.pk_jrn.proofs.Places.{EpochOnFlash-same}
-use Rattle.pk_model.specs.Found.{Found}
-use Rattle.pk_model.specs.RootLimits.{root_spaces}
-use Rattle.pk_model.proofs.RootLimits.{limits_alike}
-use Rattle.pk_model.proofs.Commits.{blocks_of_root}
+use Rattle.pk_jrn.{specs.Epochs.EpochOnFlash, specs.Laws.SameBlocks, specs.Replays.buffer_of, proofs.Places.EpochOnFlash-same}
+use Rattle.pk_model.{specs.Found.Found, specs.RootLimits.root_spaces, proofs.RootLimits.limits_alike, proofs.Commits.blocks_of_root}
 use Rattle.pk_law_steps.proofs.NewestBlocks.{valid_root}
-use Rattle.pk_compact.specs.Installing.{CanPrepare, IsPrepared, CanRepeat, IsRepeated}
-use Rattle.pk_compact.specs.Merging.{CanMerge, HasMerged}
-use Rattle.pk_log.specs.State.{LogState}
-use Rattle.pk_log.specs.Logs.{LogOnFlash}
+use Rattle.pk_compact.{specs.Installing.CanPrepare, specs.Installing.IsPrepared, specs.Installing.CanRepeat, specs.Installing.IsRepeated, specs.Merging.CanMerge, specs.Merging.HasMerged}
+use Rattle.pk_log.{specs.State.LogState, specs.Logs.LogOnFlash, specs.Finishing.MayFinish, specs.Finishing.LogFinished}
 use Rattle.pk_log.specs.MergeSteps.{MayPrepare, LogPrepared, MayMerge, LogMerged, frozen_after}
-use Rattle.pk_log.specs.Finishing.{MayFinish, LogFinished}
 
 -- the epoch that a log writes is not in the root blocks
 epoch_behind : (log : LogState) (old new : Flash) (top : ℕ × Root) (found : Found) → LogOnFlash log old top found → SameBehind log.shape old new → EpochOnFlash log.epoch new

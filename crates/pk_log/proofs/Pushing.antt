@@ -1,26 +1,14 @@
 -- One more entry that waits for a commit.
 use Rattle.std.proofs.Common.{◌≡◌, ◌≢◌, ℕ, zero, suc, ◌+◌, ◌<◌, ◌≤◌, refl, sym, ap, subst, ◌∙◌, arith, T, Bool, true, false, ◌&&◌, ◌||◌, ◌==◌, List, [], ◌∷◌, ◌++◌, reverse, length, append_assoc}
-use Rattle.std.specs.List.{AllByRecursion}
-use Rattle.std.specs.FinMap.Entries.{put}
-use Rattle.pk_base.specs.Key.{key_cmp, space_of}
-use Rattle.pk_base.specs.Shape.{buffer, page_entries}
-use Rattle.pk_base.specs.Page.{Flash}
-use Rattle.pk_base.specs.Entry.{Entry, key_of}
-use Rattle.pk_base.specs.Firsts.{firsts}
-use Rattle.pk_base.specs.Seen.{entry as seen, entries as seen_all}
-use Rattle.pk_base.specs.declared.entry.Entry.{Entry as RustEntry}
-use Rattle.pk_base.proofs.Logic.{is_true}
+use Rattle.std.{specs.List.AllByRecursion, specs.FinMap.Entries.put}
+use Rattle.pk_base.{specs.Key.key_cmp, specs.Key.space_of, specs.Shape.buffer, specs.Shape.page_entries, specs.Page.Flash, specs.Entry.Entry, specs.Entry.key_of, specs.Firsts.firsts}
+use Rattle.pk_base.{specs.Seen.entry as seen, specs.Seen.entries as seen_all, specs.declared.entry.Entry.Entry as RustEntry, proofs.Logic.is_true}
 use Rattle.pk_space.specs.Entries.{in_spaces}
 use Rattle.pk_rootfmt.specs.Root.{Root}
 use Rattle.pk_buf.specs.Table.{Table}
-use Rattle.pk_jrn.specs.Epochs.{left_of}
-use Rattle.pk_jrn.proofs.Puts.{puts_are_firsts, firsts-reverse}
-use Rattle.pk_model.specs.Found.{Found}
-use Rattle.pk_model.specs.Laws.{IsStorable}
-use Rattle.pk_model.specs.RootLimits.{root_spaces}
-use Rattle.pk_model.proofs.RootLimits.{in_spaces_last}
-use Rattle.pk_log.specs.State.{LogState, is_full_for, needs_freeze, pushed}
-use Rattle.pk_log.specs.Logs.{LogOnFlash}
+use Rattle.pk_jrn.{specs.Epochs.left_of, proofs.Puts.puts_are_firsts, proofs.Puts.firsts-reverse}
+use Rattle.pk_model.{specs.Found.Found, specs.Laws.IsStorable, specs.RootLimits.root_spaces, proofs.RootLimits.in_spaces_last}
+use Rattle.pk_log.{specs.State.LogState, specs.State.is_full_for, specs.State.needs_freeze, specs.State.pushed, specs.Logs.LogOnFlash}
 
 -- ---- what remains
 

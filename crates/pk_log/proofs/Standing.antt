@@ -1,26 +1,15 @@
 -- A log and the flash that it matches.
 use Rattle.std.proofs.Common.{◌≡◌, inl, inr, ℕ, ◌+◌, ◌-◌, ◌*◌, ◌/◌, ◌<◌, ◌≤◌, refl, sym, ap, subst, ◌∙◌, arith, T, List, ◌++◌, length, slice_index, append-nil}
-use Rattle.std.specs.List.{concat}
-use Rattle.std.proofs.lemmas.Nat.{div-mul-add}
-use Rattle.pk_base.specs.Shape.{Shape, IsShape}
-use Rattle.pk_base.specs.Page.{Flash, page_at, page_in}
-use Rattle.pk_base.proofs.ShapeLemmas.{block_pages_positive}
-use Rattle.pk_rootfmt.specs.Root.{Root, named, is_root}
-use Rattle.pk_rootfmt.specs.Held.{Held}
+use Rattle.std.{specs.List.concat, proofs.lemmas.Nat.div-mul-add}
+use Rattle.pk_base.{specs.Shape.Shape, specs.Shape.IsShape, specs.Page.Flash, specs.Page.page_at, specs.Page.page_in, proofs.ShapeLemmas.block_pages_positive}
+use Rattle.pk_rootfmt.{specs.Root.Root, specs.Root.named, specs.Root.is_root, specs.Held.Held}
 use Rattle.pk_root.proofs.Places.{InstallerOnFlash-after, InstallerOnFlash-by_same}
 use Rattle.pk_buf.specs.Table.{Table}
-use Rattle.pk_jrn.specs.Epochs.{JournalEpoch, AreBlocks}
-use Rattle.pk_jrn.specs.Laws.{SameBlocks}
-use Rattle.pk_jrn.specs.Replays.{buffer_of}
-use Rattle.pk_jrn.proofs.Places.{EpochOnFlash-same}
-use Rattle.pk_model.specs.Found.{Found, found_under}
-use Rattle.pk_model.specs.Laws.{AnyByRecursion}
+use Rattle.pk_jrn.{specs.Epochs.JournalEpoch, specs.Epochs.AreBlocks, specs.Laws.SameBlocks, specs.Replays.buffer_of, proofs.Places.EpochOnFlash-same}
+use Rattle.pk_model.{specs.Found.Found, specs.Found.found_under, specs.Laws.AnyByRecursion, proofs.Commits.blocks_of_root, proofs.Commits.member}
 use Rattle.pk_model.proofs.SamePages.{newest_root_same, found_same, in_some_block, agree_runs, any_front, any_back, any_in_concat}
 use Rattle.pk_law_steps.proofs.NewestBlocks.{newest_exist, newest_differ, valid_root}
-use Rattle.pk_model.proofs.Commits.{blocks_of_root, member}
-use Rattle.pk_log.specs.State.{LogState, opened}
-use Rattle.pk_log.specs.Logs.{LogOnFlash, Opens}
-use Rattle.pk_log.specs.Laws.{SameNamed, LogsElsewhere}
+use Rattle.pk_log.{specs.State.LogState, specs.State.opened, specs.Logs.LogOnFlash, specs.Logs.Opens, specs.Laws.SameNamed, specs.Laws.LogsElsewhere}
 
 -- ---- the blocks of a newest epoch
 

@@ -1,19 +1,12 @@
 -- What a commit does to a log and a board, and what every cut of it leaves.
 use Rattle.std.specs.Prelude.{◌≡◌, ◌≢◌, ◌⊎◌, ℕ, List, []}
-use Rattle.pk_base.specs.Shape.{Shape}
-use Rattle.pk_base.specs.Page.{Flash}
-use Rattle.pk_base.specs.Entry.{Entry}
-use Rattle.pk_base.specs.Map.{Map}
-use Rattle.pk_nand.specs.BoardState.{BoardState}
-use Rattle.pk_nand.specs.Calls.{after_programs, ProgramsFailed}
+use Rattle.pk_base.{specs.Shape.Shape, specs.Page.Flash, specs.Entry.Entry, specs.Map.Map}
+use Rattle.pk_nand.{specs.BoardState.BoardState, specs.Calls.after_programs, specs.Calls.ProgramsFailed}
 use Rattle.pk_rootfmt.specs.Root.{Root}
 use Rattle.pk_jrn.specs.Appends.{programs_of_commit}
-use Rattle.pk_model.specs.Found.{Found}
-use Rattle.pk_law_steps.specs.Under.{IsUnder}
-use Rattle.pk_law_steps.specs.Roots.{committed}
-use Rattle.pk_model.specs.Growth.{Reaches, Goes}
-use Rattle.pk_log.specs.State.{LogState, all_committed}
-use Rattle.pk_log.specs.Logs.{LogOnFlash}
+use Rattle.pk_model.{specs.Found.Found, specs.Growth.Reaches, specs.Growth.Goes}
+use Rattle.pk_law_steps.{specs.Under.IsUnder, specs.Roots.committed}
+use Rattle.pk_log.{specs.State.LogState, specs.State.all_committed, specs.Logs.LogOnFlash}
 
 -- nothing is pending, and nothing is done
 pub record CommitsNone (log : LogState) (old : BoardState) (log' : LogState) (new : BoardState) : Type 0 where

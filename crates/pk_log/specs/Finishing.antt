@@ -1,18 +1,13 @@
 -- The second program of the newest root.
 use Rattle.std.specs.Prelude.{◌≡◌, ℕ, [], false}
-use Rattle.pk_base.specs.Page.{Flash, SameBehind}
-use Rattle.pk_base.specs.Map.{Map}
+use Rattle.pk_base.{specs.Page.Flash, specs.Page.SameBehind, specs.Map.Map}
 use Rattle.pk_nand.specs.BoardState.{BoardState}
 use Rattle.pk_rootfmt.specs.Root.{Root}
 use Rattle.pk_root.specs.Installing.{repeats_next}
-use Rattle.pk_model.specs.Found.{Found}
-use Rattle.pk_model.specs.Growth.{Reaches, Goes}
-use Rattle.pk_model.specs.Crashes.{CrashFinds, background}
-use Rattle.pk_model.specs.Wear.{root_number}
+use Rattle.pk_model.{specs.Found.Found, specs.Growth.Reaches, specs.Growth.Goes, specs.Crashes.CrashFinds, specs.Crashes.background, specs.Wear.root_number}
 use Rattle.pk_law_steps.specs.Under.{IsUnder}
 use Rattle.pk_compact.specs.Installing.{IsHalf}
-use Rattle.pk_log.specs.State.{LogState}
-use Rattle.pk_log.specs.Logs.{LogOnFlash}
+use Rattle.pk_log.{specs.State.LogState, specs.Logs.LogOnFlash}
 
 -- The log matches the flash, whose map this is, and the pair of its root is half made.
 pub record MayFinish (log : LogState) (flash : Flash) (top : ℕ × Root) (found : Found) (m : Map) : Type 0 where

@@ -1,33 +1,20 @@
 -- A freeze of a log in steps: when one may be made, and what it leaves.
 use Rattle.std.specs.Prelude.{◌≡◌, ℕ, ◌+◌, ◌<◌, ◌≤◌, List, [], ◌∷◌, length, Bool, true, false, ◌==◌, if◌then◌else◌, slice_get, Some, MatchBool}
 use Rattle.std.specs.List.{AllByRecursion}
-use Rattle.pk_base.specs.Page.{Flash, SameBehind}
-use Rattle.pk_base.specs.Map.{Map}
-use Rattle.pk_base.specs.declared.sizes.TheConstants.{EPOCH_BLOCKS}
+use Rattle.pk_base.{specs.Page.Flash, specs.Page.SameBehind, specs.Map.Map, specs.declared.sizes.TheConstants.EPOCH_BLOCKS}
 use Rattle.pk_law_work.specs.Rest.{Lowers}
 use Rattle.pk_plan.specs.declared.owner.Owner.TheVariants.{Journal}
 use Rattle.pk_nand.specs.BoardState.{BoardState}
 use Rattle.pk_rootfmt.specs.Root.{Root, differ, last_number}
-use Rattle.pk_root.specs.declared.next.Next.{Next}
-use Rattle.pk_root.specs.Installing.{repeats_next}
+use Rattle.pk_root.{specs.declared.next.Next.Next, specs.Installing.repeats_next}
 use Rattle.pk_jrn.specs.Epochs.{started}
-use Rattle.pk_model.specs.Found.{Found}
-use Rattle.pk_model.specs.Growth.{Reaches, Goes}
-use Rattle.pk_model.specs.Crashes.{CrashFinds, background}
-use Rattle.pk_model.specs.Laws.{AnyByRecursion}
-use Rattle.pk_model.specs.Wear.{root_number}
-use Rattle.pk_pool.specs.declared.state.BlockState.TheVariants.{Owned}
-use Rattle.pk_pool.specs.Blocks.{Blocks, used_by, given_back, left_by, PoolOnFlash}
+use Rattle.pk_model.{specs.Found.Found, specs.Growth.Reaches, specs.Growth.Goes, specs.Crashes.CrashFinds, specs.Crashes.background, specs.Laws.AnyByRecursion, specs.Wear.root_number}
+use Rattle.pk_pool.{specs.declared.state.BlockState.TheVariants.Owned, specs.Blocks.Blocks, specs.Blocks.used_by, specs.Blocks.given_back, specs.Blocks.left_by, specs.Blocks.PoolOnFlash}
 use Rattle.pk_pool.specs.Unready.{unready}
-use Rattle.pk_law_steps.specs.Under.{IsUnder}
-use Rattle.pk_law_steps.specs.Roots.{frozen, frozen_root}
-use Rattle.pk_compact.specs.Freezing.{IsApart}
-use Rattle.pk_compact.specs.Installing.{IsHalf}
+use Rattle.pk_law_steps.{specs.Under.IsUnder, specs.Roots.frozen, specs.Roots.frozen_root}
+use Rattle.pk_compact.{specs.Freezing.IsApart, specs.Installing.IsHalf, specs.declared.freezing.FreezeJob.FreezeJob, specs.declared.freezing.FreezeJob.TheVariants.Idle}
 use Rattle.pk_compact.specs.FreezeSteps.{IsTaken, SameBut, TakesOne, taken_by, freeze_left}
-use Rattle.pk_compact.specs.declared.freezing.FreezeJob.{FreezeJob}
-use Rattle.pk_compact.specs.declared.freezing.FreezeJob.TheVariants.{Idle}
-use Rattle.pk_log.specs.State.{LogState}
-use Rattle.pk_log.specs.Logs.{LogOnFlash}
+use Rattle.pk_log.{specs.State.LogState, specs.Logs.LogOnFlash}
 
 -- Nothing is pending, nothing frozen, and no pair of a root half made; the journal has no blocks but the root's two and those that the freeze has taken, and no spare block
 -- of the pool is read.

@@ -1,12 +1,10 @@
 -- What changes of a flash leave of a log: the statements.
 use Rattle.std.specs.Prelude.{◌≡◌, ◌⊎◌, ℕ, ◌<◌}
-use Rattle.pk_base.specs.Shape.{Shape, root_pages}
-use Rattle.pk_base.specs.Page.{Flash, page_at}
+use Rattle.pk_base.{specs.Shape.Shape, specs.Shape.root_pages, specs.Page.Flash, specs.Page.page_at}
 use Rattle.pk_rootfmt.specs.Root.{Root}
 use Rattle.pk_model.specs.Found.{Found}
 use Rattle.pk_law_steps.specs.Under.{IsNamed}
-use Rattle.pk_log.specs.State.{LogState}
-use Rattle.pk_log.specs.Logs.{LogOnFlash}
+use Rattle.pk_log.{specs.State.LogState, specs.Logs.LogOnFlash}
 
 -- no page of the root blocks, and of the blocks that the root names, differs
 abbrev pub SameNamed : Shape → Root → Flash → Flash → Type 0

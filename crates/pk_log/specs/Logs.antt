@@ -1,19 +1,13 @@
 -- How a log matches a flash.
 use Rattle.std.specs.Prelude.{◌≡◌, ◌≢◌, ℕ, ◌<◌, ◌≤◌, [], ◌++◌, length, true, false, Some, Ok}
 use Rattle.std.specs.List.{AllByRecursion}
-use Rattle.pk_base.specs.Shape.{IsShape, page_entries}
-use Rattle.pk_base.specs.Page.{Flash, page_at}
+use Rattle.pk_base.{specs.Shape.IsShape, specs.Shape.page_entries, specs.Page.Flash, specs.Page.page_at}
 use Rattle.pk_space.specs.Entries.{in_spaces}
-use Rattle.pk_rootfmt.specs.Root.{Root}
-use Rattle.pk_rootfmt.specs.Held.{Held}
-use Rattle.pk_rootfmt.specs.Newest.{newest_root}
+use Rattle.pk_rootfmt.{specs.Root.Root, specs.Held.Held, specs.Newest.newest_root}
 use Rattle.pk_root.specs.Installing.{InstallerOnFlash}
 use Rattle.pk_buf.specs.Table.{Table}
-use Rattle.pk_jrn.specs.Epochs.{JournalEpoch, left_of, EpochOnFlash}
-use Rattle.pk_jrn.specs.Replays.{buffer_of}
-use Rattle.pk_model.specs.Found.{Found, found_under}
-use Rattle.pk_model.specs.Laws.{IsStorable}
-use Rattle.pk_model.specs.RootLimits.{root_spaces}
+use Rattle.pk_jrn.{specs.Epochs.JournalEpoch, specs.Epochs.left_of, specs.Epochs.EpochOnFlash, specs.Replays.buffer_of}
+use Rattle.pk_model.{specs.Found.Found, specs.Found.found_under, specs.Laws.IsStorable, specs.RootLimits.root_spaces}
 use Rattle.pk_log.specs.State.{LogState}
 
 -- The newest root with its page, and what is found under it, are what the log keeps: the epoch is the root's newest one, the

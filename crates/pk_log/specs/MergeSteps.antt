@@ -1,21 +1,14 @@
 -- The install of a merge over a log, in two steps: the erase before its root, if one is next, and its first program.
 use Rattle.std.specs.Prelude.{◌≡◌, ℕ, ◌+◌, ◌<◌, ◌≤◌, List, [], ◌==◌, if◌then◌else◌, true}
-use Rattle.pk_base.specs.Page.{Flash, SameBehind}
-use Rattle.pk_base.specs.Map.{Map}
-use Rattle.pk_base.specs.Merge.{room}
+use Rattle.pk_base.{specs.Page.Flash, specs.Page.SameBehind, specs.Map.Map, specs.Merge.room}
 use Rattle.pk_nand.specs.BoardState.{BoardState}
 use Rattle.pk_rootfmt.specs.Root.{Root, last_number}
 use Rattle.pk_root.specs.Installing.{programs_next}
 use Rattle.pk_buf.specs.Table.{Table}
-use Rattle.pk_model.specs.Found.{Found}
-use Rattle.pk_model.specs.Growth.{Reaches, Goes}
-use Rattle.pk_model.specs.Crashes.{CrashFinds, background}
-use Rattle.pk_model.specs.Wear.{root_number}
-use Rattle.pk_law_steps.specs.Under.{IsUnder}
-use Rattle.pk_law_steps.specs.Merging.{IsMerged, merged_root, merged_found}
+use Rattle.pk_model.{specs.Found.Found, specs.Growth.Reaches, specs.Growth.Goes, specs.Crashes.CrashFinds, specs.Crashes.background, specs.Wear.root_number}
+use Rattle.pk_law_steps.{specs.Under.IsUnder, specs.Merging.IsMerged, specs.Merging.merged_root, specs.Merging.merged_found}
 use Rattle.pk_compact.specs.Installing.{IsHalf}
-use Rattle.pk_log.specs.State.{LogState}
-use Rattle.pk_log.specs.Logs.{LogOnFlash}
+use Rattle.pk_log.{specs.State.LogState, specs.Logs.LogOnFlash}
 
 -- ---- the erase
 

@@ -1,25 +1,16 @@
 -- What a step does to a board apart from its pages.
 use Rattle.std.proofs.Common.{◌≡◌, ◌⊎◌, inl, inr, ℕ, List, [], ◌∷◌, slice_get, Option, Some, None, refl, sym, subst, Bool}
 use Rattle.pk_base.specs.Entry.{Entry}
-use Rattle.pk_nand.specs.BoardState.{BoardState}
-use Rattle.pk_nand.specs.Calls.{Rose, ProgramFailed, after_program}
-use Rattle.pk_nand.specs.Operations.{ReadFailed, EraseFailed, after_read, after_erase}
+use Rattle.pk_nand.{specs.BoardState.BoardState, specs.Calls.Rose, specs.Calls.ProgramFailed, specs.Calls.after_program, specs.declared.types.Fault.Fault}
+use Rattle.pk_nand.{specs.Operations.ReadFailed, specs.Operations.EraseFailed, specs.Operations.after_read, specs.Operations.after_erase, proofs.Effects.stops_erase, proofs.Effects.stops_program}
 use Rattle.pk_nand.specs.Effects.{AtMostOneCall, NoFault, OnlyFlash, OnlyReading, Stops, made_no_call, made_read, made_program, made_erase}
-use Rattle.pk_nand.specs.declared.types.Fault.{Fault}
 use Rattle.pk_nand.specs.declared.types.Fault.TheVariants.{Reading, Stopped}
-use Rattle.pk_nand.proofs.Effects.{stops_erase, stops_program}
 use Rattle.pk_pin.specs.Frames.{Frames}
-use Rattle.pk_pool.specs.Blocks.{Blocks}
-use Rattle.pk_pool.specs.Taking.{TakesReady, ErasesFree, FailsToErase}
+use Rattle.pk_pool.{specs.Blocks.Blocks, specs.Taking.TakesReady, specs.Taking.ErasesFree, specs.Taking.FailsToErase}
 use Rattle.pk_run.specs.Kept.{Kept, after_look, page_of}
-use Rattle.pk_merge.specs.declared.source.Source.{Source}
-use Rattle.pk_merge.specs.declared.source.Source.TheVariants.{Frozen, Run}
-use Rattle.pk_merge.specs.declared.next.Next.{Next}
+use Rattle.pk_merge.{specs.declared.source.Source.Source, specs.declared.source.Source.TheVariants.Frozen, specs.declared.source.Source.TheVariants.Run, specs.declared.next.Next.Next}
 use Rattle.pk_merge.specs.declared.next.Next.TheVariants.{LoadSource, LoadTarget, Gather, TakeBlock, Program, End}
-use Rattle.pk_merge.specs.Cursors.{Cursor, own_page}
-use Rattle.pk_merge.specs.Sources.{LookFails, after_look_at}
-use Rattle.pk_merge.specs.Merging.{Merger}
-use Rattle.pk_merge.specs.Outputs.{FailsToProgram}
+use Rattle.pk_merge.{specs.Cursors.Cursor, specs.Cursors.own_page, specs.Sources.LookFails, specs.Sources.after_look_at, specs.Merging.Merger, specs.Outputs.FailsToProgram}
 use Rattle.pk_merge.specs.Steps.{Acts, Fails, FailsToRead}
 
 -- one call at most was made, none failed, and nothing but the flash and the counts differs

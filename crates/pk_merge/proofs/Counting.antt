@@ -1,28 +1,18 @@
 -- How many steps remain of a merge.
 use Rattle.std.proofs.Common.{◌≡◌, inl, inr, ℕ, suc, ◌+◌, ◌-◌, ◌*◌, ◌<◌, ◌≤◌, ap, ◌∙◌, arith, Bool, true, false, if◌then◌else◌, List, [], ◌∷◌, ◌++◌, length, length-append}
-use Rattle.pk_base.specs.Shape.{IsShape, run_pages, run_blocks}
-use Rattle.pk_base.specs.Entry.{Entry}
-use Rattle.pk_base.specs.Page.{Flash}
+use Rattle.pk_base.{specs.Shape.IsShape, specs.Shape.run_pages, specs.Shape.run_blocks, specs.Entry.Entry, specs.Page.Flash}
 use Rattle.pk_nand.specs.BoardState.{BoardState}
 use Rattle.pk_pin.specs.Frames.{Frames}
 use Rattle.pk_plan.specs.declared.owner.Owner.TheVariants.{Meta}
-use Rattle.pk_pool.specs.declared.state.BlockState.TheVariants.{Owned}
-use Rattle.pk_pool.specs.Blocks.{Blocks, IsSpare, with_state}
-use Rattle.pk_pool.specs.Unready.{unready}
+use Rattle.pk_pool.{specs.declared.state.BlockState.TheVariants.Owned, specs.Blocks.Blocks, specs.Blocks.IsSpare, specs.Blocks.with_state, specs.Unready.unready}
 use Rattle.pk_pool.proofs.Counting.{taken_ready, taken_free}
 use Rattle.pk_run.specs.Kept.{Kept, IsKept, most_pages, most_blocks}
 use Rattle.pk_law_work.specs.Rest.{Lowers}
-use Rattle.pk_merge.specs.declared.source.Source.{Source}
-use Rattle.pk_merge.specs.declared.source.Source.TheVariants.{Frozen, Run}
-use Rattle.pk_merge.specs.declared.next.Next.{Next}
+use Rattle.pk_merge.{specs.declared.source.Source.Source, specs.declared.source.Source.TheVariants.Frozen, specs.declared.source.Source.TheVariants.Run, specs.declared.next.Next.Next}
 use Rattle.pk_merge.specs.declared.next.Next.TheVariants.{LoadSource, LoadTarget, Gather, TakeBlock, Program, End}
-use Rattle.pk_merge.specs.Cursors.{Cursor, Follows, own_page, wants_page}
-use Rattle.pk_merge.specs.Sources.{FollowsIn, pages_in, wants_page_in}
-use Rattle.pk_merge.specs.Merging.{Merger, Tells, can_gather}
-use Rattle.pk_merge.specs.Running.{merged, Running}
-use Rattle.pk_merge.specs.Steps.{Acts}
+use Rattle.pk_merge.{specs.Cursors.Cursor, specs.Cursors.Follows, specs.Cursors.own_page, specs.Cursors.wants_page, specs.Sources.FollowsIn, specs.Sources.pages_in, specs.Sources.wants_page_in}
+use Rattle.pk_merge.{specs.Merging.Merger, specs.Merging.Tells, specs.Merging.can_gather, specs.Running.merged, specs.Running.Running, specs.Steps.Acts, proofs.Following.has_not_come}
 use Rattle.pk_merge.specs.Remaining.{steps_left, LowersTo, IsWithin}
-use Rattle.pk_merge.proofs.Following.{has_not_come}
 use Rattle.pk_merge.proofs.Needing.{page_to_come, block_to_come, pages_fit, blocks_fit}
 
 -- ---- blocks that are taken

@@ -1,23 +1,13 @@
 -- A merge runs as before if others change pages and owners that are none of its own.
 use Rattle.std.proofs.Common.{◌≡◌, ℕ, ◌*◌, ◌/◌, ◌<◌, ◌≤◌, refl, sym, ap, subst, ◌∙◌, arith, Bool, List, length}
 use Rattle.std.specs.Prelude.{slice_index}
-use Rattle.pk_base.specs.Shape.{Shape, IsShape}
-use Rattle.pk_base.specs.Entry.{Entry}
-use Rattle.pk_base.specs.Page.{Flash, page_at}
+use Rattle.pk_base.{specs.Shape.Shape, specs.Shape.IsShape, specs.Entry.Entry, specs.Page.Flash, specs.Page.page_at}
 use Rattle.pk_pin.specs.Frames.{Frames}
 use Rattle.pk_pool.specs.Blocks.{Blocks}
-use Rattle.pk_run.specs.Kept.{Kept, RunOnFlash, page_of}
-use Rattle.pk_run.specs.Laws.{SamePages}
-use Rattle.pk_run.proofs.Standing.{RunOnFlash-elsewhere}
-use Rattle.pk_merge.specs.declared.source.Source.{Source}
-use Rattle.pk_merge.specs.declared.source.Source.TheVariants.{Frozen, Run}
-use Rattle.pk_merge.specs.Sources.{Has, IsOf, blocks_in}
-use Rattle.pk_merge.specs.Merging.{Merger}
-use Rattle.pk_merge.specs.Outputs.{AreMeta}
-use Rattle.pk_merge.specs.Running.{Running}
-use Rattle.pk_merge.proofs.Places.{block_there, block_of_page}
+use Rattle.pk_run.{specs.Kept.Kept, specs.Kept.RunOnFlash, specs.Kept.page_of, specs.Laws.SamePages, proofs.Standing.RunOnFlash-elsewhere}
+use Rattle.pk_merge.{specs.declared.source.Source.Source, specs.declared.source.Source.TheVariants.Frozen, specs.declared.source.Source.TheVariants.Run, specs.Merging.Merger, specs.Outputs.AreMeta}
+use Rattle.pk_merge.{specs.Sources.Has, specs.Sources.IsOf, specs.Sources.blocks_in, specs.Running.Running, proofs.Places.block_there, proofs.Places.block_of_page, specs.Elsewhere.IsElsewhere}
 use Rattle.pk_merge.proofs.Moving.{Moves, MovesIn, stands_moved}
-use Rattle.pk_merge.specs.Elsewhere.{IsElsewhere}
 
 module _ (pool pool' : Blocks) (old new : Flash) (e : IsElsewhere pool old pool' new) where
   pages_same : (r : Kept) → IsShape r.shape → pool.shape ≡ r.shape → AreMeta pool r.blocks → (j : ℕ) → j < length r.blocks * r.shape.block_pages → page_at new (page_of r j) ≡ page_at old (page_of r j)

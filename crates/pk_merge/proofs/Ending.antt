@@ -2,8 +2,7 @@
 use Rattle.std.proofs.Common.{◌≡◌, ℕ, zero, suc, ◌-◌, ◌≤◌, refl, ap, ◌∙◌, arith, List, Some, Option}
 use Rattle.pk_base.specs.Shape.{Shape}
 use Rattle.pk_run.specs.Kept.{Kept, empty}
-use Rattle.pk_merge.specs.Jobs.{all_spare, spare_of, without, with_spare}
-use Rattle.pk_merge.specs.Laws.{IsFormer, IdleBehindOne, IdleBehindTwo}
+use Rattle.pk_merge.{specs.Jobs.all_spare, specs.Jobs.spare_of, specs.Jobs.without, specs.Jobs.with_spare, specs.Laws.IsFormer, specs.Laws.IdleBehindOne, specs.Laws.IdleBehindTwo}
 
 -- a run that was taken out and put back
 one_back : (shape : Shape) (level : ℕ) → 1 ≤ level → level ≤ 4 → with_spare (without (all_spare shape) level) level (empty shape level) ≡ all_spare shape

@@ -1,21 +1,12 @@
 -- A cursor in a run: the page of its place, the entry at it, and what its moves leave.
 use Rattle.std.proofs.Common.{◌≡◌, ℕ, zero, suc, ◌-◌, ◌*◌, ◌/◌, ◌%◌, ◌<◌, ◌≤◌, min, sym, ap, subst, ◌∙◌, arith, true, false, List, [], ◌∷◌, length, take, drop, slice_get, Some, div-lt_iff_lt-mul}
-use Rattle.std.proofs.lemmas.Bool.Decides.{nat_tests}
-use Rattle.std.proofs.lemmas.Nat.{div-add-mod', le-div}
-use Rattle.std.proofs.lemmas.List.{length-take, length-drop}
-use Rattle.std.proofs.Math.Nat.{mod-lt}
-use Rattle.pk_base.specs.Shape.{Shape, IsShape, page_entries}
-use Rattle.pk_base.specs.Entry.{Entry}
-use Rattle.pk_base.specs.Fields.{number_at}
-use Rattle.pk_base.specs.Page.{Flash, page_at, whole}
-use Rattle.pk_meta.specs.PageChecks.{IsMetaPage, Decodes}
-use Rattle.pk_meta.proofs.PageLemmas.{meta_again}
-use Rattle.pk_pin.specs.Frames.{Frames}
-use Rattle.pk_run.specs.Kept.{Kept, IsKept, RunOnFlash, page_of}
-use Rattle.pk_run.proofs.Lookups.{holds_piece}
-use Rattle.pk_run.proofs.Orders.{slice_get-drop}
-use Rattle.pk_merge.specs.Cursors.{Cursor, Follows, at_start, passed, own_page, wants_page}
+use Rattle.std.{proofs.lemmas.Bool.Decides.nat_tests, proofs.lemmas.Nat.div-add-mod', proofs.lemmas.Nat.le-div, proofs.lemmas.List.length-take, proofs.lemmas.List.length-drop, proofs.Math.Nat.mod-lt}
+use Rattle.pk_base.{specs.Shape.Shape, specs.Shape.IsShape, specs.Shape.page_entries, specs.Entry.Entry, specs.Fields.number_at, specs.Page.Flash, specs.Page.page_at, specs.Page.whole}
 use Rattle.pk_base.proofs.ShapeLemmas.{entries_some}
+use Rattle.pk_meta.{specs.PageChecks.IsMetaPage, specs.PageChecks.Decodes, proofs.PageLemmas.meta_again}
+use Rattle.pk_pin.specs.Frames.{Frames}
+use Rattle.pk_run.{specs.Kept.Kept, specs.Kept.IsKept, specs.Kept.RunOnFlash, specs.Kept.page_of, proofs.Lookups.holds_piece, proofs.Orders.slice_get-drop}
+use Rattle.pk_merge.specs.Cursors.{Cursor, Follows, at_start, passed, own_page, wants_page}
 
 -- ---- numbers
 

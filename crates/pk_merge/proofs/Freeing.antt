@@ -1,11 +1,8 @@
 -- Blocks that are freed one after another.
 use Rattle.std.proofs.Common.{◌≡◌, ◌≢◌, ℕ, suc, ◌+◌, ◌<◌, refl, sym, ap, subst, ◌∙◌, arith, List, [], ◌∷◌, length, get_or, drop, drop-cons, slice_get, Some, add-one}
 use Rattle.pk_plan.specs.declared.owner.Owner.TheVariants.{Meta}
-use Rattle.pk_pool.specs.declared.state.BlockState.TheVariants.{Free}
-use Rattle.pk_pool.specs.Blocks.{Blocks, given_back, IsOwned, with_state}
-use Rattle.pk_pool.specs.Unready.{unready}
-use Rattle.pk_pool.proofs.Counting.{given_back as one_given}
-use Rattle.pk_pool.proofs.States.{get-set_other}
+use Rattle.pk_pool.{specs.declared.state.BlockState.TheVariants.Free, specs.Blocks.Blocks, specs.Blocks.given_back, specs.Blocks.IsOwned, specs.Blocks.with_state, specs.Unready.unready}
+use Rattle.pk_pool.{proofs.Counting.given_back as one_given, proofs.States.get-set_other}
 use Rattle.pk_merge.specs.Jobs.{AreOwned, LeavesBlocks}
 
 pub first_owned : (pool : Blocks) (blocks : List ℕ) (i : ℕ) → i < length blocks → AreOwned pool (drop i blocks) → IsOwned pool (get_or blocks i 0)

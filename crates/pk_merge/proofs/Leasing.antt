@@ -5,12 +5,8 @@ use Rattle.pk_pin.specs.Frames.{Frames, AreLeases, leased, times, KeepsPage}
 use Rattle.pk_pin.proofs.Leases.{times-append, leases_taken, leases_filled}
 use Rattle.pk_pool.specs.Blocks.{Blocks}
 use Rattle.pk_run.specs.Kept.{Kept, with_lease}
-use Rattle.pk_merge.specs.declared.source.Source.{Source}
-use Rattle.pk_merge.specs.declared.next.Next.{Next}
+use Rattle.pk_merge.{specs.declared.source.Source.Source, specs.declared.next.Next.Next, specs.Merging.Merger, specs.Steps.Acts, specs.Elsewhere.LeavesLeases}
 use Rattle.pk_merge.specs.declared.next.Next.TheVariants.{LoadSource, LoadTarget, Gather, TakeBlock, Program, End}
-use Rattle.pk_merge.specs.Merging.{Merger}
-use Rattle.pk_merge.specs.Steps.{Acts}
-use Rattle.pk_merge.specs.Elsewhere.{LeavesLeases}
 
 -- the last lease may as well be the first
 turned : (i l : ℕ) (xs ys : List ℕ) → times i (xs ++ (ys ++ l ∷ [])) ≡ times i (l ∷ (xs ++ ys))

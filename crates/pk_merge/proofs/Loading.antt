@@ -1,17 +1,12 @@
 -- What a load of a page asks of a merge, and what it leaves of it.
 use Rattle.std.proofs.Common.{◌≡◌, ◌<◌, true, false, sym, ap, subst, List}
-use Rattle.pk_base.specs.Shape.{Shape}
-use Rattle.pk_base.specs.Entry.{Entry}
-use Rattle.pk_nand.specs.BoardState.{BoardState}
-use Rattle.pk_nand.specs.Calls.{IsReady}
+use Rattle.pk_base.{specs.Shape.Shape, specs.Entry.Entry}
+use Rattle.pk_nand.{specs.BoardState.BoardState, specs.Calls.IsReady}
 use Rattle.pk_pin.specs.Frames.{Frames}
 use Rattle.pk_run.specs.Kept.{Kept}
-use Rattle.pk_merge.specs.declared.source.Source.{Source}
-use Rattle.pk_merge.specs.declared.source.Source.TheVariants.{Frozen, Run}
-use Rattle.pk_merge.specs.Cursors.{Cursor, Loads}
+use Rattle.pk_merge.{specs.declared.source.Source.Source, specs.declared.source.Source.TheVariants.Frozen, specs.declared.source.Source.TheVariants.Run, specs.Cursors.Cursor, specs.Cursors.Loads}
 use Rattle.pk_merge.specs.Sources.{count_of, Has, FollowsIn, IsOf, wants_page_in, MayLoadIn, LoadsIn}
-use Rattle.pk_merge.specs.Merging.{Merger}
-use Rattle.pk_merge.specs.Steps.{LoadsSource, LoadsTarget}
+use Rattle.pk_merge.{specs.Merging.Merger, specs.Steps.LoadsSource, specs.Steps.LoadsTarget}
 
 -- the page at a cursor in the source may be loaded, if it wants one
 pub may_load_in : {X : Type 0} (source : Source X) (c : Cursor) (shape : Shape) (board : BoardState)

@@ -1,35 +1,19 @@
 -- What a block that is taken, and a page that is programmed, leave of the runs that are merged.
 use Rattle.std.proofs.Common.{◌≡◌, ◌≢◌, ◌⊎◌, inl, inr, ℕ, zero, suc, ◌+◌, ◌-◌, ◌*◌, ◌/◌, ◌%◌, ◌<◌, ◌≤◌, refl, sym, ap, subst, ◌∙◌, arith, List, [], ◌∷◌, ◌++◌, length, slice_get, set, Some}
 use Rattle.std.proofs.Common.{length-append, div-lt_iff_lt-mul}
-use Rattle.std.specs.Prelude.{⊤, slice_index}
-use Rattle.std.proofs.Math.Nat.{suc-mul}
-use Rattle.std.proofs.Math.ListN.{get_or-append}
-use Rattle.std.proofs.lemmas.Bool.{cases_lt}
-use Rattle.pk_base.specs.Shape.{Shape, IsShape}
-use Rattle.pk_base.specs.Entry.{Entry}
-use Rattle.pk_base.specs.Page.{Flash, page_at, page_in, whole, erased}
+use Rattle.std.{specs.Prelude.⊤, specs.Prelude.slice_index, proofs.Math.Nat.suc-mul, proofs.Math.ListN.get_or-append, proofs.lemmas.Bool.cases_lt}
+use Rattle.pk_base.{specs.Shape.Shape, specs.Shape.IsShape, specs.Entry.Entry, specs.Page.Flash, specs.Page.page_at, specs.Page.page_in, specs.Page.whole, specs.Page.erased, proofs.BlockLemmas.apart}
 use Rattle.pk_base.specs.Mark.{after_all, all_posted}
-use Rattle.pk_nand.specs.BoardState.{BoardState, shape_of}
-use Rattle.pk_nand.specs.Calls.{after_program}
-use Rattle.pk_nand.specs.Operations.{IsErasedBlock}
-use Rattle.pk_nand.proofs.CutLemmas.{cut_end}
-use Rattle.pk_nand.proofs.Leaving.{page_at-slice_set}
+use Rattle.pk_nand.{specs.BoardState.BoardState, specs.BoardState.shape_of, specs.Calls.after_program, specs.Operations.IsErasedBlock, proofs.CutLemmas.cut_end, proofs.Leaving.page_at-slice_set}
 use Rattle.pk_pin.specs.Frames.{Frames}
 use Rattle.pk_plan.specs.declared.owner.Owner.TheVariants.{Meta}
 use Rattle.pk_pool.specs.declared.state.BlockState.TheVariants.{Free, Ready, Owned}
-use Rattle.pk_pool.specs.Blocks.{Blocks, IsSpare}
-use Rattle.pk_pool.specs.Taking.{ReachesIn, SameButBlock}
-use Rattle.pk_run.specs.Kept.{Kept, RunOnFlash, page_of}
-use Rattle.pk_run.specs.Laws.{SamePages}
-use Rattle.pk_run.proofs.Standing.{RunOnFlash-elsewhere}
-use Rattle.pk_merge.specs.declared.source.Source.{Source}
-use Rattle.pk_merge.specs.declared.source.Source.TheVariants.{Frozen, Run}
-use Rattle.pk_merge.specs.Cursors.{Cursor, Follows, own_page}
-use Rattle.pk_merge.specs.Sources.{Has, FollowsIn, IsOf, blocks_in}
-use Rattle.pk_merge.specs.Merging.{Merger, StandsIn}
+use Rattle.pk_pool.{specs.Blocks.Blocks, specs.Blocks.IsSpare, specs.Taking.ReachesIn, specs.Taking.SameButBlock}
+use Rattle.pk_run.{specs.Kept.Kept, specs.Kept.RunOnFlash, specs.Kept.page_of, specs.Laws.SamePages, proofs.Standing.RunOnFlash-elsewhere}
+use Rattle.pk_merge.{specs.declared.source.Source.Source, specs.declared.source.Source.TheVariants.Frozen, specs.declared.source.Source.TheVariants.Run, specs.Merging.Merger, specs.Merging.StandsIn}
+use Rattle.pk_merge.{specs.Cursors.Cursor, specs.Cursors.Follows, specs.Cursors.own_page, specs.Sources.Has, specs.Sources.FollowsIn, specs.Sources.IsOf, specs.Sources.blocks_in}
 use Rattle.pk_merge.specs.Outputs.{AreMeta, BlocksApart, IsOutput, OthersStand, next_bytes}
 use Rattle.pk_merge.proofs.Places.{rest, block_there, page_of_place, other_page}
-use Rattle.pk_base.proofs.BlockLemmas.{apart}
 
 -- a run's pages are the same, and it is as before
 abbrev pub Moves : Kept → Flash → Flash → Frames → Frames → Type 0

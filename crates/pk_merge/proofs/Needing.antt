@@ -1,30 +1,18 @@
 -- What a merge with a next page needs: room in its level, blocks and frames.
 use Rattle.std.proofs.Common.{◌≡◌, ◌≢◌, inl, inr, ℕ, ◌+◌, ◌*◌, ◌<◌, ◌≤◌, sym, ap, subst, ◌∙◌, arith, Bool, true, false, T, not, ◌||◌, ◌==◌, is_some, List, [], ◌∷◌, ◌++◌, length, length-append}
 use Rattle.std.proofs.Common.{append_assoc, lt_of_mul-lt-mul_right}
-use Rattle.std.proofs.lemmas.Grind.{div_ceil_times}
-use Rattle.std.specs.Int.{div_ceil}
-use Rattle.std.specs.List.{list_all, AllByRecursion}
-use Rattle.std.specs.FinMap.Entries.{is_sorted, below_all}
-use Rattle.pk_base.specs.Key.{Key, key_cmp}
-use Rattle.pk_base.specs.Shape.{Shape, IsShape, page_entries, run_pages, run_blocks}
-use Rattle.pk_base.specs.Entry.{Entry}
-use Rattle.pk_base.specs.EntryChecks.{IsEntry}
-use Rattle.pk_base.specs.Page.{Flash}
+use Rattle.std.{proofs.lemmas.Grind.div_ceil_times, specs.Int.div_ceil, specs.List.list_all, specs.List.AllByRecursion, specs.FinMap.Entries.is_sorted, specs.FinMap.Entries.below_all}
+use Rattle.pk_base.{specs.Key.Key, specs.Key.key_cmp, specs.Shape.Shape, specs.Shape.IsShape, specs.Shape.page_entries, specs.Shape.run_pages, specs.Shape.run_blocks, specs.Entry.Entry}
+use Rattle.pk_base.{specs.EntryChecks.IsEntry, specs.Page.Flash, proofs.Logic.left_part, proofs.Logic.right_part, proofs.Logic.both, proofs.ShapeLemmas.entries_some}
 use Rattle.pk_meta.specs.PageChecks.{IsContent}
 use Rattle.pk_pin.specs.Frames.{Frames, free_frames}
-use Rattle.pk_plan.specs.declared.owner.Owner.TheVariants.{Meta}
-use Rattle.pk_plan.specs.Quotas.{quota_of}
+use Rattle.pk_plan.{specs.declared.owner.Owner.TheVariants.Meta, specs.Quotas.quota_of}
 use Rattle.pk_pool.specs.Blocks.{Blocks, used_by}
 use Rattle.pk_run.specs.Kept.{Kept, IsKept, most_pages, most_blocks}
 use Rattle.pk_law_work.proofs.Paging.{few_pages, few_blocks}
-use Rattle.pk_merge.specs.declared.source.Source.{Source}
-use Rattle.pk_merge.specs.Merging.{Merger, left}
-use Rattle.pk_merge.specs.Outputs.{MayProgram}
+use Rattle.pk_merge.{specs.declared.source.Source.Source, specs.Merging.Merger, specs.Merging.left, specs.Outputs.MayProgram, proofs.Programming.sorted_rises}
 use Rattle.pk_merge.specs.Running.{merged, CanStand, Merging, HasBlocks, HasFrames}
 use Rattle.pk_merge.proofs.Overs.{output_sorted, output_deepest, output_all, all_left, all_right}
-use Rattle.pk_merge.proofs.Programming.{sorted_rises}
-use Rattle.pk_base.proofs.Logic.{left_part, right_part, both}
-use Rattle.pk_base.proofs.ShapeLemmas.{entries_some}
 
 -- ---- numbers
 

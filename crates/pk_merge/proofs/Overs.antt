@@ -1,18 +1,11 @@
 -- What remains of a merge of two sorted lists, after the entry that comes next.
-use Rattle.std.proofs.Common.{◌≡◌, ℕ, refl, sym, ap, subst, ◌∙◌, true, false, T, List, [], ◌∷◌, ◌++◌, filter, not, ◌||◌, ◌==◌, is_some, if◌then◌else◌}
-use Rattle.std.specs.declared.cmp.Ordering.TheVariants.{Less, Equal, Greater}
-use Rattle.std.specs.Ordering.{is_lt}
-use Rattle.std.specs.List.{list_all, AllByRecursion}
-use Rattle.std.proofs.Common.{Option, Some, None}
-use Rattle.std.specs.Cmp.{IsTotalOrder}
-use Rattle.std.specs.Cmp.Lexicographic.{nat_list_cmp_total}
+use Rattle.std.proofs.Common.{◌≡◌, ℕ, refl, sym, ap, subst, ◌∙◌, true, false, T, List, [], ◌∷◌, ◌++◌, filter, not, ◌||◌, ◌==◌, is_some, if◌then◌else◌, Option, Some, None}
+use Rattle.std.{specs.declared.cmp.Ordering.TheVariants.Less, specs.declared.cmp.Ordering.TheVariants.Equal, specs.declared.cmp.Ordering.TheVariants.Greater, specs.Ordering.is_lt}
+use Rattle.std.{specs.List.list_all, specs.List.AllByRecursion, specs.Cmp.IsTotalOrder, specs.Cmp.Lexicographic.nat_list_cmp_total}
 use Rattle.std.specs.FinMap.Entries.{put, is_sorted, below_all, by_order}
-use Rattle.pk_base.specs.Key.{Key, key_cmp}
-use Rattle.pk_base.specs.Entry.{Entry, Place}
-use Rattle.pk_base.specs.Firsts.{firsts}
-use Rattle.pk_meta.specs.Over.{over, kept_at}
-use Rattle.pk_base.proofs.Logic.{left_part, right_part, both, less}
+use Rattle.pk_base.{specs.Key.Key, specs.Key.key_cmp, specs.Entry.Entry, specs.Entry.Place, specs.Firsts.firsts, proofs.Logic.left_part, proofs.Logic.right_part, proofs.Logic.both, proofs.Logic.less}
 use Rattle.pk_base.proofs.KeyLemmas.{same_key, turned, below_less, firsts_sorted}
+use Rattle.pk_meta.specs.Over.{over, kept_at}
 
 key_total : IsTotalOrder key_cmp
 key_total = nat_list_cmp_total

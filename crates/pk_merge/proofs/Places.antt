@@ -1,17 +1,12 @@
 -- The pages of a run's blocks.
 use Rattle.std.proofs.Common.{◌≡◌, ℕ, ◌+◌, ◌-◌, ◌*◌, ◌/◌, ◌%◌, ◌<◌, ◌≤◌, sym, ap, subst, ◌∙◌, arith, List, length, slice_get, Some, mod-lt, div-add-mod', div-lt_iff_lt-mul}
-use Rattle.std.specs.Prelude.{slice_index}
-use Rattle.std.proofs.lemmas.Nat.{div-mul-add, mod-mul-add}
-use Rattle.std.proofs.lemmas.Option.{slice_get-get_or}
-use Rattle.pk_base.specs.Shape.{Shape, IsShape, page_count}
-use Rattle.pk_base.specs.Page.{Page, Flash, page_at, erased, whole, page_in}
-use Rattle.pk_base.specs.Entry.{Entry}
+use Rattle.std.{specs.Prelude.slice_index, proofs.lemmas.Nat.div-mul-add, proofs.lemmas.Nat.mod-mul-add, proofs.lemmas.Option.slice_get-get_or}
+use Rattle.pk_base.{specs.Shape.Shape, specs.Shape.IsShape, specs.Shape.page_count, specs.Page.Page, specs.Page.Flash, specs.Page.page_at, specs.Page.erased, specs.Page.whole, specs.Page.page_in}
+use Rattle.pk_base.{specs.Entry.Entry, proofs.BlockLemmas.apart}
 use Rattle.pk_nand.specs.Operations.{InOrder}
 use Rattle.pk_pin.specs.Frames.{Frames}
-use Rattle.pk_run.specs.Kept.{Kept, IsKept, RunOnFlash, page_of}
-use Rattle.pk_run.proofs.Lookups.{page_stands}
+use Rattle.pk_run.{specs.Kept.Kept, specs.Kept.IsKept, specs.Kept.RunOnFlash, specs.Kept.page_of, proofs.Lookups.page_stands}
 use Rattle.pk_merge.specs.Outputs.{IsOutput, BlocksApart}
-use Rattle.pk_base.proofs.BlockLemmas.{apart}
 
 same_rest : (x y n r s : ℕ) → x ≡ y → x * n + r ≡ y * n + s → r ≡ s
 same_rest x y n r s e same = let f : x * n ≡ y * n = ap (λ k. k * n) e in omega (arith, f, same)

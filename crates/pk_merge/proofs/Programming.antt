@@ -1,21 +1,12 @@
 -- An output to which a page or a block is added, and what this leaves of other runs.
 use Rattle.std.proofs.Common.{◌≡◌, ◌≢◌, ◌⊎◌, inl, inr, ℕ, ◌+◌, ◌*◌, ◌<◌, ◌≤◌, refl, sym, ap, subst, ◌∙◌, arith, Bool, true, false, not, ◌||◌, ◌==◌, T, is_some, List, [], ◌∷◌, ◌++◌, length, map}
 use Rattle.std.proofs.Common.{slice_get, get_or, set, Some, None, Option, option_map, length-append}
-use Rattle.std.specs.List.{list_all, AllByRecursion}
-use Rattle.std.specs.FinMap.Entries.{is_sorted, below_all}
-use Rattle.std.proofs.lemmas.Bool.{cases_lt}
-use Rattle.pk_base.specs.Key.{Key, key_cmp, IsBelow, IsRising}
-use Rattle.pk_base.specs.Shape.{Shape, IsShape}
-use Rattle.pk_base.specs.Entry.{Entry, key_of}
-use Rattle.pk_base.specs.Seen.{entry as seen, entries as seen_all}
-use Rattle.pk_base.specs.declared.entry.Entry.{Entry as RustEntry}
-use Rattle.pk_base.specs.Page.{Flash, page_at, whole, page_in}
-use Rattle.pk_meta.specs.PageChecks.{IsContent}
-use Rattle.pk_meta.proofs.Reading.{meta_entries_again}
-use Rattle.pk_nand.specs.BoardState.{BoardState}
-use Rattle.pk_nand.specs.Calls.{after_program}
-use Rattle.pk_nand.specs.Crash.{Reached, SameOutside}
-use Rattle.pk_nand.proofs.Leaving.{page_at-slice_set, page_at-slice_set_same}
+use Rattle.std.{specs.List.list_all, specs.List.AllByRecursion, specs.FinMap.Entries.is_sorted, specs.FinMap.Entries.below_all, proofs.lemmas.Bool.cases_lt}
+use Rattle.pk_base.{specs.Key.Key, specs.Key.key_cmp, specs.Key.IsBelow, specs.Key.IsRising, specs.Shape.Shape, specs.Shape.IsShape, specs.Entry.Entry, specs.Entry.key_of}
+use Rattle.pk_base.{specs.Seen.entry as seen, specs.Seen.entries as seen_all, specs.declared.entry.Entry.Entry as RustEntry, specs.Page.Flash, specs.Page.page_at, specs.Page.whole, specs.Page.page_in}
+use Rattle.pk_base.proofs.Logic.{left_part, right_part, less}
+use Rattle.pk_meta.{specs.PageChecks.IsContent, proofs.Reading.meta_entries_again}
+use Rattle.pk_nand.{specs.BoardState.BoardState, specs.Calls.after_program, specs.Crash.Reached, specs.Crash.SameOutside, proofs.Leaving.page_at-slice_set, proofs.Leaving.page_at-slice_set_same}
 use Rattle.pk_nand.proofs.Writing.{SameOutside-set}
 use Rattle.pk_pin.specs.Frames.{Frames, leased, KeepsPage}
 use Rattle.pk_run.specs.Kept.{Kept, IsNext, IsPinnedAlike, RunOnFlash, page_of, with_page}
@@ -23,7 +14,6 @@ use Rattle.pk_run.proofs.Others.{RunOnFlash-outside, RunOnFlash-taken, RunOnFlas
 use Rattle.pk_merge.specs.Outputs.{BlocksApart, IsOutput, ProgramsPage, OthersStand, next_bytes, SameButNext}
 use Rattle.pk_merge.proofs.Places.{only_index, other_page}
 use Rattle.pk_level.specs.Arenas.{IsPinnedIf}
-use Rattle.pk_base.proofs.Logic.{left_part, right_part, less}
 
 -- ---- sorted entries rise
 

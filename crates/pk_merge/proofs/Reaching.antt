@@ -1,28 +1,15 @@
 -- Wherever a step is cut, no page differs that another may read; and after a read that failed the merge runs as before.
 use Rattle.std.proofs.Common.{◌≡◌, ◌≢◌, inl, inr, ◌+◌, ◌-◌, ◌*◌, ◌/◌, ◌%◌, ◌<◌, ◌≤◌, ℕ, refl, sym, ap, subst, ◌∙◌, arith, Bool, List, [], ◌∷◌, length, slice_get, Option, Some, None}
-use Rattle.std.specs.Prelude.{slice_index}
-use Rattle.pk_base.specs.Shape.{Shape, IsShape}
-use Rattle.pk_base.specs.Entry.{Entry}
-use Rattle.pk_base.specs.Page.{Flash}
-use Rattle.pk_nand.specs.BoardState.{BoardState}
-use Rattle.std.proofs.lemmas.Nat.{mod-mul-add}
-use Rattle.pk_nand.specs.Crash.{Reached, Went}
-use Rattle.pk_nand.specs.Pairs.{first_of_pair, SameOutsidePair}
-use Rattle.pk_nand.specs.declared.types.Fault.TheVariants.{Stopped}
+use Rattle.std.{specs.Prelude.slice_index, proofs.lemmas.Nat.mod-mul-add}
+use Rattle.pk_base.{specs.Shape.Shape, specs.Shape.IsShape, specs.Entry.Entry, specs.Page.Flash}
+use Rattle.pk_nand.{specs.BoardState.BoardState, specs.Crash.Reached, specs.Crash.Went, specs.Pairs.first_of_pair, specs.Pairs.SameOutsidePair, specs.declared.types.Fault.TheVariants.Stopped}
 use Rattle.pk_pin.specs.Frames.{Frames}
-use Rattle.pk_pool.specs.Blocks.{Blocks}
-use Rattle.pk_pool.specs.Taking.{ReachesIn, WentIn, SameButBlock}
+use Rattle.pk_pool.{specs.Blocks.Blocks, specs.Taking.ReachesIn, specs.Taking.WentIn, specs.Taking.SameButBlock}
 use Rattle.pk_run.specs.Kept.{Kept, page_of, after_look}
-use Rattle.pk_merge.specs.declared.source.Source.{Source}
-use Rattle.pk_merge.specs.declared.source.Source.TheVariants.{Frozen, Run}
-use Rattle.pk_merge.specs.declared.next.Next.{Next}
+use Rattle.pk_merge.{specs.declared.source.Source.Source, specs.declared.source.Source.TheVariants.Frozen, specs.declared.source.Source.TheVariants.Run, specs.declared.next.Next.Next}
 use Rattle.pk_merge.specs.declared.next.Next.TheVariants.{LoadSource, LoadTarget, Gather, TakeBlock, Program, End}
-use Rattle.pk_merge.specs.Cursors.{Cursor, Follows, own_page}
-use Rattle.pk_merge.specs.Sources.{FollowsIn, after_look_at}
-use Rattle.pk_merge.specs.Merging.{Merger, Tells}
-use Rattle.pk_merge.specs.Running.{Running}
-use Rattle.pk_merge.specs.Steps.{Acts, Fails, FailsToRead}
-use Rattle.pk_merge.specs.Elsewhere.{IsLook, StepReaches, StepWent}
+use Rattle.pk_merge.{specs.Cursors.Cursor, specs.Cursors.Follows, specs.Cursors.own_page, specs.Sources.FollowsIn, specs.Sources.after_look_at, specs.Merging.Merger, specs.Merging.Tells}
+use Rattle.pk_merge.{specs.Running.Running, specs.Steps.Acts, specs.Steps.Fails, specs.Steps.FailsToRead, specs.Elsewhere.IsLook, specs.Elsewhere.StepReaches, specs.Elsewhere.StepWent}
 use Rattle.pk_merge.proofs.Places.{block_there, rest}
 
 -- ---- other pages

@@ -1,6 +1,5 @@
 -- What holds of an answer, from what holds of another.
-use Rattle.std.proofs.Common.{◌≡◌, subst}
-use Rattle.std.specs.Prelude.{Result, Ok, Err, OnOk, OnErr, IfOk, IfErr}
+use Rattle.std.{proofs.Common.◌≡◌, proofs.Common.subst, specs.Prelude.Result, specs.Prelude.Ok, specs.Prelude.Err, specs.Prelude.OnOk, specs.Prelude.OnErr, specs.Prelude.IfOk, specs.Prelude.IfErr}
 
 pub on_ok : {X E : Type 0} (r : Result X E) (P Q : Type 0) → OnOk r P → (P → Q) → OnOk r Q
 on_ok (Ok x) P Q h f = f h

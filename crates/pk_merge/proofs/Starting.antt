@@ -1,18 +1,11 @@
 -- A merge begins.
 use Rattle.std.proofs.Common.{◌≡◌, inl, ℕ, refl, sym, ◌∙◌, arith, zero-mul, ◌≤◌, Bool, true, false, List, []}
-use Rattle.pk_base.specs.Shape.{Shape, IsShape}
-use Rattle.pk_base.specs.Entry.{Entry}
-use Rattle.pk_base.specs.Page.{Flash}
+use Rattle.pk_base.{specs.Shape.Shape, specs.Shape.IsShape, specs.Entry.Entry, specs.Page.Flash}
 use Rattle.pk_pin.specs.Frames.{Frames}
 use Rattle.pk_pool.specs.Blocks.{Blocks}
-use Rattle.pk_run.specs.Kept.{Kept, empty}
-use Rattle.pk_run.proofs.Standing.{RunOnFlash-empty}
-use Rattle.pk_merge.specs.declared.source.Source.{Source}
-use Rattle.pk_merge.specs.declared.source.Source.TheVariants.{Frozen, Run}
-use Rattle.pk_merge.specs.Cursors.{Cursor, at_start}
-use Rattle.pk_merge.specs.Sources.{FollowsIn, IsOf}
-use Rattle.pk_merge.specs.Merging.{Merger, restarted}
-use Rattle.pk_merge.specs.Running.{Running, CanBegin, IsMergerOf}
+use Rattle.pk_run.{specs.Kept.Kept, specs.Kept.empty, proofs.Standing.RunOnFlash-empty}
+use Rattle.pk_merge.{specs.declared.source.Source.Source, specs.declared.source.Source.TheVariants.Frozen, specs.declared.source.Source.TheVariants.Run, specs.Cursors.Cursor, specs.Cursors.at_start}
+use Rattle.pk_merge.{specs.Sources.FollowsIn, specs.Sources.IsOf, specs.Merging.Merger, specs.Merging.restarted, specs.Running.Running, specs.Running.CanBegin, specs.Running.IsMergerOf}
 use Rattle.pk_merge.proofs.Following.{Follows-start}
 use Rattle.pk_level.specs.Arenas.{IsPinnedIf}
 

@@ -1,20 +1,13 @@
 -- What a whole step leaves: its action, and the entries that were taken after it.
 use Rattle.std.proofs.Common.{◌≡◌, ℕ, ◌≤◌, sym, subst, ◌∙◌, Bool, List, length}
-use Rattle.pk_base.specs.Shape.{IsShape, run_pages, run_blocks}
-use Rattle.pk_base.specs.Entry.{Entry}
+use Rattle.pk_base.{specs.Shape.IsShape, specs.Shape.run_pages, specs.Shape.run_blocks, specs.Entry.Entry}
 use Rattle.pk_nand.specs.BoardState.{BoardState}
 use Rattle.pk_pin.specs.Frames.{Frames}
 use Rattle.pk_pool.specs.Blocks.{Blocks}
 use Rattle.pk_run.specs.Kept.{Kept, IsKept, most_pages, most_blocks}
-use Rattle.pk_merge.specs.declared.source.Source.{Source}
-use Rattle.pk_merge.specs.Merging.{Merger, IsDone}
-use Rattle.pk_merge.specs.Running.{merged, Running, IsOutputWhole}
-use Rattle.pk_merge.specs.Steps.{Steps}
-use Rattle.pk_merge.specs.Remaining.{LowersTo}
-use Rattle.pk_merge.specs.Elsewhere.{StepReaches, LeavesRuns}
+use Rattle.pk_merge.{specs.declared.source.Source.Source, specs.Merging.Merger, specs.Merging.IsDone, specs.Running.merged, specs.Running.Running, specs.Running.IsOutputWhole, specs.Steps.Steps}
+use Rattle.pk_merge.{specs.Remaining.LowersTo, specs.Elsewhere.StepReaches, specs.Elsewhere.LeavesRuns, proofs.Reaching.acts_reach, proofs.Counting.fewer_steps, proofs.Counting.fewer_of_level}
 use Rattle.pk_merge.proofs.Stepping.{acts_on, acts_level, acts_leave, gathers_on, stands_done}
-use Rattle.pk_merge.proofs.Reaching.{acts_reach}
-use Rattle.pk_merge.proofs.Counting.{fewer_steps, fewer_of_level}
 
 module _ {X : Type 0} (source : Source X) (target : Kept) (pins : Bool) (out : Kept) (m : Merger) (pool : Blocks)
     (old : BoardState) (before : Frames) (out' : Kept) (m' : Merger) (pool' : Blocks) (new : BoardState) (after : Frames)

@@ -1,40 +1,25 @@
 -- Each action leaves a merge running.
 use Rattle.std.proofs.Common.{◌≡◌, inl, inr, ℕ, suc, ◌+◌, ◌*◌, ◌/◌, ◌<◌, ◌≤◌, refl, sym, ap, subst, ◌∙◌, arith, Bool, true, false, not, cond, if◌then◌else◌, ◌==◌, is_some, filter, List, [], ◌∷◌, ◌++◌}
 use Rattle.std.proofs.Common.{length, slice_get, set, Some, None, Option, length-append, append-nil, suc-mul}
-use Rattle.std.specs.Prelude.{slice_index}
-use Rattle.std.proofs.lemmas.List.Sums.{sum_by-set}
-use Rattle.std.proofs.lemmas.Option.{slice_get_within, get_or_from_slice_get}
-use Rattle.pk_base.specs.Shape.{Shape, IsShape, page_entries, run_pages}
-use Rattle.pk_base.specs.Entry.{Entry}
-use Rattle.pk_base.specs.Page.{Flash, whole}
+use Rattle.std.{specs.Prelude.slice_index, proofs.lemmas.List.Sums.sum_by-set, proofs.lemmas.Option.slice_get_within, proofs.lemmas.Option.get_or_from_slice_get}
+use Rattle.pk_base.{specs.Shape.Shape, specs.Shape.IsShape, specs.Shape.page_entries, specs.Shape.run_pages, specs.Entry.Entry, specs.Page.Flash, specs.Page.whole}
 use Rattle.pk_meta.specs.Over.{over, kept_at}
 use Rattle.pk_nand.specs.BoardState.{BoardState}
 use Rattle.pk_pin.specs.Frames.{Frames, free_frames, leased, KeepsPage}
 use Rattle.pk_plan.specs.declared.owner.Owner.TheVariants.{Meta}
 use Rattle.pk_pool.specs.declared.state.BlockState.TheVariants.{Free, Ready, Owned}
-use Rattle.pk_pool.specs.Blocks.{Blocks, PoolOnFlash, with_state}
-use Rattle.pk_pool.proofs.States.{get-set_other, set_is}
-use Rattle.pk_pool.proofs.Fitting.{PoolOnFlash-programmed}
-use Rattle.pk_run.specs.Kept.{Kept, IsKept, RunOnFlash, page_of, after_look}
-use Rattle.pk_run.proofs.Pieces.{pages_are}
-use Rattle.pk_run.proofs.Standing.{RunOnFlash-block}
-use Rattle.pk_merge.specs.declared.source.Source.{Source}
-use Rattle.pk_merge.specs.declared.source.Source.TheVariants.{Frozen, Run}
-use Rattle.pk_merge.specs.declared.next.Next.{Next}
+use Rattle.pk_pool.{specs.Blocks.Blocks, specs.Blocks.PoolOnFlash, specs.Blocks.with_state, proofs.States.get-set_other, proofs.States.set_is, proofs.Fitting.PoolOnFlash-programmed}
+use Rattle.pk_run.{specs.Kept.Kept, specs.Kept.IsKept, specs.Kept.RunOnFlash, specs.Kept.page_of, specs.Kept.after_look, proofs.Pieces.pages_are, proofs.Standing.RunOnFlash-block}
+use Rattle.pk_merge.{specs.declared.source.Source.Source, specs.declared.source.Source.TheVariants.Frozen, specs.declared.source.Source.TheVariants.Run, specs.declared.next.Next.Next}
 use Rattle.pk_merge.specs.declared.next.Next.TheVariants.{LoadSource, LoadTarget, Gather, TakeBlock, Program, End}
-use Rattle.pk_merge.specs.Cursors.{Cursor, Follows, own_page}
-use Rattle.pk_merge.specs.Sources.{FollowsIn, IsOf, blocks_in, after_look_at}
+use Rattle.pk_merge.{specs.Cursors.Cursor, specs.Cursors.Follows, specs.Cursors.own_page, specs.Sources.FollowsIn, specs.Sources.IsOf, specs.Sources.blocks_in, specs.Sources.after_look_at}
 use Rattle.pk_merge.specs.Merging.{Merger, left, StandsIn, GoesOn, HasNextPage, IsAtEnd, IsDone, Tells}
 use Rattle.pk_merge.specs.Outputs.{AreMeta, BlocksApart, IsOutput, TakesBlock, ProgramsPage, next_bytes}
-use Rattle.pk_merge.specs.Running.{merged, Running, HasNoSpare, IsOutputWhole}
-use Rattle.pk_merge.proofs.Telling.{many_in, drop_end}
-use Rattle.pk_merge.proofs.Places.{block_there, rest}
-use Rattle.pk_merge.proofs.Programming.{pinned_page}
+use Rattle.pk_merge.{specs.Running.merged, specs.Running.Running, specs.Running.HasNoSpare, specs.Running.IsOutputWhole, proofs.Telling.many_in, proofs.Telling.drop_end, specs.Elsewhere.LeavesRuns}
+use Rattle.pk_merge.{proofs.Places.block_there, proofs.Places.rest, proofs.Programming.pinned_page, specs.Steps.LoadsSource, specs.Steps.LoadsTarget, specs.Steps.Acts}
 use Rattle.pk_merge.proofs.Needing.{full_before, next_rises, next_deepest, row_assoc}
 use Rattle.pk_merge.proofs.Moving.{same_but, spare_is_none, spare_apart, moves_by_take, source_by_take, moves_by_program, source_by_program, stands_moved, from_more, output_with}
 use Rattle.pk_level.specs.Arenas.{IsPinnedIf}
-use Rattle.pk_merge.specs.Steps.{LoadsSource, LoadsTarget, Acts}
-use Rattle.pk_merge.specs.Elsewhere.{LeavesRuns}
 
 look_pages : (lease : Option ℕ) (b : BoardState) → (after_look lease b).pages ≡ b.pages
 look_pages None b = refl

@@ -1,24 +1,16 @@
 -- What a merge does next, and the entry that it takes.
 use Rattle.std.proofs.Common.{◌≡◌, ◌≢◌, ◌⊎◌, inl, inr, ℕ, zero, suc, ◌+◌, ◌<◌, ◌≤◌, refl, sym, ap, subst, ◌∙◌, arith, Bool, true, false, not, ◌&&◌, ◌||◌, ◌==◌, T, List, [], ◌∷◌, ◌++◌, length, drop}
 use Rattle.std.proofs.Common.{slice_get, Some, append_assoc, length-append, le_refl}
-use Rattle.std.specs.Prelude.{nat_lt, IsTrue}
-use Rattle.std.proofs.lemmas.Bool.Decides.{nat_tests}
+use Rattle.std.{specs.Prelude.nat_lt, specs.Prelude.IsTrue, proofs.lemmas.Bool.Decides.nat_tests, specs.FinMap.Entries.is_sorted}
 use Rattle.std.specs.declared.cmp.Ordering.TheVariants.{Less, Equal, Greater}
-use Rattle.std.specs.FinMap.Entries.{is_sorted}
-use Rattle.pk_base.specs.Key.{key_cmp}
-use Rattle.pk_base.specs.Shape.{IsShape, page_entries}
-use Rattle.pk_base.specs.Entry.{Entry, key_of}
-use Rattle.pk_base.specs.Page.{Flash}
+use Rattle.pk_base.{specs.Key.key_cmp, specs.Shape.IsShape, specs.Shape.page_entries, specs.Entry.Entry, specs.Entry.key_of, specs.Page.Flash}
 use Rattle.pk_meta.specs.Over.{over, kept_at}
 use Rattle.pk_pin.specs.Frames.{Frames}
-use Rattle.pk_run.specs.Kept.{Kept, RunOnFlash}
-use Rattle.pk_run.proofs.Orders.{drop_is, sorted_drop}
-use Rattle.pk_merge.specs.declared.source.Source.{Source}
-use Rattle.pk_merge.specs.declared.source.Source.TheVariants.{Frozen, Run}
+use Rattle.pk_run.{specs.Kept.Kept, specs.Kept.RunOnFlash, proofs.Orders.drop_is, proofs.Orders.sorted_drop}
+use Rattle.pk_merge.{specs.declared.source.Source.Source, specs.declared.source.Source.TheVariants.Frozen, specs.declared.source.Source.TheVariants.Run, proofs.Following.Follows-passed}
 use Rattle.pk_merge.specs.Cursors.{Cursor, Follows, passed, wants_page}
 use Rattle.pk_merge.specs.Sources.{count_of, Has, FollowsIn, wants_page_in}
 use Rattle.pk_merge.specs.Merging.{Merger, left_of, can_gather, is_left_of_source, is_left_of_target, takes_source, takes_target, takes_both, taken, StandsIn, GoesOn, IsAtEnd}
-use Rattle.pk_merge.proofs.Following.{Follows-passed}
 use Rattle.pk_merge.proofs.Overs.{over_less, over_equal, over_greater, over_source, over_target, kept_front}
 
 -- ---- whether an entry can be taken

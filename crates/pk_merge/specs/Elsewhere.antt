@@ -1,13 +1,10 @@
 -- What a step of a merge leaves of other pages, runs and leases, and what calls of others leave of a merge.
 use Rattle.std.specs.Prelude.{◌≡◌, ◌⊎◌, ℕ, ◌/◌, List, ◌++◌, slice_get, Some}
-use Rattle.pk_base.specs.Entry.{Entry}
-use Rattle.pk_base.specs.Page.{Flash, page_at}
-use Rattle.pk_nand.specs.BoardState.{BoardState}
-use Rattle.pk_nand.specs.Operations.{after_read}
+use Rattle.pk_base.{specs.Entry.Entry, specs.Page.Flash, specs.Page.page_at}
+use Rattle.pk_nand.{specs.BoardState.BoardState, specs.Operations.after_read}
 use Rattle.pk_pin.specs.Frames.{Frames, AreLeases}
 use Rattle.pk_plan.specs.declared.owner.Owner.TheVariants.{Meta}
-use Rattle.pk_pool.specs.declared.state.BlockState.TheVariants.{Owned}
-use Rattle.pk_pool.specs.Blocks.{Blocks, PoolOnFlash, IsSpare, used_by}
+use Rattle.pk_pool.{specs.declared.state.BlockState.TheVariants.Owned, specs.Blocks.Blocks, specs.Blocks.PoolOnFlash, specs.Blocks.IsSpare, specs.Blocks.used_by}
 use Rattle.pk_pool.specs.Taking.{ReachesIn, WentIn}
 use Rattle.pk_run.specs.Kept.{Kept, RunOnFlash}
 use Rattle.pk_merge.specs.Outputs.{AreMeta, BlocksApart}

@@ -1,16 +1,11 @@
 -- A job of merges: the merge that runs, if one does, and the runs for the outputs of the next ones.
 use Rattle.std.specs.Prelude.{◌≡◌, ℕ, ◌-◌, ◌≤◌, nat_le, Bool, IsTrue, List, [], ◌∷◌, length, slice_index_or, slice_get, slice_set, ◌==◌, if◌then◌else◌, Option, Some, None, unwrap_or}
-use Rattle.pk_base.specs.Shape.{Shape, run_pages, run_blocks}
-use Rattle.pk_base.specs.Entry.{Entry}
-use Rattle.pk_base.specs.Page.{Flash}
+use Rattle.pk_base.{specs.Shape.Shape, specs.Shape.run_pages, specs.Shape.run_blocks, specs.Entry.Entry, specs.Page.Flash}
 use Rattle.pk_pin.specs.Frames.{Frames}
 use Rattle.pk_pool.specs.Blocks.{Blocks}
 use Rattle.pk_run.specs.Kept.{Kept, RunOnFlash, empty}
-use Rattle.pk_merge.specs.declared.source.Source.{Source}
-use Rattle.pk_merge.specs.Merging.{Merger, restarted}
-use Rattle.pk_merge.specs.Outputs.{AreMeta}
+use Rattle.pk_merge.{specs.declared.source.Source.Source, specs.Merging.Merger, specs.Merging.restarted, specs.Outputs.AreMeta, specs.Remaining.LowersTo}
 use Rattle.pk_merge.specs.Running.{Running, IsOutputWhole, merged}
-use Rattle.pk_merge.specs.Remaining.{LowersTo}
 
 -- how many levels have frames for their pages, the level of the target or 0, the output, the state of the merge, and a run for each level but those
 -- that were taken

@@ -1,10 +1,8 @@
 -- The end of a merge: the statements.
 use Rattle.std.specs.Prelude.{◌≡◌, ℕ, ◌-◌, ◌≤◌, Some}
-use Rattle.pk_base.specs.declared.sizes.TheConstants.{LEVELS}
-use Rattle.pk_base.specs.Shape.{Shape}
+use Rattle.pk_base.{specs.declared.sizes.TheConstants.LEVELS, specs.Shape.Shape}
 use Rattle.pk_run.specs.Kept.{Kept, empty}
-use Rattle.pk_merge.specs.Merging.{Merger}
-use Rattle.pk_merge.specs.Jobs.{Job, IsIdle, begun, held_at, taken_from, given_to, ended}
+use Rattle.pk_merge.{specs.Merging.Merger, specs.Jobs.Job, specs.Jobs.IsIdle, specs.Jobs.begun, specs.Jobs.held_at, specs.Jobs.taken_from, specs.Jobs.given_to, specs.Jobs.ended}
 
 -- a job whose merge into the run of this level is done: it has this output
 abbrev pub done_with : Shape → Job → ℕ → Kept → Merger → Job

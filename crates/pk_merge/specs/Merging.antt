@@ -1,18 +1,13 @@
 -- A merge that runs: where it is, what it does next, and what remains of it.
 use Rattle.std.specs.Prelude.{◌≡◌, ◌≢◌, ◌⊎◌, ℕ, ◌+◌, ◌*◌, ◌<◌, ◌≤◌, Bool, true, T, not, ◌&&◌, ◌||◌, ◌==◌, nat_lt, List, [], ◌∷◌, ◌++◌, length, drop}
 use Rattle.std.specs.FinMap.Entries.{is_sorted}
-use Rattle.pk_base.specs.Key.{key_cmp}
-use Rattle.pk_base.specs.Shape.{Shape, page_entries}
-use Rattle.pk_base.specs.Entry.{Entry}
-use Rattle.pk_base.specs.Page.{Flash}
+use Rattle.pk_base.{specs.Key.key_cmp, specs.Shape.Shape, specs.Shape.page_entries, specs.Entry.Entry, specs.Page.Flash}
 use Rattle.pk_meta.specs.Over.{over, kept_at}
 use Rattle.pk_pin.specs.Frames.{Frames}
 use Rattle.pk_run.specs.Kept.{Kept, RunOnFlash}
-use Rattle.pk_merge.specs.declared.source.Source.{Source}
-use Rattle.pk_merge.specs.declared.next.Next.{Next}
+use Rattle.pk_merge.{specs.declared.source.Source.Source, specs.declared.next.Next.Next, specs.Sources.count_of, specs.Sources.Has, specs.Sources.FollowsIn, specs.Sources.wants_page_in}
 use Rattle.pk_merge.specs.declared.next.Next.TheVariants.{LoadSource, LoadTarget, Gather, TakeBlock, Program, End}
 use Rattle.pk_merge.specs.Cursors.{Cursor, Follows, at_start, passed, wants_page}
-use Rattle.pk_merge.specs.Sources.{count_of, Has, FollowsIn, wants_page_in}
 
 -- a cursor in the source and one in the target, and the entries that were taken for the next page
 pub record Merger : Type 0 where

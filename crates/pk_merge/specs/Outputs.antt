@@ -1,24 +1,13 @@
 -- The output of a merge: its blocks, and its pages in them, of which each is programmed once.
 use Rattle.std.specs.Prelude.{◌≡◌, ◌⊎◌, ℕ, ◌+◌, ◌*◌, ◌<◌, ◌≤◌, Bool, true, not, ◌||◌, ◌==◌, T, is_some, List, [], ◌∷◌, ◌++◌, length, slice_get, Option, Some}
-use Rattle.std.specs.List.{list_all}
-use Rattle.std.specs.FinMap.Entries.{is_sorted}
-use Rattle.pk_base.specs.declared.sizes.TheConstants.{LEVELS}
-use Rattle.pk_base.specs.Key.{Key, key_cmp}
-use Rattle.pk_base.specs.Shape.{page_entries}
-use Rattle.pk_base.specs.Entry.{Entry}
-use Rattle.pk_base.specs.Page.{Flash, page_at, erased}
-use Rattle.pk_meta.specs.Page.{meta_bytes}
-use Rattle.pk_meta.specs.PageChecks.{IsContent}
-use Rattle.pk_nand.specs.BoardState.{BoardState}
-use Rattle.pk_nand.specs.Calls.{ProgramFailed, after_program}
-use Rattle.pk_nand.specs.Operations.{IsErasedBlock}
-use Rattle.pk_nand.specs.Crash.{Reached, Went}
+use Rattle.std.{specs.List.list_all, specs.FinMap.Entries.is_sorted}
+use Rattle.pk_base.{specs.declared.sizes.TheConstants.LEVELS, specs.Key.Key, specs.Key.key_cmp, specs.Shape.page_entries, specs.Entry.Entry, specs.Page.Flash, specs.Page.page_at, specs.Page.erased}
+use Rattle.pk_meta.{specs.Page.meta_bytes, specs.PageChecks.IsContent}
+use Rattle.pk_nand.{specs.BoardState.BoardState, specs.Calls.ProgramFailed, specs.Calls.after_program, specs.Operations.IsErasedBlock, specs.Crash.Reached, specs.Crash.Went}
 use Rattle.pk_nand.specs.Pairs.{SameOutsidePair}
 use Rattle.pk_pin.specs.Frames.{Frames, free_frames, KeepsPage}
-use Rattle.pk_plan.specs.declared.owner.Owner.TheVariants.{Meta}
-use Rattle.pk_plan.specs.Quotas.{quota_of}
-use Rattle.pk_pool.specs.declared.state.BlockState.TheVariants.{Owned}
-use Rattle.pk_pool.specs.Blocks.{Blocks, IsSpare, PoolOnFlash, used_by, with_state}
+use Rattle.pk_plan.{specs.declared.owner.Owner.TheVariants.Meta, specs.Quotas.quota_of}
+use Rattle.pk_pool.{specs.declared.state.BlockState.TheVariants.Owned, specs.Blocks.Blocks, specs.Blocks.IsSpare, specs.Blocks.PoolOnFlash, specs.Blocks.used_by, specs.Blocks.with_state}
 use Rattle.pk_pool.specs.Taking.{TakesReady, ErasesFree, ReachesIn}
 use Rattle.pk_run.specs.Kept.{Kept, RunOnFlash, most_blocks, most_pages, page_of, with_page}
 use Rattle.pk_level.specs.Arenas.{IsPinnedIf}

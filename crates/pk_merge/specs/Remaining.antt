@@ -1,13 +1,10 @@
 -- What remains of a merge, as the settling of a drive counts it.
 use Rattle.std.specs.Prelude.{◌⊎◌, ℕ, ◌+◌, ◌-◌, ◌≤◌, if◌then◌else◌, length}
 use Rattle.pk_base.specs.Shape.{cap}
-use Rattle.pk_pool.specs.Blocks.{Blocks}
-use Rattle.pk_pool.specs.Unready.{unready}
+use Rattle.pk_pool.{specs.Blocks.Blocks, specs.Unready.unready}
 use Rattle.pk_run.specs.Kept.{Kept, most_pages, most_blocks}
 use Rattle.pk_law_work.specs.Rest.{Rest, Lowers, steps_of, whole_merge}
-use Rattle.pk_merge.specs.declared.source.Source.{Source}
-use Rattle.pk_merge.specs.Sources.{pages_in}
-use Rattle.pk_merge.specs.Merging.{Merger, can_gather, IsDone}
+use Rattle.pk_merge.{specs.declared.source.Source.Source, specs.Sources.pages_in, specs.Merging.Merger, specs.Merging.can_gather, specs.Merging.IsDone}
 
 module _ {X : Type 0} (source : Source X) (target : Kept) where
   -- Of a merge with an output of at most this many pages in this many blocks: the pages of source and target that are to be loaded, those of

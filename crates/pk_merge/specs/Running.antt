@@ -1,22 +1,15 @@
 -- What holds while a merge runs: of its parts in memory, of the flash, of the pool and of the arena.
 use Rattle.std.specs.Prelude.{◌≡◌, ◌⊎◌, ℕ, ◌+◌, ◌*◌, ◌<◌, ◌≤◌, min, Bool, true, T, List, [], ◌++◌, length}
-use Rattle.std.specs.List.{AllByRecursion}
-use Rattle.std.specs.FinMap.Entries.{is_sorted}
-use Rattle.pk_base.specs.Key.{key_cmp}
-use Rattle.pk_base.specs.Shape.{Shape, page_entries, cap, run_pages, run_blocks}
-use Rattle.pk_base.specs.Entry.{Entry}
-use Rattle.pk_base.specs.EntryChecks.{IsEntry}
+use Rattle.std.{specs.List.AllByRecursion, specs.FinMap.Entries.is_sorted}
+use Rattle.pk_base.{specs.Key.key_cmp, specs.Shape.Shape, specs.Shape.page_entries, specs.Shape.cap, specs.Shape.run_pages, specs.Shape.run_blocks, specs.Entry.Entry, specs.EntryChecks.IsEntry}
 use Rattle.pk_base.specs.Page.{Flash}
 use Rattle.pk_meta.specs.Over.{over, kept_at}
 use Rattle.pk_pin.specs.Frames.{Frames, free_frames}
-use Rattle.pk_plan.specs.declared.owner.Owner.TheVariants.{Meta}
-use Rattle.pk_plan.specs.Quotas.{quota_of}
+use Rattle.pk_plan.{specs.declared.owner.Owner.TheVariants.Meta, specs.Quotas.quota_of}
 use Rattle.pk_pool.specs.Blocks.{Blocks, PoolOnFlash, used_by}
 use Rattle.pk_run.specs.Kept.{Kept, RunOnFlash}
 use Rattle.pk_level.specs.Arenas.{IsPinnedIf}
-use Rattle.pk_merge.specs.declared.source.Source.{Source}
-use Rattle.pk_merge.specs.Sources.{blocks_in, Has, IsOf}
-use Rattle.pk_merge.specs.Merging.{Merger, left, StandsIn}
+use Rattle.pk_merge.{specs.declared.source.Source.Source, specs.Sources.blocks_in, specs.Sources.Has, specs.Sources.IsOf, specs.Merging.Merger, specs.Merging.left, specs.Merging.StandsIn}
 use Rattle.pk_merge.specs.Outputs.{AreMeta, BlocksApart, IsOutput}
 
 -- the whole output of a merge into a run of this level

@@ -1,14 +1,10 @@
 -- What is merged into a run: the frozen write buffer, or the run of the level above.
 use Rattle.std.specs.Prelude.{◌≡◌, ⊤, ℕ, ◌≤◌, Bool, false, List, [], length, slice_get}
-use Rattle.pk_base.specs.Shape.{Shape}
-use Rattle.pk_base.specs.Entry.{Entry}
-use Rattle.pk_base.specs.Page.{Flash}
+use Rattle.pk_base.{specs.Shape.Shape, specs.Entry.Entry, specs.Page.Flash}
 use Rattle.pk_pin.specs.Frames.{Frames}
-use Rattle.pk_nand.specs.BoardState.{BoardState}
-use Rattle.pk_nand.specs.Operations.{ReadFailed}
+use Rattle.pk_nand.{specs.BoardState.BoardState, specs.Operations.ReadFailed}
 use Rattle.pk_run.specs.Kept.{RunOnFlash, page_of, after_look}
-use Rattle.pk_merge.specs.declared.source.Source.{Source}
-use Rattle.pk_merge.specs.declared.source.Source.TheVariants.{Frozen, Run}
+use Rattle.pk_merge.{specs.declared.source.Source.Source, specs.declared.source.Source.TheVariants.Frozen, specs.declared.source.Source.TheVariants.Run}
 use Rattle.pk_merge.specs.Cursors.{Cursor, Follows, own_page, wants_page, MayLoad, Loads, FailsToLoad}
 
 -- how many entries it has

@@ -1,19 +1,13 @@
 -- What a step of a merge does: one action, and then entries are taken; and why it fails.
 use Rattle.std.specs.Prelude.{◌≡◌, ◌⊎◌, suc, Bool, false, [], slice_get}
-use Rattle.pk_nand.specs.BoardState.{BoardState}
-use Rattle.pk_nand.specs.Operations.{ReadFailed}
-use Rattle.pk_nand.specs.declared.types.Fault.{Fault}
+use Rattle.pk_nand.{specs.BoardState.BoardState, specs.Operations.ReadFailed, specs.declared.types.Fault.Fault}
 use Rattle.pk_nand.specs.declared.types.Fault.TheVariants.{Reading, Stopped}
 use Rattle.pk_pin.specs.Frames.{Frames}
-use Rattle.pk_pool.specs.Blocks.{Blocks, PoolOnFlash}
-use Rattle.pk_pool.specs.Taking.{FailsToErase}
+use Rattle.pk_pool.{specs.Blocks.Blocks, specs.Blocks.PoolOnFlash, specs.Taking.FailsToErase}
 use Rattle.pk_run.specs.Kept.{Kept, page_of, after_look}
-use Rattle.pk_merge.specs.declared.source.Source.{Source}
-use Rattle.pk_merge.specs.declared.next.Next.{Next}
+use Rattle.pk_merge.{specs.declared.source.Source.Source, specs.declared.next.Next.Next, specs.Cursors.Follows, specs.Cursors.own_page}
 use Rattle.pk_merge.specs.declared.next.Next.TheVariants.{LoadSource, LoadTarget, Gather, TakeBlock, Program, End}
-use Rattle.pk_merge.specs.Cursors.{Follows, own_page}
-use Rattle.pk_merge.specs.Sources.{FollowsIn, LookFails, after_look_at}
-use Rattle.pk_merge.specs.Merging.{Merger, can_gather, GoesOn, Tells}
+use Rattle.pk_merge.{specs.Sources.FollowsIn, specs.Sources.LookFails, specs.Sources.after_look_at, specs.Merging.Merger, specs.Merging.can_gather, specs.Merging.GoesOn, specs.Merging.Tells}
 use Rattle.pk_merge.specs.Outputs.{TakesBlock, ProgramsPage, FailsToProgram}
 
 -- ---- loads

@@ -1,23 +1,13 @@
 -- The pages that the reading of a run reads are those that hold its entries.
 use Rattle.std.proofs.Common.{◌≡◌, ℕ, zero, suc, ◌+◌, ◌^◌, ◌<◌, ◌≤◌, true, List, [], ◌∷◌, length, map, get_or, refl, sym, ap, subst, ◌∙◌, arith, Some, None}
 use Rattle.std.specs.Prelude.{nat_le, ◌&&◌, if◌then◌else◌, bytes_eq, Result, Ok, Err, IfOk}
-use Rattle.std.specs.List.{AllByRecursion, list_all}
-use Rattle.std.specs.Ordering.{is_lt}
-use Rattle.std.specs.FinMap.Entries.{is_sorted, below_all}
-use Rattle.std.proofs.lemmas.Bool.Decides.{nat_tests}
+use Rattle.std.{specs.List.AllByRecursion, specs.List.list_all, specs.Ordering.is_lt, specs.FinMap.Entries.is_sorted, specs.FinMap.Entries.below_all, proofs.lemmas.Bool.Decides.nat_tests}
 use Rattle.std.proofs.lemmas.Slice.Eq.{bytes_eq-Decides}
-use Rattle.pk_base.specs.Key.{Key, key_cmp, IsBelow, IsRising}
-use Rattle.pk_base.specs.Shape.{Shape, IsShape, page_entries}
-use Rattle.pk_base.specs.Entry.{Entry, key_of}
-use Rattle.pk_base.specs.EntryBytes.{is_entry, are_entries, entries_from}
-use Rattle.pk_base.specs.EntryChecks.{IsEntry}
-use Rattle.pk_meta.specs.declared.MetaHead.{MetaHead}
-use Rattle.pk_meta.specs.declared.BadMeta.{BadMeta}
-use Rattle.pk_meta.specs.Page.{meta_bytes, meta_entries}
-use Rattle.pk_meta.specs.PageChecks.{IsContent, IsMetaPage}
+use Rattle.pk_base.{specs.Key.Key, specs.Key.key_cmp, specs.Key.IsBelow, specs.Key.IsRising, specs.Shape.Shape, specs.Shape.IsShape, specs.Shape.page_entries, specs.Entry.Entry, specs.Entry.key_of}
+use Rattle.pk_base.{specs.EntryBytes.is_entry, specs.EntryBytes.are_entries, specs.EntryBytes.entries_from, specs.EntryChecks.IsEntry, proofs.Logic.both_true, proofs.Logic.lt_less}
 use Rattle.pk_base.proofs.Sound.{if_some, are_sound, entry_true, least_true}
+use Rattle.pk_meta.{specs.declared.MetaHead.MetaHead, specs.declared.BadMeta.BadMeta, specs.Page.meta_bytes, specs.Page.meta_entries, specs.PageChecks.IsContent, specs.PageChecks.IsMetaPage}
 use Rattle.pk_meta.proofs.PageLemmas.{meta_again, Exact, found, only}
-use Rattle.pk_base.proofs.Logic.{both_true, lt_less}
 
 -- ---- rising keys
 

@@ -1,14 +1,9 @@
 -- Which bytes are a meta page, the first field that is wrong, and the laws of reading and writing one.
 use Rattle.std.specs.Prelude.{◌≡◌, ◌≢◌, ℕ, ◌+◌, ◌-◌, ◌*◌, ◌<◌, ◌≤◌, ◌^◌, List, [], ◌∷◌, length, map, slice_index, true, ◌&&◌, nat_le, Option, Some, MatchOption, Contains, All}
 use Rattle.std.specs.List.{AllByRecursion}
-use Rattle.pk_base.specs.declared.sizes.TheConstants.{HEAD_BYTES, ENTRY_BYTES, LEVELS}
-use Rattle.pk_base.specs.Fields.{number_at, zeros}
-use Rattle.pk_base.specs.FieldFaults.{unlike, unless, first_fault}
-use Rattle.pk_base.specs.Key.{Key, IsRising, no_key}
-use Rattle.pk_base.specs.Shape.{Shape, IsShape, page_entries}
-use Rattle.pk_base.specs.Entry.{Entry, key_of}
-use Rattle.pk_base.specs.EntryBytes.{cell_at, cell_key}
-use Rattle.pk_base.specs.EntryChecks.{IsEntry, entries_fault}
+use Rattle.pk_base.{specs.declared.sizes.TheConstants.HEAD_BYTES, specs.declared.sizes.TheConstants.ENTRY_BYTES, specs.declared.sizes.TheConstants.LEVELS, specs.Fields.number_at, specs.Fields.zeros}
+use Rattle.pk_base.{specs.FieldFaults.unlike, specs.FieldFaults.unless, specs.FieldFaults.first_fault, specs.Key.Key, specs.Key.IsRising, specs.Key.no_key, specs.Entry.Entry, specs.Entry.key_of}
+use Rattle.pk_base.{specs.Shape.Shape, specs.Shape.IsShape, specs.Shape.page_entries, specs.EntryBytes.cell_at, specs.EntryBytes.cell_key, specs.EntryChecks.IsEntry, specs.EntryChecks.entries_fault}
 use Rattle.pk_meta.specs.Page.{meta_bytes, meta_entries, meta_magic}
 
 -- what a page can hold

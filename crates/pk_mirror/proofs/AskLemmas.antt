@@ -1,33 +1,20 @@
 -- What comes of a Retrieve or a List of a pair, from whose answer it is.
 use Rattle.std.proofs.Common.{◌≡◌, ◌==◌, inl, inr, ℕ, ◌≤◌, List, [], length, Bool, true, false, ◌||◌, if◌then◌else◌, nat_lt, Some, Result, Ok, Err, IfOk, IfErr, OnOk, refl, sym, ap, subst, ◌∙◌}
 use Rattle.std.proofs.lemmas.Bool.{eqb-true, eq-eqb}
-use Rattle.pk_base.specs.Key.{Key, IsKey, bytes_of}
-use Rattle.pk_base.specs.Map.{Map}
-use Rattle.pk_nvme.specs.Command.{Command}
-use Rattle.pk_nvme.specs.Reply.{Reply}
-use Rattle.pk_nvme.specs.Opcode.{op_of}
-use Rattle.pk_nvme.specs.declared.opcode.Opcode.{Opcode}
-use Rattle.pk_nvme.specs.declared.status.TheConstants.{UNRECOVERED_ERROR}
+use Rattle.pk_base.{specs.Key.Key, specs.Key.IsKey, specs.Key.bytes_of, specs.Map.Map}
+use Rattle.pk_nvme.{specs.Command.Command, specs.Reply.Reply, specs.Opcode.op_of, specs.declared.opcode.Opcode.Opcode, specs.declared.status.TheConstants.UNRECOVERED_ERROR}
 use Rattle.pk_nand.specs.Calls.{Rose}
 use Rattle.pk_model.specs.Answer.{refused, effect}
-use Rattle.pk_host.specs.declared.types.HostError.{HostError}
-use Rattle.pk_host.specs.declared.types.HostError.TheVariants.{Refused as HostRefused, Port as HostPort}
-use Rattle.pk_host.specs.Port.{PortState, Replies, Took}
-use Rattle.pk_host.specs.Calls.{retrieve_of}
-use Rattle.pk_host.specs.Outcomes.{Gives, AtMostOne, IsCause as IsHostCause, list_of, retrieved}
-use Rattle.pk_host.specs.Listing.{listed_by}
-use Rattle.pk_host.proofs.CauseLemmas.{retrieve_cause, list_cause}
-use Rattle.pk_mirror.specs.declared.error.Side.{Side}
-use Rattle.pk_mirror.specs.declared.error.Side.TheVariants.{First, Second}
-use Rattle.pk_mirror.specs.declared.error.MirrorError.{MirrorError}
+use Rattle.pk_host.{specs.declared.types.HostError.HostError, specs.declared.types.HostError.TheVariants.Refused as HostRefused, specs.declared.types.HostError.TheVariants.Port as HostPort}
+use Rattle.pk_host.{specs.Port.PortState, specs.Port.Replies, specs.Port.Took, specs.Calls.retrieve_of, specs.Listing.listed_by, proofs.CauseLemmas.retrieve_cause, proofs.CauseLemmas.list_cause}
+use Rattle.pk_host.{specs.Outcomes.Gives, specs.Outcomes.AtMostOne, specs.Outcomes.IsCause as IsHostCause, specs.Outcomes.list_of, specs.Outcomes.retrieved, proofs.PageLemmas.map_after_same}
+use Rattle.pk_mirror.{specs.declared.error.Side.Side, specs.declared.error.Side.TheVariants.First, specs.declared.error.Side.TheVariants.Second, specs.declared.error.MirrorError.MirrorError}
 use Rattle.pk_mirror.specs.declared.error.MirrorError.TheVariants.{Refused, Port, Split}
-use Rattle.pk_mirror.specs.Pair.{Mirrored, IsPair}
+use Rattle.pk_mirror.{specs.Pair.Mirrored, specs.Pair.IsPair, specs.Asks.SecondAnswers, specs.Asks.Asks, specs.Asks.StaysUnlessPort, specs.Asks.KeepsMaps}
 use Rattle.pk_mirror.specs.Causes.{Decides, is_port, port_failed, is_unanswered, unanswered, IsCause, IsReadError, HasFailed, BothFailed}
-use Rattle.pk_mirror.specs.Asks.{SecondAnswers, Asks, StaysUnlessPort, KeepsMaps}
 use Rattle.pk_mirror.proofs.ReplyLemmas.{Tells, retrieved_tells, listed_tells}
 use Rattle.pk_mirror.proofs.PairLemmas.{by_map, still_pair, one_leaves, ok_never, err_by, err_never}
 use Rattle.pk_mirror.proofs.WriteLemmas.{refused_or_port, refused_by, on_refused, on_port, refused_is, on_split, true_false}
-use Rattle.pk_host.proofs.PageLemmas.{map_after_same}
 
 -- ---- a command that leaves the map
 

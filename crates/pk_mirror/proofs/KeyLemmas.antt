@@ -1,38 +1,22 @@
 -- One key on both drives: what each has of it, and what a delete or a store makes of it on the second.
 use Rattle.std.proofs.Common.{◌≡◌, inl, inr, ℕ, ◌≤◌, ◌==◌, min, nat_le, if◌then◌else◌, List, [], ◌∷◌, length, take, Bool, true, false, not, ◌&&◌, Option, Some, None, is_some, Result, Ok, Err}
 use Rattle.std.proofs.Common.{MatchBool, refl, sym, ap, subst, ◌∙◌, arith}
-use Rattle.std.proofs.lemmas.Bool.{le-leb}
-use Rattle.std.proofs.lemmas.List.{take_all}
-use Rattle.std.specs.FinMap.{get, contains_key, insert, remove}
-use Rattle.pk_base.specs.Choices.{or_else}
-use Rattle.pk_base.specs.Key.{Key, IsKey, bytes_of, space_of}
-use Rattle.pk_base.specs.Shape.{Shape, greatest, charge}
+use Rattle.std.{proofs.lemmas.Bool.le-leb, proofs.lemmas.List.take_all, specs.FinMap.get, specs.FinMap.contains_key, specs.FinMap.insert, specs.FinMap.remove}
+use Rattle.pk_base.{specs.Choices.or_else, specs.Key.Key, specs.Key.IsKey, specs.Key.bytes_of, specs.Key.space_of, specs.Shape.Shape, specs.Shape.greatest, specs.Shape.charge}
 use Rattle.pk_base.specs.Map.{Map, live, pages_if_some}
-use Rattle.pk_nvme.specs.Command.{Command, key}
-use Rattle.pk_nvme.specs.Reply.{Reply}
+use Rattle.pk_nvme.{specs.Command.Command, specs.Command.key, specs.Reply.Reply, specs.declared.opcode.TheConstants.STORE}
 use Rattle.pk_nvme.specs.declared.opcode.Opcode.TheVariants.{Store, Retrieve, Delete, Exist, List as ListKeys}
-use Rattle.pk_nvme.specs.declared.opcode.TheConstants.{STORE}
 use Rattle.pk_nvme.specs.declared.status.TheConstants.{CAPACITY_EXCEEDED, INVALID_VALUE_SIZE, INVALID_KEY_SIZE, KEY_DOES_NOT_EXIST}
-use Rattle.pk_model.specs.Answer.{check, late_of, live_after, refused}
-use Rattle.pk_model.specs.Spaces.{in_space}
-use Rattle.pk_model.proofs.Machines.{live_stored}
-use Rattle.pk_host.specs.declared.types.HostError.{HostError}
-use Rattle.pk_host.specs.declared.types.HostError.TheVariants.{Refused as HostRefused, Port as HostPort}
-use Rattle.pk_host.specs.declared.types.StoreRule.TheVariants.{Any}
-use Rattle.pk_host.specs.Port.{PortState, Took}
-use Rattle.pk_host.specs.Calls.{store_of, retrieve_of, delete_of, exist_of}
+use Rattle.pk_model.{specs.Answer.check, specs.Answer.late_of, specs.Answer.live_after, specs.Answer.refused, specs.Spaces.in_space, proofs.Machines.live_stored}
+use Rattle.pk_host.{specs.declared.types.HostError.HostError, specs.declared.types.HostError.TheVariants.Refused as HostRefused, specs.declared.types.HostError.TheVariants.Port as HostPort}
+use Rattle.pk_host.{specs.declared.types.StoreRule.TheVariants.Any, specs.Port.PortState, specs.Port.Took, specs.Calls.store_of, specs.Calls.retrieve_of, specs.Calls.delete_of, specs.Calls.exist_of}
 use Rattle.pk_host.specs.Outcomes.{Gives, list_of, stored, retrieved, existed, Fetches, IsFront, Tests, Deletes, Leaves}
 use Rattle.pk_host.proofs.CommandLemmas.{keyed_fault, delete_by, exist_by, key-of_key}
-use Rattle.pk_mirror.specs.declared.error.Side.{Side}
-use Rattle.pk_mirror.specs.declared.error.Side.TheVariants.{First, Second}
-use Rattle.pk_mirror.specs.declared.error.MirrorError.{MirrorError}
-use Rattle.pk_mirror.specs.Pair.{Alike}
-use Rattle.pk_mirror.specs.Causes.{IsOn, IsCause, IsReadError}
-use Rattle.pk_mirror.specs.Agreement.{NoOther, HaveSame, AreAny, IsPart}
-use Rattle.pk_mirror.specs.Visits.{Visits, OnlyReadsFail}
+use Rattle.pk_mirror.{specs.declared.error.Side.Side, specs.declared.error.Side.TheVariants.First, specs.declared.error.Side.TheVariants.Second, specs.declared.error.MirrorError.MirrorError}
+use Rattle.pk_mirror.{specs.Pair.Alike, specs.Causes.IsOn, specs.Causes.IsCause, specs.Causes.IsReadError, specs.Visits.Visits, specs.Visits.OnlyReadsFail}
+use Rattle.pk_mirror.{specs.Agreement.NoOther, specs.Agreement.HaveSame, specs.Agreement.AreAny, specs.Agreement.IsPart, proofs.AskLemmas.OnlyUnread, proofs.AskLemmas.one_keeps}
 use Rattle.pk_mirror.proofs.ReplyLemmas.{Tells, unless_refused, stored_tells}
 use Rattle.pk_mirror.proofs.WriteLemmas.{refused_or_port, refused_by, on_refused, on_port}
-use Rattle.pk_mirror.proofs.AskLemmas.{OnlyUnread, one_keeps}
 use Rattle.pk_mirror.proofs.MapLemmas.{value_fits, by_key, get_removed, get_removed_other, get_inserted, get_inserted_other, missing_key, part_insert, live_of_part}
 
 -- ---- what a Retrieve found

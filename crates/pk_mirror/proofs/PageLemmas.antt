@@ -1,32 +1,18 @@
 -- Pages of keys that are visited, one after another.
 use Rattle.std.proofs.Common.{◌≡◌, inl, inr, ◌==◌, ℕ, ◌-◌, ◌<◌, ◌≤◌, if◌then◌else◌, nat_lt, List, [], ◌∷◌, ◌++◌, length, filter, slice_index_or, Bool, true, false, Option, Some, None, is_some, Result}
 use Rattle.std.proofs.Common.{Ok, Err, IfErr, IfSome, refl, sym, ap, subst, ◌∙◌, arith, length-append}
-use Rattle.std.proofs.lemmas.Bool.{ltb-true}
-use Rattle.std.specs.List.{AllByRecursion}
-use Rattle.std.specs.Ordering.{is_lt}
-use Rattle.std.specs.FinMap.{get, keys}
-use Rattle.pk_base.specs.Key.{Key, IsKey, IsBelow, key_cmp, bytes_of}
-use Rattle.pk_base.specs.Map.{Map}
+use Rattle.std.{proofs.lemmas.Bool.ltb-true, specs.List.AllByRecursion, specs.Ordering.is_lt, specs.FinMap.get, specs.FinMap.keys}
+use Rattle.pk_base.{specs.Key.Key, specs.Key.IsKey, specs.Key.IsBelow, specs.Key.key_cmp, specs.Key.bytes_of, specs.Map.Map}
 use Rattle.pk_nvme.specs.Command.{Command, key_or_none}
-use Rattle.pk_host.specs.declared.types.HostError.{HostError}
-use Rattle.pk_host.specs.declared.types.HostError.TheVariants.{Refused as HostRefused, Port as HostPort}
-use Rattle.pk_host.specs.Port.{PortState, Took}
-use Rattle.pk_host.specs.Outcomes.{Gives, TookSome}
+use Rattle.pk_host.{specs.declared.types.HostError.HostError, specs.declared.types.HostError.TheVariants.Refused as HostRefused, specs.declared.types.HostError.TheVariants.Port as HostPort}
+use Rattle.pk_host.{specs.Port.PortState, specs.Port.Took, specs.Outcomes.Gives, specs.Outcomes.TookSome, proofs.PageLemmas.next_page, proofs.PageLemmas.nothing_above, specs.Calls.IsOwnKey}
 use Rattle.pk_host.specs.Listing.{above, page_after, Pages, Follows, TellsKeys, listed_by}
-use Rattle.pk_host.proofs.PageLemmas.{next_page, nothing_above}
 use Rattle.pk_host.proofs.RisingLemmas.{are_above, all_middle, snoc_of}
-use Rattle.pk_host.specs.Calls.{IsOwnKey}
-use Rattle.pk_mirror.specs.Ranks.{IsText, keys_left}
-use Rattle.pk_mirror.specs.declared.error.MirrorError.{MirrorError}
-use Rattle.pk_mirror.specs.Pair.{Mirrored, IsPair}
-use Rattle.pk_mirror.specs.Agreement.{NoOther, HaveSame, AreAny, IsPart}
-use Rattle.pk_mirror.specs.Causes.{AreAsking, IsReadError}
+use Rattle.pk_mirror.{specs.Ranks.IsText, specs.Ranks.keys_left, specs.declared.error.MirrorError.MirrorError, specs.Pair.Mirrored, specs.Pair.IsPair, specs.Causes.AreAsking, specs.Causes.IsReadError}
+use Rattle.pk_mirror.{specs.Agreement.NoOther, specs.Agreement.HaveSame, specs.Agreement.AreAny, specs.Agreement.IsPart, specs.Spending.Spent, proofs.MapLemmas.key_of, proofs.MapLemmas.same_by_keys}
 use Rattle.pk_mirror.specs.Visits.{Visits, VisitsAll, VisitsUpTo, IsUpTo, Turns, OnlyReadsFail}
-use Rattle.pk_mirror.specs.Spending.{Spent}
-use Rattle.pk_mirror.proofs.PairLemmas.{by_map, none_tells, other_tells, still_pair}
-use Rattle.pk_mirror.proofs.MapLemmas.{key_of, same_by_keys}
+use Rattle.pk_mirror.{proofs.PairLemmas.by_map, proofs.PairLemmas.none_tells, proofs.PairLemmas.other_tells, proofs.PairLemmas.still_pair, proofs.SpendLemmas.spent_none, proofs.SpendLemmas.took_spent}
 use Rattle.pk_mirror.proofs.VisitLemmas.{all_map, all_append, asking_none, asking_more}
-use Rattle.pk_mirror.proofs.SpendLemmas.{spent_none, took_spent}
 use Rattle.pk_mirror.proofs.RankLemmas.{after_first, after_key}
 
 -- ---- lists of keys

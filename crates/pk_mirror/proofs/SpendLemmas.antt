@@ -1,23 +1,14 @@
 -- How many commands of a resync change the second drive's map.
 use Rattle.std.proofs.Common.{◌≡◌, inl, inr, ℕ, ◌+◌, ◌-◌, ◌⊎◌, ◌≤◌, ◌==◌, cond, if◌then◌else◌, List, [], ◌∷◌, ◌++◌, Bool, true, false, Option, Some, None, is_some, refl, sym, ap, ◌∙◌, arith}
-use Rattle.std.specs.List.{AllByRecursion}
-use Rattle.std.specs.FinMap.{get, insert, remove, len, contains_key, len-insert, len-remove}
-use Rattle.pk_base.specs.Key.{Key}
-use Rattle.pk_base.specs.Map.{Map}
-use Rattle.pk_nvme.specs.Command.{Command}
-use Rattle.pk_nvme.specs.declared.opcode.TheConstants.{STORE, DELETE}
+use Rattle.std.{specs.List.AllByRecursion, specs.FinMap.get, specs.FinMap.insert, specs.FinMap.remove, specs.FinMap.len, specs.FinMap.contains_key, specs.FinMap.len-insert, specs.FinMap.len-remove}
+use Rattle.pk_base.{specs.Key.Key, specs.Map.Map, proofs.Logic.some_same}
+use Rattle.pk_nvme.{specs.Command.Command, specs.declared.opcode.TheConstants.STORE, specs.declared.opcode.TheConstants.DELETE}
 use Rattle.pk_model.proofs.MapLemmas.{key_total}
-use Rattle.pk_host.specs.Port.{PortState, Took}
-use Rattle.pk_host.specs.Calls.{delete_of, store_of}
+use Rattle.pk_host.{specs.Port.PortState, specs.Port.Took, specs.Calls.delete_of, specs.Calls.store_of, specs.declared.types.StoreRule.TheVariants.Any}
 use Rattle.pk_host.specs.Outcomes.{TookSome, Fetches, Deletes, Tests, Leaves}
-use Rattle.pk_host.specs.declared.types.StoreRule.TheVariants.{Any}
-use Rattle.pk_mirror.specs.Causes.{OnlyAsks, AreAsking}
-use Rattle.pk_mirror.specs.Agreement.{NoOther, AreAny, IsPart}
-use Rattle.pk_mirror.specs.Visits.{Visits, VisitsAll}
+use Rattle.pk_mirror.{specs.Causes.OnlyAsks, specs.Causes.AreAsking, specs.Agreement.NoOther, specs.Agreement.AreAny, specs.Agreement.IsPart, specs.Visits.Visits, specs.Visits.VisitsAll}
 use Rattle.pk_mirror.specs.Spending.{OnlyLooks, LooksOr, opcode_count, AreOfResync, Spent, Spending, Deleted, Deleting, Stored, Storing}
-use Rattle.pk_mirror.proofs.MapLemmas.{part_insert, len_of_part, some_len}
-use Rattle.pk_mirror.proofs.KeyLemmas.{found_some}
-use Rattle.pk_base.proofs.Logic.{some_same}
+use Rattle.pk_mirror.{proofs.MapLemmas.part_insert, proofs.MapLemmas.len_of_part, proofs.MapLemmas.some_len, proofs.KeyLemmas.found_some}
 
 -- ---- lists of commands
 

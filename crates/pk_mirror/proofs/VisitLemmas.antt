@@ -1,20 +1,13 @@
 -- One visit after another.
 use Rattle.std.proofs.Common.{◌≡◌, ◌≢◌, ℕ, List, [], ◌∷◌, ◌++◌, Some, Result, Err, refl, sym, subst, ◌∙◌}
 use Rattle.std.specs.List.{AllByRecursion}
-use Rattle.pk_base.specs.Key.{Key}
-use Rattle.pk_base.specs.Map.{Map}
+use Rattle.pk_base.{specs.Key.Key, specs.Map.Map}
 use Rattle.pk_nvme.specs.Command.{Command}
-use Rattle.pk_host.specs.Port.{PortState, Took}
-use Rattle.pk_host.specs.TookLaws.{took_both}
-use Rattle.pk_host.specs.Outcomes.{TookSome}
-use Rattle.pk_mirror.specs.declared.error.Side.TheVariants.{First, Second}
-use Rattle.pk_mirror.specs.declared.error.MirrorError.{MirrorError}
+use Rattle.pk_host.{specs.Port.PortState, specs.Port.Took, specs.TookLaws.took_both, specs.Outcomes.TookSome}
+use Rattle.pk_mirror.{specs.declared.error.Side.TheVariants.First, specs.declared.error.Side.TheVariants.Second, specs.declared.error.MirrorError.MirrorError, specs.Spending.Spent}
 use Rattle.pk_mirror.specs.declared.error.MirrorError.TheVariants.{Refused, Port, Split}
-use Rattle.pk_mirror.specs.Causes.{RefusedBy, IsCause, OnlyAsks, AreAsking, NotEmpty}
-use Rattle.pk_mirror.specs.Visits.{Visits, OnlyReadsFail}
-use Rattle.pk_mirror.specs.Spending.{Spent}
-use Rattle.pk_mirror.proofs.PairLemmas.{rose_later}
-use Rattle.pk_mirror.proofs.SpendLemmas.{spent_none, took_spent, goes_visits}
+use Rattle.pk_mirror.{specs.Causes.RefusedBy, specs.Causes.IsCause, specs.Causes.OnlyAsks, specs.Causes.AreAsking, specs.Causes.NotEmpty, specs.Visits.Visits, specs.Visits.OnlyReadsFail}
+use Rattle.pk_mirror.{proofs.PairLemmas.rose_later, proofs.SpendLemmas.spent_none, proofs.SpendLemmas.took_spent, proofs.SpendLemmas.goes_visits}
 
 pub all_map : (P Q : Key → Type 0) → ((k : Key) → P k → Q k) → (ks : List Key) → AllByRecursion P ks → AllByRecursion Q ks
 all_map P Q f [] h = tt

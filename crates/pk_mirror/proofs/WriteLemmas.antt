@@ -1,27 +1,15 @@
 -- What comes of a Store or a Delete on both drives, from how each of them answered it.
 use Rattle.std.proofs.Common.{◌≡◌, inl, inr, ◌==◌, ℕ, List, [], Bool, true, false, Some, Result, Ok, Err, IfOk, IfErr, OnOk, refl, sym, ap, subst, ◌∙◌, ◌∷◌}
-use Rattle.pk_base.specs.Shape.{Shape}
-use Rattle.pk_base.specs.Map.{Map}
-use Rattle.pk_nvme.specs.Command.{Command}
-use Rattle.pk_nvme.specs.Reply.{Reply}
-use Rattle.pk_nvme.specs.Opcode.{op_of}
-use Rattle.pk_nvme.specs.declared.opcode.Opcode.{Opcode}
-use Rattle.pk_nvme.specs.declared.status.TheConstants.{UNRECOVERED_ERROR}
+use Rattle.pk_base.{specs.Shape.Shape, specs.Map.Map}
+use Rattle.pk_nvme.{specs.Command.Command, specs.Reply.Reply, specs.Opcode.op_of, specs.declared.opcode.Opcode.Opcode, specs.declared.status.TheConstants.UNRECOVERED_ERROR}
 use Rattle.pk_nand.specs.Calls.{Rose}
-use Rattle.pk_model.specs.Answer.{reply_of, success, map_after}
-use Rattle.pk_model.specs.Run.{Step}
-use Rattle.pk_model.specs.Spaces.{one_space}
-use Rattle.pk_host.specs.declared.types.HostError.{HostError}
+use Rattle.pk_model.{specs.Answer.reply_of, specs.Answer.success, specs.Answer.map_after, specs.Run.Step, specs.Spaces.one_space}
+use Rattle.pk_host.{specs.declared.types.HostError.HostError, specs.Port.PortState, specs.Port.Replies, specs.Port.Took, specs.TookLaws.took_none}
 use Rattle.pk_host.specs.declared.types.HostError.TheVariants.{Refused as HostRefused, Port as HostPort, Memory}
-use Rattle.pk_host.specs.Port.{PortState, Replies, Took}
-use Rattle.pk_host.specs.TookLaws.{took_none}
 use Rattle.pk_host.specs.Outcomes.{Gives, AtMostOne, Leaves}
-use Rattle.pk_mirror.specs.declared.error.Side.{Side}
-use Rattle.pk_mirror.specs.declared.error.Side.TheVariants.{First, Second}
-use Rattle.pk_mirror.specs.declared.error.MirrorError.{MirrorError}
+use Rattle.pk_mirror.{specs.declared.error.Side.Side, specs.declared.error.Side.TheVariants.First, specs.declared.error.Side.TheVariants.Second, specs.declared.error.MirrorError.MirrorError}
 use Rattle.pk_mirror.specs.declared.error.MirrorError.TheVariants.{Refused, Port, Split}
-use Rattle.pk_mirror.specs.Pair.{Mirrored, IsPair, HoldsOneOf}
-use Rattle.pk_mirror.specs.Causes.{IsOn, Decides, is_port, RefusedBy, IsCause}
+use Rattle.pk_mirror.{specs.Pair.Mirrored, specs.Pair.IsPair, specs.Pair.HoldsOneOf, specs.Causes.IsOn, specs.Causes.Decides, specs.Causes.is_port, specs.Causes.RefusedBy, specs.Causes.IsCause}
 use Rattle.pk_mirror.specs.Writes.{Writes, Mirrors, SecondRefused, StaysInStep, SecondReadFailed, FirstKept}
 use Rattle.pk_mirror.proofs.ReplyLemmas.{Tells, err_same, answer_leaves, refusal_leaves, second_unread}
 use Rattle.pk_mirror.proofs.PairLemmas.{by_map, still_pair, one_leaves, ok_by, ok_never, ok_of, if_ok_by, if_ok_never, if_ok_of, err_by, err_never}

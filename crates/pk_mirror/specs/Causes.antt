@@ -2,18 +2,11 @@
 use Rattle.std.specs.Prelude.{◌≡◌, ◌≢◌, ◌⊎◌, ℕ, List, [], Bool, true, false, ◌==◌, Result, Ok, Err}
 use Rattle.std.specs.List.{AllByRecursion}
 use Rattle.pk_base.specs.Key.{Key}
-use Rattle.pk_nvme.specs.Command.{Command}
-use Rattle.pk_nvme.specs.Reply.{Reply}
-use Rattle.pk_nvme.specs.declared.status.TheConstants.{SUCCESSFUL_COMPLETION, UNRECOVERED_ERROR}
+use Rattle.pk_nvme.{specs.Command.Command, specs.Reply.Reply, specs.declared.status.TheConstants.SUCCESSFUL_COMPLETION, specs.declared.status.TheConstants.UNRECOVERED_ERROR}
 use Rattle.pk_nand.specs.Calls.{Rose}
-use Rattle.pk_host.specs.Port.{PortState, Replies, Took}
-use Rattle.pk_host.specs.Calls.{retrieve_of}
-use Rattle.pk_host.specs.Outcomes.{list_of, TookSome}
-use Rattle.pk_host.specs.declared.types.HostError.{HostError}
+use Rattle.pk_host.{specs.Port.PortState, specs.Port.Replies, specs.Port.Took, specs.Calls.retrieve_of, specs.Outcomes.list_of, specs.Outcomes.TookSome, specs.declared.types.HostError.HostError}
 use Rattle.pk_host.specs.declared.types.HostError.TheVariants.{Refused as HostRefused, Port as HostPort, Memory}
-use Rattle.pk_mirror.specs.declared.error.Side.{Side}
-use Rattle.pk_mirror.specs.declared.error.Side.TheVariants.{First, Second}
-use Rattle.pk_mirror.specs.declared.error.MirrorError.{MirrorError}
+use Rattle.pk_mirror.{specs.declared.error.Side.Side, specs.declared.error.Side.TheVariants.First, specs.declared.error.Side.TheVariants.Second, specs.declared.error.MirrorError.MirrorError}
 use Rattle.pk_mirror.specs.declared.error.MirrorError.TheVariants.{Refused, Port, Split}
 
 -- the error of this side; that memory is missing is none, as no command of a pair takes any

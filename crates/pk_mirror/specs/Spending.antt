@@ -1,15 +1,10 @@
 -- How many commands a resync asks of the second drive that change its map.
 use Rattle.std.specs.Prelude.{◌≡◌, ◌⊎◌, ℕ, ◌+◌, ◌-◌, ◌≤◌, ◌==◌, if◌then◌else◌, List, [], ◌∷◌, Some}
-use Rattle.std.specs.List.{AllByRecursion}
-use Rattle.std.specs.FinMap.{len}
-use Rattle.pk_base.specs.Key.{Key}
-use Rattle.pk_base.specs.Map.{Map}
-use Rattle.pk_nvme.specs.Command.{Command}
-use Rattle.pk_nvme.specs.declared.opcode.TheConstants.{STORE, DELETE}
-use Rattle.pk_host.specs.Port.{PortState}
-use Rattle.pk_host.specs.Calls.{exist_of}
-use Rattle.pk_mirror.specs.Causes.{OnlyAsks}
-use Rattle.pk_mirror.specs.Agreement.{AreAny, IsPart}
+use Rattle.std.{specs.List.AllByRecursion, specs.FinMap.len}
+use Rattle.pk_base.{specs.Key.Key, specs.Map.Map}
+use Rattle.pk_nvme.{specs.Command.Command, specs.declared.opcode.TheConstants.STORE, specs.declared.opcode.TheConstants.DELETE}
+use Rattle.pk_host.{specs.Port.PortState, specs.Calls.exist_of}
+use Rattle.pk_mirror.{specs.Causes.OnlyAsks, specs.Agreement.AreAny, specs.Agreement.IsPart}
 
 -- a List, a Retrieve or an Exist
 abbrev pub OnlyLooks : Command → Type 0

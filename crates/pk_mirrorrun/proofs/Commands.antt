@@ -1,36 +1,20 @@
 -- The commands of a word on each drive: which maps they leave, and how many roots they install.
 use Rattle.std.proofs.Common.{◌≡◌, inl, inr, ℕ, ◌+◌, ◌*◌, ◌≤◌, ◌⊎◌, ◌==◌, if◌then◌else◌, cond, true, false, length, List, [], ◌∷◌, ◌++◌, Option, Some, None, refl, sym, ap, subst, ◌∙◌, arith}
-use Rattle.std.specs.FinMap.{get as value_at, get-insert, get-remove}
-use Rattle.std.specs.Ordering.{eq_by_cmp}
-use Rattle.std.proofs.lemmas.Bool.{eq-eqb}
-use Rattle.pk_base.specs.Key.{Key, key_cmp, space_of}
-use Rattle.pk_base.specs.Shape.{Shape}
-use Rattle.pk_base.specs.Page.{Flash}
-use Rattle.pk_base.specs.Map.{Map}
-use Rattle.pk_nvme.specs.Command.{Command, key as key_of}
-use Rattle.pk_nvme.specs.Opcode.{op_of}
-use Rattle.pk_nvme.specs.declared.opcode.TheConstants.{STORE, DELETE}
+use Rattle.std.{specs.FinMap.get as value_at, specs.FinMap.get-insert, specs.FinMap.get-remove, specs.Ordering.eq_by_cmp, proofs.lemmas.Bool.eq-eqb}
+use Rattle.pk_base.{specs.Key.Key, specs.Key.key_cmp, specs.Key.space_of, specs.Shape.Shape, specs.Page.Flash, specs.Map.Map}
+use Rattle.pk_nvme.{specs.Command.Command, specs.Command.key as key_of, specs.Opcode.op_of, specs.declared.opcode.TheConstants.STORE, specs.declared.opcode.TheConstants.DELETE}
 use Rattle.pk_nvme.specs.declared.opcode.Opcode.{Opcode}
 use Rattle.pk_nvme.specs.declared.opcode.Opcode.TheVariants.{Flush, Store, Retrieve, List as ListKeys, Delete, Exist, Tick, Report}
-use Rattle.pk_model.specs.Answer.{refused, effect, map_after}
-use Rattle.pk_model.specs.Kept.{Kept}
-use Rattle.pk_model.specs.Reading.{Holds}
-use Rattle.pk_model.specs.Run.{Exchange, commands, RunWithin}
-use Rattle.pk_call.specs.Calling.{only_looks}
-use Rattle.pk_call.specs.Exec.{most_installs}
-use Rattle.pk_host.specs.Calls.{store_of, delete_of}
-use Rattle.pk_host.specs.declared.types.StoreRule.TheVariants.{Any}
-use Rattle.pk_host.specs.Port.{PortState}
-use Rattle.pk_port.specs.Chained.{installs_of, installs}
-use Rattle.pk_mirror.specs.Causes.{OnlyAsks, AreAsking}
-use Rattle.pk_mirror.specs.Spending.{OnlyLooks, LooksOr, opcode_count}
+use Rattle.pk_model.{specs.Answer.refused, specs.Answer.effect, specs.Answer.map_after, specs.Kept.Kept, specs.Reading.Holds, specs.Run.Exchange, specs.Run.commands, specs.Run.RunWithin}
+use Rattle.pk_model.{specs.Spaces.Terms, specs.Spaces.limit_of, specs.Spaces.in_space, proofs.MapLemmas.key_total}
+use Rattle.pk_model.proofs.SpaceLemmas.{by_keys, get_in_space, same_tied}
+use Rattle.pk_call.{specs.Calling.only_looks, specs.Exec.most_installs}
+use Rattle.pk_host.{specs.Calls.store_of, specs.Calls.delete_of, specs.declared.types.StoreRule.TheVariants.Any, specs.Port.PortState}
+use Rattle.pk_port.{specs.Chained.installs_of, specs.Chained.installs, proofs.Isolating.first_left}
+use Rattle.pk_mirror.{specs.Causes.OnlyAsks, specs.Causes.AreAsking, specs.Spending.OnlyLooks, specs.Spending.LooksOr, specs.Spending.opcode_count}
 use Rattle.pk_mirrorwords.specs.PairTasks.{PairTask, put, get, delete, list, resync, change_of, after_change, map_left}
 use Rattle.pk_mirrorwords.specs.PairAnswers.{AreChange, AreOfFirst, AreOfPair, AreOfSecond}
 use Rattle.pk_mirrorrun.specs.PairTold.{most_pair_roots}
-use Rattle.pk_model.specs.Spaces.{Terms, limit_of, in_space}
-use Rattle.pk_model.proofs.MapLemmas.{key_total}
-use Rattle.pk_model.proofs.SpaceLemmas.{by_keys, get_in_space, same_tied}
-use Rattle.pk_port.proofs.Isolating.{first_left}
 
 -- ---- maps
 

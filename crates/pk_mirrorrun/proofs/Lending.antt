@@ -1,19 +1,12 @@
 -- Two drives that are lent as ports to a pair.
 use Rattle.std.proofs.Common.{◌≡◌, ◌≤◌, inl, inr, ℕ, List, true, false, is_some, [], Ok, refl, sym, ap, subst, ◌∙◌, ◌∷◌}
-use Rattle.pk_base.specs.Entry.{Entry}
-use Rattle.pk_base.specs.Shape.{Shape, limit}
-use Rattle.pk_base.specs.Map.{Map}
-use Rattle.pk_nand.specs.BoardState.{BoardState}
-use Rattle.pk_nand.specs.Calls.{IsReady}
-use Rattle.pk_model.specs.Reading.{reading, Holds}
-use Rattle.pk_call.specs.Sight.{Sight}
-use Rattle.pk_call.specs.Drive.{HoldsMap}
-use Rattle.pk_model.specs.Spaces.{limit_of, in_space}
-use Rattle.pk_port.specs.Steps.{Mounted, Standing, mount, seen}
-use Rattle.pk_port.proofs.Stepping.{part_of}
+use Rattle.pk_base.{specs.Entry.Entry, specs.Shape.Shape, specs.Shape.limit, specs.Map.Map}
+use Rattle.pk_nand.{specs.BoardState.BoardState, specs.Calls.IsReady}
+use Rattle.pk_model.{specs.Reading.reading, specs.Reading.Holds, specs.Spaces.limit_of, specs.Spaces.in_space}
+use Rattle.pk_call.{specs.Sight.Sight, specs.Drive.HoldsMap}
+use Rattle.pk_port.{specs.Steps.Mounted, specs.Steps.Standing, specs.Steps.mount, specs.Steps.seen, proofs.Stepping.part_of}
 use Rattle.pk_mirror.specs.Pair.{Mirrored}
-use Rattle.pk_mirrorwords.specs.PairTasks.{PairTask}
-use Rattle.pk_mirrorwords.specs.PairAnswers.{IsToldPair, PairSaid}
+use Rattle.pk_mirrorwords.{specs.PairTasks.PairTask, specs.PairAnswers.IsToldPair, specs.PairAnswers.PairSaid}
 use Rattle.pk_mirrorrun.specs.PairTold.{IsServing, BothWalked}
 
 told_both : (shape : Shape) (a c : BoardState) (m n : Map) → Holds shape a.pages m → Holds shape c.pages n

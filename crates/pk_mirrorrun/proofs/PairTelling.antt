@@ -1,45 +1,23 @@
 -- What a word of a pair makes of both boards.
 use Rattle.std.proofs.Common.{◌≡◌, ◌⊎◌, inl, inr, ℕ, ◌+◌, ◌≤◌, List, [], length, Option, Some, None, refl, sym, ap, subst, ◌∙◌, true, false, arith, ◌∷◌}
 use Rattle.std.specs.FinMap.{get as value_at}
-use Rattle.pk_base.specs.Shape.{Shape}
-use Rattle.pk_base.specs.Page.{Flash}
-use Rattle.pk_base.specs.Map.{Map}
+use Rattle.pk_base.{specs.Shape.Shape, specs.Page.Flash, specs.Map.Map, proofs.Logic.some_same}
 use Rattle.pk_nvme.specs.Command.{Command}
-use Rattle.pk_nand.specs.BoardState.{BoardState}
-use Rattle.pk_nand.specs.Calls.{Rose, longer}
-use Rattle.pk_nand.specs.Operations.{after_post, PostFailed}
-use Rattle.pk_nand.specs.Effects.{OnlyFlash}
-use Rattle.pk_model.specs.Growth.{Goes}
-use Rattle.pk_model.specs.Kept.{rise}
-use Rattle.pk_model.specs.Reading.{reading, Holds}
-use Rattle.pk_call.specs.Sight.{Sight}
-use Rattle.pk_model.specs.Spaces.{limits_at, limit_of, in_space}
-use Rattle.pk_model.specs.Wear.{roots, is_worn}
-use Rattle.pk_model.proofs.Growing.{weaken_went, Goes-reaches}
+use Rattle.pk_nand.{specs.BoardState.BoardState, specs.Calls.Rose, specs.Calls.longer, specs.Operations.after_post, specs.Operations.PostFailed, specs.Effects.OnlyFlash}
+use Rattle.pk_model.{specs.Growth.Goes, specs.Kept.rise, specs.Reading.reading, specs.Reading.Holds, specs.Spaces.limits_at, specs.Spaces.limit_of, specs.Spaces.in_space}
+use Rattle.pk_model.{specs.Wear.roots, specs.Wear.is_worn, proofs.Growing.weaken_went, proofs.Growing.Goes-reaches, specs.Run.Exchange, specs.Run.commands}
+use Rattle.pk_call.{specs.Sight.Sight, specs.Meter.Meter, specs.Meter.meter}
 use Rattle.pk_words.specs.Lines.{failed_line}
-use Rattle.pk_call.specs.Meter.{Meter, meter}
-use Rattle.pk_model.specs.Run.{Exchange, commands}
-use Rattle.pk_serve.proofs.Counting.{metered-unworn, few_unworn}
+use Rattle.pk_serve.{proofs.Counting.metered-unworn, proofs.Counting.few_unworn, proofs.Limiting.limits_some}
 use Rattle.pk_mirror.specs.Causes.{NotEmpty}
-use Rattle.pk_port.specs.Asking.{KeptSilently, KeptWord}
-use Rattle.pk_port.specs.Steps.{Standing, HasCause, standing, seen}
-use Rattle.pk_port.proofs.Stepping.{part_of, part_held}
-use Rattle.pk_port.proofs.Serving.{mounted_limits}
-use Rattle.pk_serve.proofs.Limiting.{limits_some}
-use Rattle.pk_port.specs.Chained.{installs, AllServed, HaltedAt, Chained}
-use Rattle.pk_port.specs.declared.halt.Halt.{Halt}
-use Rattle.pk_port.specs.declared.halt.Halt.TheVariants.{Stopped, Worn as UsedUp}
-use Rattle.pk_port.proofs.Growing.{asked-posts, asked-post_failed}
+use Rattle.pk_port.{specs.Asking.KeptSilently, specs.Asking.KeptWord, specs.Steps.Standing, specs.Steps.HasCause, specs.Steps.standing, specs.Steps.seen, proofs.Serving.mounted_limits}
+use Rattle.pk_port.{proofs.Stepping.part_of, proofs.Stepping.part_held, specs.Chained.installs, specs.Chained.AllServed, specs.Chained.HaltedAt, specs.Chained.Chained, specs.declared.halt.Halt.Halt}
+use Rattle.pk_port.{specs.declared.halt.Halt.TheVariants.Stopped, specs.declared.halt.Halt.TheVariants.Worn as UsedUp, proofs.Growing.asked-posts, proofs.Growing.asked-post_failed}
 use Rattle.pk_port.proofs.Chaining.{chained}
-use Rattle.pk_wordrun.specs.Ends.{end_of}
-use Rattle.pk_wordrun.specs.declared.end.WordEnd.{WordEnd}
-use Rattle.pk_wordrun.specs.declared.end.WordEnd.TheVariants.{Done, Output}
-use Rattle.pk_wordrun.proofs.Telling.{keeps-flash}
-use Rattle.pk_mirrorwords.specs.PairTasks.{PairTask, map_left}
-use Rattle.pk_mirrorwords.specs.PairAnswers.{PairSaid, PairFault, AreOfFirst, AreOfSecond}
+use Rattle.pk_wordrun.{specs.Ends.end_of, specs.declared.end.WordEnd.WordEnd, specs.declared.end.WordEnd.TheVariants.Done, specs.declared.end.WordEnd.TheVariants.Output, proofs.Telling.keeps-flash}
+use Rattle.pk_mirrorwords.{specs.PairTasks.PairTask, specs.PairTasks.map_left, specs.PairAnswers.PairSaid, specs.PairAnswers.PairFault, specs.PairAnswers.AreOfFirst, specs.PairAnswers.AreOfSecond}
 use Rattle.pk_mirrorrun.specs.PairTold.{IsServing, EitherUnread, text_by, Walk, BothWalked, end_by, KeptFirst, KeptSecond, PairAnswered, PairEnds, most_pair_roots, UsedRoots, PairTold}
 use Rattle.pk_mirrorrun.proofs.Commands.{ran_first, kept_first, change_keeps_others, part_left, same_parts, first_installs, second_installs}
-use Rattle.pk_base.proofs.Logic.{some_same}
 
 -- ---- one drive
 

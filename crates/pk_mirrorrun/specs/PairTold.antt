@@ -1,24 +1,14 @@
 -- What a word of a pair did to both boards, from the opened drives on.
 use Rattle.std.specs.Prelude.{◌≡◌, ◌⊎◌, ℕ, ◌+◌, ◌*◌, ◌≤◌, List, [], ◌++◌, Option, Some, None, true, false}
 use Rattle.std.specs.FinMap.{len}
-use Rattle.pk_base.specs.Shape.{Shape}
-use Rattle.pk_base.specs.Page.{Flash}
-use Rattle.pk_base.specs.Map.{Map}
-use Rattle.pk_nand.specs.BoardState.{BoardState}
-use Rattle.pk_nvme.specs.Command.{Command}
-use Rattle.pk_nand.specs.Calls.{Rose, longer}
-use Rattle.pk_model.specs.Growth.{Goes}
-use Rattle.pk_nvme.specs.declared.limits.TheConstants.{NAMESPACE}
-use Rattle.pk_model.specs.Spaces.{limits_at, limit_of, in_space}
-use Rattle.pk_model.specs.Reading.{Holds}
+use Rattle.pk_base.{specs.Shape.Shape, specs.Page.Flash, specs.Map.Map}
+use Rattle.pk_nand.{specs.BoardState.BoardState, specs.Calls.Rose, specs.Calls.longer}
+use Rattle.pk_nvme.{specs.Command.Command, specs.declared.limits.TheConstants.NAMESPACE}
+use Rattle.pk_model.{specs.Growth.Goes, specs.Spaces.limits_at, specs.Spaces.limit_of, specs.Spaces.in_space, specs.Reading.Holds, specs.Wear.is_worn, specs.Wear.roots}
 use Rattle.pk_call.specs.Sight.{Sight}
-use Rattle.pk_model.specs.Wear.{is_worn, roots}
-use Rattle.pk_port.specs.Steps.{Standing, Chain}
+use Rattle.pk_port.{specs.Steps.Standing, specs.Steps.Chain, specs.declared.halt.Halt.Halt}
 use Rattle.pk_words.specs.Lines.{failed_line}
-use Rattle.pk_port.specs.declared.halt.Halt.{Halt}
-use Rattle.pk_wordrun.specs.Ends.{end_of}
-use Rattle.pk_wordrun.specs.Told.{KeepsInput}
-use Rattle.pk_wordrun.specs.declared.end.WordEnd.{WordEnd}
+use Rattle.pk_wordrun.{specs.Ends.end_of, specs.Told.KeepsInput, specs.declared.end.WordEnd.WordEnd}
 use Rattle.pk_wordrun.specs.declared.end.WordEnd.TheVariants.{Done, Output, Flash as FlashFailed, Worn}
 use Rattle.pk_mirror.specs.Causes.{NotEmpty}
 use Rattle.pk_mirrorwords.specs.PairTasks.{PairTask, map_left, text_of}

@@ -1,21 +1,14 @@
 -- A word of a pair: the resync before it, and what it asks then.
 use Rattle.std.proofs.Common.{◌≤◌, ◌≡◌, inl, inr, ℕ, ◌+◌, ◌⊎◌, ◌==◌, if◌then◌else◌, List, [], ◌∷◌, ◌++◌, Option, Some, Err, false, refl, sym, ap, subst, ◌∙◌, arith}
 use Rattle.std.proofs.lemmas.List.{append_assoc}
-use Rattle.pk_base.specs.Shape.{Shape, limit}
-use Rattle.pk_base.specs.Map.{Map}
-use Rattle.pk_nvme.specs.Command.{Command}
-use Rattle.pk_nvme.specs.declared.opcode.TheConstants.{STORE, DELETE}
-use Rattle.pk_host.specs.Port.{PortState, Took}
-use Rattle.pk_host.specs.Calls.{store_of, delete_of}
-use Rattle.pk_host.specs.Outcomes.{AtMostOne, TookSome}
+use Rattle.pk_base.{specs.Shape.Shape, specs.Shape.limit, specs.Map.Map}
+use Rattle.pk_nvme.{specs.Command.Command, specs.declared.opcode.TheConstants.STORE, specs.declared.opcode.TheConstants.DELETE}
+use Rattle.pk_host.{specs.Port.PortState, specs.Port.Took, specs.Calls.store_of, specs.Calls.delete_of, specs.Outcomes.AtMostOne, specs.Outcomes.TookSome}
 use Rattle.pk_host.specs.declared.types.StoreRule.TheVariants.{Any}
 use Rattle.pk_words.specs.Lines.{status_line}
-use Rattle.pk_mirror.specs.declared.error.Side.{Side}
-use Rattle.pk_mirror.specs.declared.error.Side.TheVariants.{First, Second}
-use Rattle.pk_mirror.specs.declared.error.MirrorError.{MirrorError}
+use Rattle.pk_mirror.{specs.declared.error.Side.Side, specs.declared.error.Side.TheVariants.First, specs.declared.error.Side.TheVariants.Second, specs.declared.error.MirrorError.MirrorError}
 use Rattle.pk_mirror.specs.declared.error.MirrorError.TheVariants.{Refused, Port, Split}
-use Rattle.pk_mirror.specs.Pair.{Mirrored, IsPair}
-use Rattle.pk_mirror.specs.Causes.{OnlyAsks, AreAsking, IsCause, IsReadError}
+use Rattle.pk_mirror.{specs.Pair.Mirrored, specs.Pair.IsPair, specs.Causes.OnlyAsks, specs.Causes.AreAsking, specs.Causes.IsCause, specs.Causes.IsReadError}
 use Rattle.pk_mirror.specs.Spending.{LooksOr, opcode_count, AreOfResync}
 use Rattle.pk_mirrorwords.specs.PairTasks.{PairTask, put, get, delete, list, resync, change_of, text_of, map_left}
 use Rattle.pk_mirrorwords.specs.PairAnswers.{IsToldPair, IsInStep, PairDone, PairSaid, PairFails, ResyncFails, AreChange, AreOfFirst, AreOfPair, HaveOneChange, AreOfSecond}

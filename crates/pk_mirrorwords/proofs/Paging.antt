@@ -1,40 +1,25 @@
 -- The keys of a pair, page by page into one text.
 use Rattle.std.proofs.Common.{◌≡◌, inl, inr, ℕ, ◌⊎◌, ◌+◌, ◌-◌, ◌*◌, ◌<◌, ◌≤◌, List, [], ◌∷◌, ◌++◌, length, map, take, slice_index_or, Bool, true, false, Option, Some, None, Result, Ok, Err, refl, sym}
 use Rattle.std.proofs.Common.{ap, subst, ◌∙◌, arith}
-use Rattle.std.proofs.lemmas.List.{append-nil, append_assoc, length-append, take_all}
-use Rattle.std.proofs.lemmas.Grind.{flat_map-append}
-use Rattle.std.specs.FinMap.{keys, entries}
-use Rattle.std.specs.List.{AllByRecursion}
-use Rattle.pk_base.specs.Fields.{AreBytes}
-use Rattle.pk_base.specs.Key.{Key, IsKey}
-use Rattle.pk_base.specs.Shape.{Shape, IsShape, limit}
+use Rattle.std.{proofs.lemmas.List.append-nil, proofs.lemmas.List.append_assoc, proofs.lemmas.List.length-append, proofs.lemmas.List.take_all, proofs.lemmas.Grind.flat_map-append}
+use Rattle.std.{specs.FinMap.keys, specs.FinMap.entries, specs.List.AllByRecursion}
+use Rattle.pk_base.{specs.Fields.AreBytes, specs.Key.Key, specs.Key.IsKey, specs.Shape.Shape, specs.Shape.IsShape, specs.Shape.limit}
 use Rattle.pk_base.specs.Map.{Map, IsMap, live, pages_in}
 use Rattle.pk_segfmt.proofs.StoredLemmas.{charge_some}
-use Rattle.pk_nvme.specs.Bytes.{RoomyList}
-use Rattle.pk_nvme.specs.Command.{Command, key_or_none}
+use Rattle.pk_nvme.{specs.Bytes.RoomyList, specs.Command.Command, specs.Command.key_or_none}
 use Rattle.pk_nand.specs.Calls.{Rose}
-use Rattle.pk_host.specs.declared.types.HostError.{HostError}
-use Rattle.pk_host.specs.Port.{PortState, Took}
-use Rattle.pk_host.specs.Calls.{retrieve_of}
+use Rattle.pk_host.{specs.declared.types.HostError.HostError, specs.Port.PortState, specs.Port.Took, specs.Calls.retrieve_of}
 use Rattle.pk_host.specs.Outcomes.{Gives, TookSome, AtMostOne, list_of}
 use Rattle.pk_host.specs.Listing.{above, Pages, Follows, listed_by}
 use Rattle.pk_host.proofs.PageLemmas.{next_page, nothing_above, all_above_none}
-use Rattle.pk_words.specs.Lines.{key_line, key_lines}
-use Rattle.pk_words.proofs.LineLemmas.{one_more}
-use Rattle.pk_mirror.specs.Ranks.{IsText, keys_left}
-use Rattle.pk_mirror.specs.declared.error.Side.{Side}
-use Rattle.pk_mirror.specs.declared.error.Side.TheVariants.{First, Second}
-use Rattle.pk_mirror.specs.declared.error.MirrorError.{MirrorError}
+use Rattle.pk_words.{specs.Lines.key_line, specs.Lines.key_lines, proofs.LineLemmas.one_more}
+use Rattle.pk_mirror.{specs.Ranks.IsText, specs.Ranks.keys_left, specs.declared.error.Side.Side, specs.declared.error.Side.TheVariants.First, specs.declared.error.Side.TheVariants.Second}
+use Rattle.pk_mirror.{specs.declared.error.MirrorError.MirrorError, specs.Pair.Mirrored, specs.Pair.IsPair, specs.Asks.Asks, specs.Asks.KeepsMaps, specs.Asks.StaysUnlessPort}
 use Rattle.pk_mirror.specs.declared.error.MirrorError.TheVariants.{Refused, Port, Split}
-use Rattle.pk_mirror.specs.Pair.{Mirrored, IsPair}
-use Rattle.pk_mirror.specs.Causes.{Decides, IsCause, IsReadError, AreAsking}
-use Rattle.pk_mirror.specs.Asks.{Asks, KeepsMaps, StaysUnlessPort}
-use Rattle.pk_mirror.proofs.PairLemmas.{rose_later}
+use Rattle.pk_mirror.{specs.Causes.Decides, specs.Causes.IsCause, specs.Causes.IsReadError, specs.Causes.AreAsking, proofs.PairLemmas.rose_later, proofs.PageLemmas.parts, proofs.PageLemmas.page_some}
 use Rattle.pk_mirror.proofs.VisitLemmas.{asking_none, asking_more}
-use Rattle.pk_mirror.proofs.PageLemmas.{parts, page_some}
-use Rattle.pk_mirrorwords.specs.PairTasks.{list}
+use Rattle.pk_mirrorwords.{specs.PairTasks.list, specs.PairPages.keys_after, specs.PairPages.IsListed, specs.PairPages.ListGoesOn, specs.PairPages.PageFails}
 use Rattle.pk_mirrorwords.specs.PairAnswers.{IsToldPair, IsInStep, PairUnread, PairFault, PairDone, PairFails}
-use Rattle.pk_mirrorwords.specs.PairPages.{keys_after, IsListed, ListGoesOn, PageFails}
 
 -- ---- lines of a page
 

@@ -1,34 +1,19 @@
 -- What a pair's word says, from how each drive answered its command.
 use Rattle.std.proofs.Common.{◌≡◌, ◌≢◌, inl, inr, ℕ, ◌≤◌, ◌==◌, if◌then◌else◌, List, length, take, Bool, true, false, Option, Some, None, Result, Ok, Err, refl, sym, ap, subst, ◌∙◌, [], ◌∷◌}
-use Rattle.std.proofs.lemmas.Bool.{eqb-true}
-use Rattle.std.specs.FinMap.{get}
-use Rattle.pk_base.specs.Key.{Key}
-use Rattle.pk_base.specs.Shape.{Shape, greatest}
-use Rattle.pk_base.specs.Map.{Map, IsMap, live}
-use Rattle.pk_nvme.specs.Command.{Command}
-use Rattle.pk_nvme.specs.Reply.{Reply, refusal}
-use Rattle.pk_nvme.specs.Opcode.{op_of}
-use Rattle.pk_nvme.specs.declared.opcode.Opcode.{Opcode}
+use Rattle.std.{proofs.lemmas.Bool.eqb-true, specs.FinMap.get}
+use Rattle.pk_base.{specs.Key.Key, specs.Shape.Shape, specs.Shape.greatest, specs.Map.Map, specs.Map.IsMap, specs.Map.live}
+use Rattle.pk_nvme.{specs.Command.Command, specs.Reply.Reply, specs.Reply.refusal, specs.Opcode.op_of, specs.declared.opcode.Opcode.Opcode}
 use Rattle.pk_nvme.specs.declared.status.TheConstants.{SUCCESSFUL_COMPLETION, KEY_DOES_NOT_EXIST, UNRECOVERED_ERROR}
-use Rattle.pk_model.specs.Spaces.{one_space, limit_of, in_space}
-use Rattle.pk_model.specs.Answer.{refused, reply, reply_of, map_after, Answer}
-use Rattle.pk_host.specs.declared.types.HostError.{HostError}
+use Rattle.pk_model.{specs.Spaces.one_space, specs.Spaces.limit_of, specs.Spaces.in_space, specs.Answer.refused, specs.Answer.reply, specs.Answer.reply_of, specs.Answer.map_after, specs.Answer.Answer}
+use Rattle.pk_host.{specs.declared.types.HostError.HostError, specs.Port.PortState, specs.Outcomes.Fetches, specs.Outcomes.IsFront, specs.Outcomes.stored, specs.Outcomes.existed}
 use Rattle.pk_host.specs.declared.types.HostError.TheVariants.{Refused as HostRefused, Port as HostPort, Memory}
-use Rattle.pk_host.specs.Port.{PortState}
-use Rattle.pk_host.specs.Outcomes.{Fetches, IsFront, stored, existed}
 use Rattle.pk_words.specs.Lines.{status_line, value_line}
-use Rattle.pk_mirror.specs.declared.error.Side.{Side}
-use Rattle.pk_mirror.specs.declared.error.Side.TheVariants.{First, Second}
-use Rattle.pk_mirror.specs.declared.error.MirrorError.{MirrorError}
+use Rattle.pk_mirror.{specs.declared.error.Side.Side, specs.declared.error.Side.TheVariants.First, specs.declared.error.Side.TheVariants.Second, specs.declared.error.MirrorError.MirrorError}
 use Rattle.pk_mirror.specs.declared.error.MirrorError.TheVariants.{Refused, Port, Split}
-use Rattle.pk_mirror.specs.Pair.{Mirrored, IsPair}
-use Rattle.pk_mirror.specs.Causes.{IsOn, Decides, IsCause, IsReadError}
-use Rattle.pk_mirror.specs.Writes.{Writes, Mirrors, FirstKept, SecondReadFailed}
-use Rattle.pk_mirror.specs.Asks.{Asks, KeepsMaps}
-use Rattle.pk_mirror.proofs.ReplyLemmas.{Tells}
+use Rattle.pk_mirror.{specs.Pair.Mirrored, specs.Pair.IsPair, specs.Causes.IsOn, specs.Causes.Decides, specs.Causes.IsCause, specs.Causes.IsReadError, specs.Asks.Asks, specs.Asks.KeepsMaps}
+use Rattle.pk_mirror.{specs.Writes.Writes, specs.Writes.Mirrors, specs.Writes.FirstKept, specs.Writes.SecondReadFailed, proofs.ReplyLemmas.Tells, proofs.MapLemmas.value_fits}
 use Rattle.pk_mirror.proofs.WriteLemmas.{refused_or_port, on_refused, on_port, true_false}
 use Rattle.pk_mirror.proofs.KeyLemmas.{found_some, found_none}
-use Rattle.pk_mirror.proofs.MapLemmas.{value_fits}
 use Rattle.pk_mirrorwords.specs.PairTasks.{PairTask, status_by, answered_line, text_of, map_left}
 use Rattle.pk_mirrorwords.specs.PairAnswers.{PairDone, PairFails}
 

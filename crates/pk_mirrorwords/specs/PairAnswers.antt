@@ -1,20 +1,12 @@
 -- What a word asks of two ports, and what it says of their maps.
 use Rattle.std.specs.Prelude.{◌≡◌, ◌⊎◌, ℕ, ◌+◌, ◌≤◌, List, [], ◌∷◌, ◌++◌, Option, Some, None, Result, Ok, Err, false}
-use Rattle.std.specs.List.{AllByRecursion}
-use Rattle.std.specs.FinMap.{len}
-use Rattle.pk_base.specs.Shape.{limit}
-use Rattle.pk_base.specs.Map.{Map}
-use Rattle.pk_nvme.specs.Command.{Command}
-use Rattle.pk_nvme.specs.declared.opcode.TheConstants.{STORE, DELETE}
-use Rattle.pk_nvme.specs.declared.status.TheConstants.{UNRECOVERED_ERROR}
+use Rattle.std.{specs.List.AllByRecursion, specs.FinMap.len}
+use Rattle.pk_base.{specs.Shape.limit, specs.Map.Map}
+use Rattle.pk_nvme.{specs.Command.Command, specs.declared.opcode.TheConstants.STORE, specs.declared.opcode.TheConstants.DELETE, specs.declared.status.TheConstants.UNRECOVERED_ERROR}
 use Rattle.pk_nand.specs.Calls.{Rose}
-use Rattle.pk_host.specs.Port.{PortState}
-use Rattle.pk_host.specs.Outcomes.{AtMostOne}
+use Rattle.pk_host.{specs.Port.PortState, specs.Outcomes.AtMostOne}
 use Rattle.pk_words.specs.Lines.{failed_line, status_line}
-use Rattle.pk_mirror.specs.Pair.{Mirrored, IsPair}
-use Rattle.pk_mirror.specs.Causes.{AreAsking}
-use Rattle.pk_mirror.specs.Spending.{LooksOr, opcode_count}
-use Rattle.pk_mirror.specs.declared.error.MirrorError.{MirrorError}
+use Rattle.pk_mirror.{specs.Pair.Mirrored, specs.Pair.IsPair, specs.Causes.AreAsking, specs.Spending.LooksOr, specs.Spending.opcode_count, specs.declared.error.MirrorError.MirrorError}
 use Rattle.pk_mirror.specs.declared.error.MirrorError.TheVariants.{Refused, Port, Split}
 use Rattle.pk_mirrorwords.specs.PairTasks.{PairTask, change_of, map_left, text_of}
 

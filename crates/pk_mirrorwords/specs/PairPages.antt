@@ -1,16 +1,11 @@
 -- A list of keys that is said page by page.
 use Rattle.std.specs.Prelude.{◌≡◌, ℕ, ◌*◌, ◌≤◌, ◌<◌, List, ◌++◌, length, Option, Some, None, true}
 use Rattle.std.specs.FinMap.{keys}
-use Rattle.pk_base.specs.Key.{Key}
-use Rattle.pk_base.specs.Map.{Map}
+use Rattle.pk_base.{specs.Key.Key, specs.Map.Map}
 use Rattle.pk_nvme.specs.declared.status.TheConstants.{UNRECOVERED_ERROR}
-use Rattle.pk_host.specs.Port.{PortState}
-use Rattle.pk_host.specs.Listing.{above}
-use Rattle.pk_words.specs.Lines.{key_lines}
-use Rattle.pk_words.specs.declared.sizes.TheConstants.{LINE_BYTES}
-use Rattle.pk_mirror.specs.Pair.{Mirrored}
-use Rattle.pk_mirror.specs.Ranks.{IsText, keys_left}
-use Rattle.pk_mirror.specs.declared.error.MirrorError.{MirrorError}
+use Rattle.pk_host.{specs.Port.PortState, specs.Listing.above}
+use Rattle.pk_words.{specs.Lines.key_lines, specs.declared.sizes.TheConstants.LINE_BYTES}
+use Rattle.pk_mirror.{specs.Pair.Mirrored, specs.Ranks.IsText, specs.Ranks.keys_left, specs.declared.error.MirrorError.MirrorError}
 use Rattle.pk_mirror.specs.declared.error.MirrorError.TheVariants.{Refused, Port, Split}
 use Rattle.pk_mirrorwords.specs.PairAnswers.{PairUnread, PairFault}
 

@@ -1,14 +1,10 @@
 -- The words of a pair of drives: what each says of the first drive's map, and which map it leaves.
 use Rattle.std.specs.Prelude.{ℕ, ◌<◌, ◌^◌, List, length, codes, Option, Some, None, [], ◌∷◌}
 use Rattle.std.specs.FinMap.{get as value_at, keys}
-use Rattle.pk_base.specs.Key.{Key}
-use Rattle.pk_base.specs.Shape.{Shape}
-use Rattle.pk_base.specs.Map.{Map}
-use Rattle.pk_nvme.specs.Command.{Command}
-use Rattle.pk_nvme.specs.declared.status.TheConstants.{SUCCESSFUL_COMPLETION}
+use Rattle.pk_base.{specs.Key.Key, specs.Shape.Shape, specs.Map.Map}
+use Rattle.pk_nvme.{specs.Command.Command, specs.declared.status.TheConstants.SUCCESSFUL_COMPLETION}
 use Rattle.pk_model.specs.Answer.{refused, map_after}
-use Rattle.pk_host.specs.Calls.{IsOwnKey, store_of, delete_of}
-use Rattle.pk_host.specs.declared.types.StoreRule.TheVariants.{Any}
+use Rattle.pk_host.{specs.Calls.IsOwnKey, specs.Calls.store_of, specs.Calls.delete_of, specs.declared.types.StoreRule.TheVariants.Any}
 use Rattle.pk_words.specs.Lines.{status_line, value_line, key_lines}
 use Rattle.pk_mirrorwords.specs.declared.task.PairTask.{PairTask as Code}
 use Rattle.pk_mirrorwords.specs.declared.task.PairTask.TheVariants.{Put, Get, Delete, List as Listed, Resync}

@@ -1,17 +1,11 @@
 -- Which reply a command has and which map it leaves, by the first check that fails.
 use Rattle.std.proofs.Common.{◌≡◌, ℕ, ◌≤◌, List, [], ◌∷◌, length, Bool, true, false, ◌&&◌, nat_le, IsTrue, Option, Some, None, refl, sym, ap, ◌∙◌, arith}
 use Rattle.std.proofs.lemmas.Bool.{leb-true}
-use Rattle.pk_base.specs.Choices.{or_else}
-use Rattle.pk_base.specs.Shape.{Shape, greatest}
-use Rattle.pk_base.specs.Map.{Map}
-use Rattle.pk_nvme.specs.Command.{Command}
-use Rattle.pk_nvme.specs.Reply.{refusal}
-use Rattle.pk_nvme.specs.Opcode.{op_of}
-use Rattle.pk_nvme.specs.declared.opcode.Opcode.{Opcode}
+use Rattle.pk_base.{specs.Choices.or_else, specs.Shape.Shape, specs.Shape.greatest, specs.Map.Map, proofs.Logic.both_true}
+use Rattle.pk_nvme.{specs.Command.Command, specs.Reply.refusal, specs.Opcode.op_of, specs.declared.opcode.Opcode.Opcode}
 use Rattle.pk_nvme.specs.declared.opcode.Opcode.TheVariants.{Flush, Store, Retrieve, List as ListKeys, Delete, Exist, Tick, Report}
 use Rattle.pk_model.specs.Spaces.{Terms, limit_of, is_space, in_space}
 use Rattle.pk_model.specs.Answer.{check, is_namespace, is_key_length, size_fault, fault_of, early, late_of, refused, reply, reply_of, map_after, effect}
-use Rattle.pk_base.proofs.Logic.{both_true}
 
 module _ (shape : Shape) (terms : Terms) (m : Map) (own : List ℕ) (c : Command) where
   -- it is refused

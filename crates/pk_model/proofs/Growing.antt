@@ -1,19 +1,11 @@
 -- Consecutive runs along which the tree grows.
 use Rattle.std.proofs.Common.{◌≡◌, ℕ, List, [], ◌∷◌, ◌++◌, Some, refl, sym, ◌∙◌, ap, subst, inl, inr, append_assoc, append-nil}
-use Rattle.pk_base.specs.Shape.{Shape}
-use Rattle.pk_base.specs.Page.{Flash, page_at}
-use Rattle.pk_base.specs.Mark.{Mark, after, after_all, all_posted, post}
-use Rattle.pk_nand.specs.BoardState.{BoardState, shape_of, shape_or_none}
-use Rattle.pk_nand.specs.Calls.{longer}
-use Rattle.pk_nand.specs.Operations.{after_post, PostFailed}
-use Rattle.pk_nand.specs.Crash.{ReachedBy, WentBy}
-use Rattle.pk_nand.specs.Cut.{Cut}
+use Rattle.pk_base.{specs.Shape.Shape, specs.Page.Flash, specs.Page.page_at, specs.Mark.Mark, specs.Mark.after, specs.Mark.after_all, specs.Mark.all_posted, specs.Mark.post}
+use Rattle.pk_nand.{specs.BoardState.BoardState, specs.BoardState.shape_of, specs.BoardState.shape_or_none, specs.Calls.longer, specs.Operations.after_post, specs.Operations.PostFailed, specs.Cut.Cut}
+use Rattle.pk_nand.{specs.Crash.ReachedBy, specs.Crash.WentBy, proofs.CutLemmas.cut_end, proofs.Leaving.interrupted_done, proofs.Leaving.same_pages}
 use Rattle.pk_nand.proofs.Reaching.{Reached-then, Went-then, Went-reached, Reached-start, Reached-post, longer-nil}
-use Rattle.pk_nand.proofs.CutLemmas.{cut_end}
-use Rattle.pk_nand.proofs.Leaving.{interrupted_done, same_pages}
 use Rattle.pk_rootfmt.specs.Newest.{newest_root, limits_if}
-use Rattle.pk_model.specs.Spaces.{limits_at}
-use Rattle.pk_model.specs.Growth.{KeepsLimits, GrowsAlong, Reaches, Goes}
+use Rattle.pk_model.{specs.Spaces.limits_at, specs.Growth.KeepsLimits, specs.Growth.GrowsAlong, specs.Growth.Reaches, specs.Growth.Goes}
 
 pub GrowsAlong-append : (shape : Shape) (start : Flash) (first second : List Mark) → GrowsAlong shape start first
     → GrowsAlong shape (after_all shape first start) second → GrowsAlong shape start (first ++ second)

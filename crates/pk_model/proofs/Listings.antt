@@ -1,11 +1,8 @@
 -- What is listed when keys are offered one after another.
 use Rattle.std.proofs.Common.{◌≡◌, ℕ, ◌+◌, ◌-◌, List, [], ◌∷◌, ◌++◌, length, filter, flat_map, true, false, not, nat_le, if◌then◌else◌, refl, sym, ap, ◌∙◌, arith}
-use Rattle.std.proofs.lemmas.List.{append_assoc, append-nil}
-use Rattle.std.specs.Ordering.{is_lt}
-use Rattle.pk_base.specs.Key.{Key, key_cmp}
-use Rattle.pk_base.specs.Fields.{u32}
-use Rattle.pk_model.specs.Answer.{listed, fitting, list_bytes}
-use Rattle.pk_model.specs.Listing.{Listing, offered, offered_all}
+use Rattle.std.{proofs.lemmas.List.append_assoc, proofs.lemmas.List.append-nil, specs.Ordering.is_lt}
+use Rattle.pk_base.{specs.Key.Key, specs.Key.key_cmp, specs.Fields.u32}
+use Rattle.pk_model.{specs.Answer.listed, specs.Answer.fitting, specs.Answer.list_bytes, specs.Listing.Listing, specs.Listing.offered, specs.Listing.offered_all}
 
 -- the keys that are not below this one
 abbrev wanted : Key → List Key → List Key

@@ -1,32 +1,18 @@
 -- What the machine in memory answers, and the live pages of its map.
 use Rattle.std.proofs.Common.{◌≡◌, ℕ, zero, suc, ◌+◌, ◌-◌, ◌*◌, ◌/◌, ◌%◌, ◌==◌, ◌≤◌, ◌&&◌, ◌||◌, not, nat_le, min, refl, sym, ap, subst, cond, ◌∙◌, arith, List, [], ◌∷◌, ◌++◌, length, take, replicate}
 use Rattle.std.proofs.Common.{flat_map, Bool, true, false, Option, Some, None, Result, Ok, Err, IfOk, is_some, unwrap_or, if◌then◌else◌, div-add-mod'}
-use Rattle.std.proofs.lemmas.List.{nil_from_length, take_min}
-use Rattle.std.proofs.lemmas.Bool.{leb-true}
-use Rattle.std.specs.Int.{div_ceil}
-use Rattle.std.specs.declared.cmp.Ordering.{Ordering}
+use Rattle.std.{proofs.lemmas.List.nil_from_length, proofs.lemmas.List.take_min, proofs.lemmas.Bool.leb-true, specs.Int.div_ceil, specs.declared.cmp.Ordering.Ordering, specs.Cmp.tied_itself}
 use Rattle.std.specs.declared.cmp.Ordering.TheVariants.{Less, Equal, Greater}
 use Rattle.std.specs.Ordering.{is_eq, eq_by_cmp}
-use Rattle.std.specs.Cmp.{tied_itself}
 use Rattle.std.specs.FinMap.{get, contains_key, insert, remove, empty, entries, len, len-entries, len-empty, get-insert, get-remove, same_map}
-use Rattle.pk_base.specs.Choices.{or_else}
-use Rattle.pk_base.specs.Key.{Key, key_cmp}
-use Rattle.pk_base.specs.Fields.{u32}
-use Rattle.pk_base.specs.Shape.{Shape, limit, charge, need, pinned}
-use Rattle.pk_nvme.specs.declared.request.Request.{Request}
-use Rattle.pk_nvme.specs.Seen.{command_of}
-use Rattle.pk_nvme.specs.Command.{Command, key}
-use Rattle.pk_nvme.specs.Reply.{refusal}
-use Rattle.pk_nvme.specs.Opcode.{op_of}
-use Rattle.pk_nvme.specs.declared.opcode.Opcode.{Opcode}
-use Rattle.pk_nvme.specs.declared.opcode.Opcode.TheVariants.{Store}
-use Rattle.pk_model.specs.Spaces.{limit_of, in_space}
-use Rattle.pk_model.specs.Answer.{check, early, late_of, reply_of, effect, success, report_bytes}
-use Rattle.pk_model.specs.Machine.{Machine, replied, no_numbers, machine_terms, Answers}
-use Rattle.pk_model.specs.declared.answer.Answer.{Answer}
-use Rattle.pk_model.proofs.Answering.{IsAlone, refuses_early, refuses_alone, serves, serves_alone}
-use Rattle.pk_model.proofs.MapLemmas.{key_total, key_antisymm, live-insert}
+use Rattle.pk_base.{specs.Choices.or_else, specs.Key.Key, specs.Key.key_cmp, specs.Fields.u32, specs.Shape.Shape, specs.Shape.limit, specs.Shape.charge, specs.Shape.need, specs.Shape.pinned}
 use Rattle.pk_base.specs.Map.{Map, live, pages_in, pages_of, pages_if_some}
+use Rattle.pk_nvme.{specs.declared.request.Request.Request, specs.Seen.command_of, specs.Command.Command, specs.Command.key, specs.Reply.refusal, specs.Opcode.op_of}
+use Rattle.pk_nvme.{specs.declared.opcode.Opcode.Opcode, specs.declared.opcode.Opcode.TheVariants.Store}
+use Rattle.pk_model.{specs.Spaces.limit_of, specs.Spaces.in_space, specs.Machine.Machine, specs.Machine.replied, specs.Machine.no_numbers, specs.Machine.machine_terms, specs.Machine.Answers}
+use Rattle.pk_model.specs.Answer.{check, early, late_of, reply_of, effect, success, report_bytes}
+use Rattle.pk_model.{specs.declared.answer.Answer.Answer, proofs.MapLemmas.key_total, proofs.MapLemmas.key_antisymm, proofs.MapLemmas.live-insert}
+use Rattle.pk_model.proofs.Answering.{IsAlone, refuses_early, refuses_alone, serves, serves_alone}
 
 pub live-empty : (shape : Shape) → live shape empty ≡ 0
 live-empty shape = ap (pages_in shape) (nil_from_length (entries {R = key_cmp} empty) (sym (len-entries empty) ∙ len-empty key_cmp (List ℕ)))

@@ -1,15 +1,9 @@
 -- The namespaces of a drive: they are those of its newest root.
 use Rattle.std.proofs.Common.{◌≡◌, ℕ, ◌≤◌, ap, T, List, [], ◌∷◌, ◌++◌, Some, le→leb}
-use Rattle.pk_base.specs.Key.{space_of}
-use Rattle.pk_base.specs.Shape.{Shape}
-use Rattle.pk_base.specs.Entry.{Entry}
-use Rattle.pk_base.specs.Page.{Flash, page_at}
-use Rattle.pk_base.proofs.Logic.{left_part, right_part, both}
+use Rattle.pk_base.{specs.Key.space_of, specs.Shape.Shape, specs.Entry.Entry, specs.Page.Flash, specs.Page.page_at, proofs.Logic.left_part, proofs.Logic.right_part, proofs.Logic.both}
 use Rattle.pk_space.specs.Entries.{in_spaces}
-use Rattle.pk_rootfmt.specs.Root.{Root, limits_of}
-use Rattle.pk_rootfmt.specs.Newest.{newest_root, limits_if}
-use Rattle.pk_model.specs.Spaces.{limits_at}
-use Rattle.pk_model.specs.RootLimits.{root_limits}
+use Rattle.pk_rootfmt.{specs.Root.Root, specs.Root.limits_of, specs.Newest.newest_root, specs.Newest.limits_if}
+use Rattle.pk_model.{specs.Spaces.limits_at, specs.RootLimits.root_limits}
 
 -- of a flash
 pub limits_under : (shape : Shape) (flash : Flash) (top : ℕ × Root) → newest_root shape (page_at flash) ≡ Some top → limits_at shape flash ≡ root_limits shape top.1

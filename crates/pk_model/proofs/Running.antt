@@ -1,19 +1,11 @@
 -- Single flash operations that post nothing, along which the tree of lists grows, and what follows them.
 use Rattle.std.proofs.Common.{◌≡◌, inl, inr, ℕ, List, [], ◌∷◌, ◌++◌, Some, refl, sym, ap, subst, ◌∙◌}
-use Rattle.pk_base.specs.Shape.{Shape}
-use Rattle.pk_base.specs.Page.{Flash}
-use Rattle.pk_base.specs.Map.{Map}
-use Rattle.pk_base.specs.Mark.{Mark, program, erase, after, posted_by, all_posted}
-use Rattle.pk_nand.specs.BoardState.{BoardState, shape_of, shape_or_none}
-use Rattle.pk_nand.specs.Cut.{Cut, Interrupted}
-use Rattle.pk_nand.specs.Calls.{longer, LeftBy, after_program, ProgramFailed}
-use Rattle.pk_nand.specs.Operations.{after_erase, EraseFailed}
-use Rattle.pk_nand.proofs.Leaving.{interrupted_done}
+use Rattle.pk_base.{specs.Shape.Shape, specs.Page.Flash, specs.Map.Map, specs.Mark.Mark, specs.Mark.program, specs.Mark.erase, specs.Mark.after, specs.Mark.posted_by, specs.Mark.all_posted}
+use Rattle.pk_nand.{specs.BoardState.BoardState, specs.BoardState.shape_of, specs.BoardState.shape_or_none, specs.Cut.Cut, specs.Cut.Interrupted, proofs.Leaving.interrupted_done}
+use Rattle.pk_nand.{specs.Calls.longer, specs.Calls.LeftBy, specs.Calls.after_program, specs.Calls.ProgramFailed, specs.Operations.after_erase, specs.Operations.EraseFailed}
 use Rattle.pk_nand.proofs.CutLemmas.{interrupted_none}
 use Rattle.pk_nand.proofs.Reaching.{Reached-start, Reached-erase, Reached-program, Went-reached, silent_cuts, longer-nil}
-use Rattle.pk_model.specs.Spaces.{limits_at}
-use Rattle.pk_model.specs.Growth.{Grows, KeepsLimits, Reaches, Goes}
-use Rattle.pk_model.specs.Crashes.{CrashFinds, background}
+use Rattle.pk_model.{specs.Spaces.limits_at, specs.Growth.Grows, specs.Growth.KeepsLimits, specs.Growth.Reaches, specs.Growth.Goes, specs.Crashes.CrashFinds, specs.Crashes.background}
 use Rattle.pk_model.proofs.Growing.{at_end, Reaches-then, Goes-then}
 
 module _ (shape : Shape) (old : BoardState) (P : Flash → List ℕ → Type 0) (has : old.shape ≡ Some shape) where

@@ -1,20 +1,11 @@
 -- The live pages of a namespace are the pages of its values; what one more value makes of them.
 use Rattle.std.proofs.Common.{◌≡◌, ℕ, ◌+◌, ◌<◌, ◌≤◌, refl, sym, ap, subst, ◌∙◌, arith, true, false, List, [], ◌∷◌, length, ◌==◌, if◌then◌else◌, Ok, eqb-true, eq-eqb}
-use Rattle.std.specs.FinMap.{entries, entries-insert, insert}
-use Rattle.std.specs.FinMap.Entries.{put, where_key}
-use Rattle.pk_base.specs.Key.{Key, key_cmp, space_of}
-use Rattle.pk_base.specs.Shape.{Shape, charge}
-use Rattle.pk_base.specs.Page.{Page, whole}
-use Rattle.pk_base.specs.Entry.{Place}
+use Rattle.std.{specs.FinMap.entries, specs.FinMap.entries-insert, specs.FinMap.insert, specs.FinMap.Entries.put, specs.FinMap.Entries.where_key}
+use Rattle.pk_base.{specs.Key.Key, specs.Key.key_cmp, specs.Key.space_of, specs.Shape.Shape, specs.Shape.charge, specs.Page.Page, specs.Page.whole, specs.Entry.Place}
 use Rattle.pk_base.specs.Map.{Map, live, pages_in, pages_of}
 use Rattle.pk_segfmt.specs.Value.{value_at}
-use Rattle.pk_model.specs.Spaces.{in_space, limit_of}
-use Rattle.pk_model.specs.Values.{pages_of_space, KeepsWithin}
-use Rattle.pk_model.proofs.MapLemmas.{key_total}
-use Rattle.pk_model.proofs.ValueSets.{Reads}
-use Rattle.pk_model.proofs.Stores.{reads-put}
-use Rattle.pk_model.proofs.Live.{length-value_at}
-use Rattle.pk_model.proofs.SpaceLemmas.{entries_in, in_space-insert-other}
+use Rattle.pk_model.{specs.Spaces.in_space, specs.Spaces.limit_of, specs.Values.pages_of_space, specs.Values.KeepsWithin, proofs.MapLemmas.key_total, proofs.ValueSets.Reads, proofs.Stores.reads-put}
+use Rattle.pk_model.{proofs.Live.length-value_at, proofs.SpaceLemmas.entries_in, proofs.SpaceLemmas.in_space-insert-other}
 
 -- the pages of the values of a namespace
 abbrev pub pages_in_space : Shape → ℕ → List (Key × List ℕ) → ℕ

@@ -1,14 +1,9 @@
 -- Steps one after another, and steps that were interrupted.
 use Rattle.std.proofs.Common.{◌≡◌, ℕ, zero, suc, ◌+◌, ◌≤◌, ap, ◌∙◌, arith, Result, Ok, Err}
 use Rattle.pk_base.specs.Shape.{Shape}
-use Rattle.pk_nand.specs.declared.types.Fault.{Fault}
-use Rattle.pk_nand.specs.BoardState.{BoardState}
-use Rattle.pk_nand.specs.Calls.{IsReady}
-use Rattle.pk_nand.specs.Effects.{Works}
+use Rattle.pk_nand.{specs.declared.types.Fault.Fault, specs.BoardState.BoardState, specs.Calls.IsReady, specs.Effects.Works, proofs.Writing.shape_is}
 use Rattle.pk_nand.proofs.Effects.{works_none, works_then, stops_then}
-use Rattle.pk_nand.proofs.Writing.{shape_is}
-use Rattle.pk_model.specs.Wear.{root_number, roots}
-use Rattle.pk_model.specs.Steps.{RootsUpTo, Step}
+use Rattle.pk_model.{specs.Wear.root_number, specs.Wear.roots, specs.Steps.RootsUpTo, specs.Steps.Step}
 
 -- ---- the numbers of roots
 

@@ -1,13 +1,8 @@
 -- A tree's entries as a finite map.
 use Rattle.std.proofs.Common.{◌≡◌, ℕ, refl, sym, ap, ◌∙◌, Bool, true, false, cond, ◌&&◌, T, List, [], ◌∷◌, length, Some, None}
-use Rattle.std.specs.declared.cmp.Ordering.TheVariants.{Less}
-use Rattle.std.specs.Ordering.{is_eq, eq_by_cmp}
-use Rattle.std.specs.Cmp.{eq_by_cmp_equiv}
-use Rattle.std.specs.List.{AllByRecursion}
-use Rattle.std.specs.List.Sorted.{IsStrictlySortedBy}
-use Rattle.std.specs.Map.{lookup, keys_of}
+use Rattle.std.{specs.declared.cmp.Ordering.TheVariants.Less, specs.Ordering.is_eq, specs.Ordering.eq_by_cmp, specs.Cmp.eq_by_cmp_equiv, specs.List.AllByRecursion, specs.Map.lookup, specs.Map.keys_of}
+use Rattle.std.{specs.List.Sorted.IsStrictlySortedBy, specs.FinMap.Entries.find, specs.FinMap.Entries.is_sorted, specs.FinMap.Entries.below_all}
 use Rattle.std.specs.FinMap.{get, insert, remove, len, entries, from_entries, from_sorted, get-from_entries, get-from_sorted, entries-from_sorted, get-insert, get-remove, len-entries, same_map}
-use Rattle.std.specs.FinMap.Entries.{find, is_sorted, below_all}
 use Rattle.pk_base.specs.Key.{Key, key_cmp}
 use Rattle.pk_model.proofs.MapLemmas.{key_total, key_antisymm}
 

@@ -1,12 +1,8 @@
 -- What a crash finds: the map that a flash holds when power is lost.
 use Rattle.std.specs.Prelude.{◌≡◌, ◌⊎◌, ℕ, List, [], Result, Ok}
-use Rattle.pk_base.specs.Shape.{Shape}
-use Rattle.pk_base.specs.Page.{Flash}
-use Rattle.pk_base.specs.Map.{Map}
-use Rattle.pk_base.specs.Refusal.{Refusal}
+use Rattle.pk_base.{specs.Shape.Shape, specs.Page.Flash, specs.Map.Map, specs.Refusal.Refusal}
 use Rattle.pk_nvme.specs.Command.{Command}
-use Rattle.pk_model.specs.Answer.{map_after}
-use Rattle.pk_model.specs.Reading.{reading}
+use Rattle.pk_model.{specs.Answer.map_after, specs.Reading.reading}
 
 -- What a part of a run is to the map of the drive, which is that of the flash with the pending entries.
 pub data Moment : Type 0 where

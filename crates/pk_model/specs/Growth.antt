@@ -1,14 +1,9 @@
 -- How the tree of lists grows along a trail.
 use Rattle.std.specs.Prelude.{◌≡◌, ◌⊎◌, ℕ, List, [], ◌∷◌, ⊤}
-use Rattle.pk_base.specs.Shape.{Shape}
-use Rattle.pk_base.specs.Page.{Flash, page_at}
-use Rattle.pk_base.specs.Mark.{Mark, after}
+use Rattle.pk_base.{specs.Shape.Shape, specs.Page.Flash, specs.Page.page_at, specs.Mark.Mark, specs.Mark.after}
 use Rattle.pk_rootfmt.specs.Newest.{newest_root}
-use Rattle.pk_nand.specs.BoardState.{BoardState}
-use Rattle.pk_nand.specs.Crash.{ReachedBy, WentBy}
-use Rattle.pk_nand.specs.Cut.{Interrupted}
-use Rattle.pk_model.specs.Spaces.{limits_at}
-use Rattle.pk_model.specs.Tree.{Follows}
+use Rattle.pk_nand.{specs.BoardState.BoardState, specs.Crash.ReachedBy, specs.Crash.WentBy, specs.Cut.Interrupted}
+use Rattle.pk_model.{specs.Spaces.limits_at, specs.Tree.Follows}
 
 -- The newest root is the same, or a freeze or a merge made the next one.
 abbrev pub Grows : Shape → Flash → Flash → Type 0

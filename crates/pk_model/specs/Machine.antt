@@ -1,12 +1,8 @@
 -- A machine over a map in memory: what it holds, and what it answers.
 use Rattle.std.specs.Prelude.{◌≡◌, ℕ, List, replicate}
-use Rattle.pk_base.specs.Shape.{Shape, limit}
-use Rattle.pk_base.specs.Map.{Map}
-use Rattle.pk_nvme.specs.Command.{Command}
-use Rattle.pk_nvme.specs.Reply.{Reply}
-use Rattle.pk_model.specs.Spaces.{Terms, one_space}
-use Rattle.pk_model.specs.Answer.{reply, map_after}
-use Rattle.pk_model.specs.declared.answer.Answer.{Answer}
+use Rattle.pk_base.{specs.Shape.Shape, specs.Shape.limit, specs.Map.Map}
+use Rattle.pk_nvme.{specs.Command.Command, specs.Reply.Reply}
+use Rattle.pk_model.{specs.Spaces.Terms, specs.Spaces.one_space, specs.Answer.reply, specs.Answer.map_after, specs.declared.answer.Answer.Answer}
 
 pub record Machine : Type 0 where
   pub shape : Shape

@@ -1,11 +1,7 @@
 -- Namespaces of a drive: their limits of live pages, and the part of a map that each of them is.
 use Rattle.std.specs.Prelude.{ℕ, ◌-◌, ◌≤◌, List, [], ◌∷◌, Bool, ◌&&◌, ◌==◌, nat_le, slice_index, filter}
-use Rattle.std.specs.FinMap.{entries, from_sorted}
-use Rattle.std.specs.List.{AllByRecursion}
-use Rattle.pk_base.specs.Key.{space_of}
-use Rattle.pk_base.specs.Map.{Map}
-use Rattle.pk_base.specs.Page.{Flash, page_at}
-use Rattle.pk_base.specs.Shape.{Shape}
+use Rattle.std.{specs.FinMap.entries, specs.FinMap.from_sorted, specs.List.AllByRecursion}
+use Rattle.pk_base.{specs.Key.space_of, specs.Map.Map, specs.Page.Flash, specs.Page.page_at, specs.Shape.Shape}
 use Rattle.pk_rootfmt.specs.Newest.{newest_root, limits_if}
 
 -- What a drive has: frames, and the limits of its namespaces 1, 2 and so on.

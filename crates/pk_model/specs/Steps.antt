@@ -1,11 +1,7 @@
 -- One step of a drive on its board: a commit, a freeze, the write of a value, or a part of one.
 use Rattle.std.specs.Prelude.{◌≡◌, ◌≤◌, ◌+◌, ℕ, zero, suc, Result, IfOk, IfErr, OnOk, OnErr}
 use Rattle.pk_base.specs.Shape.{Shape}
-use Rattle.pk_nand.specs.declared.types.Fault.{Fault}
-use Rattle.pk_nand.specs.declared.types.Fault.TheVariants.{Stopped}
-use Rattle.pk_nand.specs.BoardState.{BoardState}
-use Rattle.pk_nand.specs.Calls.{IsReady}
-use Rattle.pk_nand.specs.Effects.{Works, Stops}
+use Rattle.pk_nand.{specs.declared.types.Fault.Fault, specs.declared.types.Fault.TheVariants.Stopped, specs.BoardState.BoardState, specs.Calls.IsReady, specs.Effects.Works, specs.Effects.Stops}
 use Rattle.pk_model.specs.Wear.{roots}
 
 -- at most n roots were installed

@@ -1,9 +1,7 @@
 -- How many roots were installed, and when no more are.
 use Rattle.std.specs.Prelude.{ℕ, Bool, nat_le, Option, Some, None}
-use Rattle.pk_base.specs.Shape.{Shape}
-use Rattle.pk_base.specs.Page.{Flash, page_at}
-use Rattle.pk_rootfmt.specs.Root.{Root}
-use Rattle.pk_rootfmt.specs.Newest.{newest_root}
+use Rattle.pk_base.{specs.Shape.Shape, specs.Page.Flash, specs.Page.page_at}
+use Rattle.pk_rootfmt.{specs.Root.Root, specs.Newest.newest_root}
 use Rattle.pk_nand.specs.BoardState.{BoardState, shape_of}
 use Rattle.pk_model.specs.declared.wear.TheConstants.{WORN_FROM}
 

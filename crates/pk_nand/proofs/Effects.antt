@@ -1,8 +1,6 @@
 -- What flash operations do to a board apart from its pages: single ones, and two parts of a run.
 use Rattle.std.proofs.Common.{◌≡◌, ℕ, List, refl, sym, ap, subst, ◌∙◌}
-use Rattle.pk_nand.specs.BoardState.{BoardState}
-use Rattle.pk_nand.specs.Calls.{Rose, after_program, ProgramFailed}
-use Rattle.pk_nand.specs.Operations.{after_erase, EraseFailed}
+use Rattle.pk_nand.{specs.BoardState.BoardState, specs.Calls.Rose, specs.Calls.after_program, specs.Calls.ProgramFailed, specs.Operations.after_erase, specs.Operations.EraseFailed}
 use Rattle.pk_nand.specs.Effects.{OnlyFlash, Works, Stops}
 
 -- ---- single calls

@@ -1,12 +1,7 @@
 -- A flash rests while nothing is done, or bytes are posted.
 use Rattle.std.proofs.Common.{◌≡◌, inl, inr, ℕ, List, [], ◌∷◌, ◌++◌, refl, sym, ◌∙◌, ap, subst}
-use Rattle.pk_base.specs.Page.{Flash}
-use Rattle.pk_base.specs.Mark.{post}
-use Rattle.pk_nand.specs.BoardState.{BoardState}
-use Rattle.pk_nand.specs.Calls.{longer}
-use Rattle.pk_nand.specs.Operations.{after_post, PostFailed}
-use Rattle.pk_nand.specs.Crash.{ReachedBy}
-use Rattle.pk_nand.specs.Resting.{Standing, RestsFlash}
+use Rattle.pk_base.{specs.Page.Flash, specs.Mark.post}
+use Rattle.pk_nand.{specs.BoardState.BoardState, specs.Calls.longer, specs.Operations.after_post, specs.Operations.PostFailed, specs.Crash.ReachedBy, specs.Resting.Standing, specs.Resting.RestsFlash}
 use Rattle.pk_nand.proofs.Reaching.{Reached-start, Reached-then, Reached-post, longer-nil}
 
 -- neither the flash nor what the host sees changed

@@ -1,13 +1,9 @@
 -- A mark that does not touch a page does not change it, done or interrupted.
 use Rattle.std.proofs.Common.{◌≡◌, ◌≢◌, ◌<◌, ◌≤◌, inl, inr, ℕ, zero, suc, ◌+◌, ◌-◌, ◌*◌, ◌/◌, ◌%◌, refl, sym, ap, ◌∙◌, arith, List, [], ◌∷◌, Some, zero-add, mod-lt, div-add-mod'}
-use Rattle.std.proofs.Math.Nat.{div-zero}
-use Rattle.std.proofs.lemmas.Nat.{div-mul-add}
-use Rattle.std.proofs.lemmas.Option.{same_Some}
-use Rattle.pk_base.specs.Shape.{Shape}
-use Rattle.pk_base.specs.Page.{Page, Flash, page_at, whole}
+use Rattle.std.{proofs.Math.Nat.div-zero, proofs.lemmas.Nat.div-mul-add, proofs.lemmas.Option.same_Some}
+use Rattle.pk_base.{specs.Shape.Shape, specs.Page.Page, specs.Page.Flash, specs.Page.page_at, specs.Page.whole}
 use Rattle.pk_base.specs.Mark.{Mark, program, erase, post, after}
-use Rattle.pk_nand.specs.Cut.{Cut, MayLeave, Touches, IsPartner, touched_block}
-use Rattle.pk_nand.proofs.Leaving.{page_at-slice_set, page_at-erased_from}
+use Rattle.pk_nand.{specs.Cut.Cut, specs.Cut.MayLeave, specs.Cut.Touches, specs.Cut.IsPartner, specs.Cut.touched_block, proofs.Leaving.page_at-slice_set, proofs.Leaving.page_at-erased_from}
 
 -- the first page of a pair is in the block of the second
 pub partner_block : (shape : Shape) (at k : ℕ) → IsPartner shape at k → at / shape.block_pages ≡ k / shape.block_pages

@@ -1,7 +1,6 @@
 -- A board after several reads.
 use Rattle.std.specs.Prelude.{ℕ, zero, suc}
-use Rattle.pk_nand.specs.BoardState.{BoardState}
-use Rattle.pk_nand.specs.Calls.{counted}
+use Rattle.pk_nand.{specs.BoardState.BoardState, specs.Calls.counted}
 
 -- a count that was raised so often
 abbrev pub counted_by : ℕ → ℕ → ℕ

@@ -1,7 +1,6 @@
 -- What a part of a run did to a board: what of it may differ, which calls were made, and whether one failed.
 use Rattle.std.specs.Prelude.{◌≡◌, ◌⊎◌}
-use Rattle.pk_nand.specs.BoardState.{BoardState}
-use Rattle.pk_nand.specs.Calls.{counted, Rose}
+use Rattle.pk_nand.{specs.BoardState.BoardState, specs.Calls.counted, specs.Calls.Rose}
 
 -- The same board but for its flash, and the counts of its calls and of their faults.
 abbrev pub OnlyFlash : BoardState → BoardState → Type 0

@@ -1,10 +1,8 @@
 -- What a read, an erase, a fetch and a post do to the state of a board.
 use Rattle.std.specs.Prelude.{◌≡◌, ◌≢◌, ◌<◌, ◌≤◌, ◌+◌, ◌-◌, ◌*◌, ◌/◌, ◌%◌, ◌⊎◌, ℕ, List, [], ◌∷◌, ◌++◌, length, take, Option, None, Some, IfSome, IsSomeAnd}
-use Rattle.pk_base.specs.Shape.{Shape}
-use Rattle.pk_base.specs.Page.{Page, Flash, page_at, erased, whole, torn}
-use Rattle.pk_nand.specs.BoardState.{BoardState, shape_of}
+use Rattle.pk_base.{specs.Shape.Shape, specs.Page.Page, specs.Page.Flash, specs.Page.page_at, specs.Page.erased, specs.Page.whole, specs.Page.torn}
 use Rattle.pk_base.specs.Mark.{Mark, erase, post, after}
-use Rattle.pk_nand.specs.Calls.{LeftBy, Rose, counted, longer}
+use Rattle.pk_nand.{specs.BoardState.BoardState, specs.BoardState.shape_of, specs.Calls.LeftBy, specs.Calls.Rose, specs.Calls.counted, specs.Calls.longer}
 
 -- the page is Erased
 abbrev pub IsErased : Flash → ℕ → Type 0

@@ -1,8 +1,6 @@
 -- Pairs of pages, of which both are programmed with the same bytes.
 use Rattle.std.specs.Prelude.{◌≡◌, ◌⊎◌, ℕ, ◌+◌, ◌-◌, ◌%◌, List, [], ◌∷◌}
-use Rattle.pk_base.specs.Shape.{Shape}
-use Rattle.pk_base.specs.Page.{Page, Flash, page_at, erased, whole, torn}
-use Rattle.pk_base.specs.Mark.{Mark, program}
+use Rattle.pk_base.{specs.Shape.Shape, specs.Page.Page, specs.Page.Flash, specs.Page.page_at, specs.Page.erased, specs.Page.whole, specs.Page.torn, specs.Mark.Mark, specs.Mark.program}
 use Rattle.pk_nand.specs.Crash.{SameOutside}
 
 -- the first page of the pair of this page

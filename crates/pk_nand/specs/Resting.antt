@@ -1,9 +1,7 @@
 -- A flash that rests: from one state of a board to a later one bytes may be posted, and no page changes.
 use Rattle.std.specs.Prelude.{◌≡◌, ℕ, List}
-use Rattle.pk_base.specs.Page.{Flash}
-use Rattle.pk_base.specs.Mark.{Mark}
-use Rattle.pk_nand.specs.BoardState.{BoardState}
-use Rattle.pk_nand.specs.Crash.{ReachedBy}
+use Rattle.pk_base.{specs.Page.Flash, specs.Mark.Mark}
+use Rattle.pk_nand.{specs.BoardState.BoardState, specs.Crash.ReachedBy}
 
 -- these are the pages, whatever was posted
 abbrev pub Standing : Flash → Flash → List ℕ → Type 0

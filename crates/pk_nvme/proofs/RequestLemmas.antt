@@ -3,9 +3,7 @@ use Rattle.std.proofs.Common.{◌≡◌, ℕ, ◌<◌, ◌^◌, List, [], ◌∷
 use Rattle.std.proofs.lemmas.List.{length-take-le, take_all, take_at, take-append-drop}
 use Rattle.pk_base.specs.Fields.{u16, u32, zeros, number_at}
 use Rattle.pk_base.proofs.Tables.{spelled_stand, stands_byte, stands_number, Stand, AreSized}
-use Rattle.pk_nvme.specs.Command.{Command, command}
-use Rattle.pk_nvme.specs.Seen.{command_of, entry_of}
-use Rattle.pk_nvme.specs.declared.request.Request.{Request}
+use Rattle.pk_nvme.{specs.Command.Command, specs.Command.command, specs.Seen.command_of, specs.Seen.entry_of, specs.declared.request.Request.Request}
 
 abbrev table : Request → List (ℕ × List ℕ)
 table r =

@@ -2,10 +2,8 @@
 use Rattle.std.proofs.Common.{◌≡◌, ℕ, ◌+◌, ◌*◌, ◌<◌, ◌≤◌, ◌/◌, ◌%◌, ◌^◌, List, [], ◌∷◌, ◌++◌, length, take, get_or, slice_index, refl, sym, ap, ◌∙◌, arith}
 use Rattle.std.proofs.lemmas.List.{append_assoc, append-nil, length-append, length-take-le, take_more}
 use Rattle.std.proofs.lemmas.Fmt.{decimal_nonempty, length-decimal-le}
-use Rattle.hex.specs.Hex.{encode_with, lower_digits}
-use Rattle.hex.proofs.HexLemmas.{length-encode_with}
-use Rattle.pk_nvme.specs.Bytes.{RoomyList}
-use Rattle.pk_nvme.specs.Text.{number_text, hex_text}
+use Rattle.hex.{specs.Hex.encode_with, specs.Hex.lower_digits, proofs.HexLemmas.length-encode_with}
+use Rattle.pk_nvme.{specs.Bytes.RoomyList, specs.Text.number_text, specs.Text.hex_text}
 
 encode_with-append : (t xs ys : List ℕ) → encode_with t (xs ++ ys) ≡ encode_with t xs ++ encode_with t ys
 unfolding encode_with

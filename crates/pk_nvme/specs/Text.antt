@@ -1,9 +1,6 @@
 -- Numbers and bytes as text.
 use Rattle.std.specs.Prelude.{ℕ, ◌-◌, ◌^◌, ◌==◌, ◌&&◌, ◌||◌, not, nat_lt, Bool, if◌then◌else◌, List, [], ◌∷◌, ◌++◌, length, replicate, slice_index, Option, Some, None, codes, bytes_eq, decimal}
-use Rattle.std.specs.List.{list_all}
-use Rattle.std.specs.Char.{is_ascii_digit}
-use Rattle.std.specs.Result.{result_ok}
-use Rattle.std.specs.Str.Parse.{digits_value}
+use Rattle.std.{specs.List.list_all, specs.Char.is_ascii_digit, specs.Result.result_ok, specs.Str.Parse.digits_value}
 use Rattle.hex.specs.Hex.{encode_lower, decode_of}
 
 -- a number as decimal digits, without a sign and without a leading zero

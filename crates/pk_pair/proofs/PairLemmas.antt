@@ -1,21 +1,12 @@
 -- Boards on which a pair is programmed.
 use Rattle.std.proofs.Common.{◌≡◌, inl, inr, ◌<◌, ◌≤◌, ℕ, ◌+◌, ◌-◌, ◌*◌, ◌/◌, ◌%◌, refl, arith, le_refl, List, [], ◌∷◌, ◌++◌, length}
 use Rattle.std.specs.Prelude.{slice_index}
-use Rattle.pk_base.specs.Shape.{Shape, IsShape, epoch_commits, page_count}
-use Rattle.pk_base.specs.Page.{Flash, commit_page}
-use Rattle.pk_base.proofs.EpochPages.{half}
-use Rattle.pk_base.proofs.CommitPages.{room}
-use Rattle.pk_base.specs.Mark.{program}
-use Rattle.pk_nand.specs.BoardState.{BoardState, shape_of}
-use Rattle.pk_nand.specs.Calls.{after_program, ProgramFailed}
-use Rattle.pk_nand.specs.Operations.{InOrder}
-use Rattle.pk_nand.specs.Crash.{Reached, Went}
-use Rattle.pk_nand.specs.Pairs.{IsPairCut}
-use Rattle.pk_nand.proofs.Pairing.{IsPairCut-start, Reached-in_pair, Went-in_pair_failed, program_done}
+use Rattle.pk_base.{specs.Shape.Shape, specs.Shape.IsShape, specs.Shape.epoch_commits, specs.Shape.page_count, specs.Page.Flash, specs.Page.commit_page, proofs.EpochPages.half, specs.Mark.program}
+use Rattle.pk_base.{proofs.CommitPages.room, proofs.BlockLemmas.apart}
+use Rattle.pk_nand.{specs.BoardState.BoardState, specs.BoardState.shape_of, specs.Calls.after_program, specs.Calls.ProgramFailed, specs.Operations.InOrder, specs.Crash.Reached, specs.Crash.Went}
+use Rattle.pk_nand.{specs.Pairs.IsPairCut, proofs.Pairing.IsPairCut-start, proofs.Pairing.Reached-in_pair, proofs.Pairing.Went-in_pair_failed, proofs.Pairing.program_done, proofs.Writing.InOrder-next}
 use Rattle.pk_nand.proofs.Reaching.{Reached-then, Went-then}
-use Rattle.pk_nand.proofs.Writing.{InOrder-next}
 use Rattle.pk_pair.specs.Pairs.{AllExist}
-use Rattle.pk_base.proofs.BlockLemmas.{apart}
 
 module _ (old : BoardState) (page : ℕ) (bytes : List ℕ) (even : page % (shape_of old).block_pages % 2 ≡ 0) where
   module _ (room : page % (shape_of old).block_pages + 1 < (shape_of old).block_pages) (order : InOrder (shape_of old) old.pages page) where

@@ -1,9 +1,7 @@
 -- How a pair is read, and by how many reads.
 use Rattle.std.specs.Prelude.{◌≡◌, ◌⊎◌, ℕ, ◌+◌, ◌<◌, List, slice_index, Option, Some, None}
-use Rattle.pk_base.specs.Shape.{Shape}
-use Rattle.pk_base.specs.Page.{Page, Flash, page_at, erased, whole, torn}
-use Rattle.pk_nand.specs.BoardState.{BoardState}
-use Rattle.pk_nand.specs.Operations.{after_read, ReadFailed}
+use Rattle.pk_base.{specs.Shape.Shape, specs.Page.Page, specs.Page.Flash, specs.Page.page_at, specs.Page.erased, specs.Page.whole, specs.Page.torn}
+use Rattle.pk_nand.{specs.BoardState.BoardState, specs.Operations.after_read, specs.Operations.ReadFailed}
 
 -- the blocks of an epoch are blocks of the flash
 abbrev pub AllExist : Shape → List ℕ → Type 0

@@ -1,61 +1,29 @@
 -- A commit of the pending entries keeps the map.
-use Rattle.std.proofs.Common.{◌≡◌, ◌≢◌, ◌⊎◌, inl, inr, ℕ, ◌+◌, ◌-◌, ◌/◌, ◌<◌, ◌≤◌, if◌then◌else◌, arith, Bool, true, false, List, [], ◌++◌, reverse, Some, Result, Ok, Err, refl, sym, ap}
-use Rattle.std.proofs.Common.{subst, ◌∙◌, append-nil}
-use Rattle.std.specs.Prelude.{slice_get, IsOk, IfErr, OnOk, OnErr}
-use Rattle.std.specs.List.{flat_map}
-use Rattle.pk_base.specs.Shape.{Shape, epoch_commits, commit_programs}
-use Rattle.pk_base.specs.Page.{Flash, page_at, whole, commit_page}
-use Rattle.pk_base.specs.Entry.{Entry, Place}
-use Rattle.pk_base.specs.Key.{Key}
-use Rattle.pk_base.specs.Firsts.{firsts}
-use Rattle.pk_base.specs.Map.{Map}
-use Rattle.pk_base.specs.Mark.{all_posted}
+use Rattle.std.proofs.Common.{◌≡◌, ◌≢◌, ◌⊎◌, inl, inr, ℕ, ◌+◌, ◌-◌, ◌/◌, ◌<◌, ◌≤◌, if◌then◌else◌, arith, Bool, true, false, List, [], ◌++◌, reverse, Some, Result, Ok, Err, refl, sym, ap, subst, ◌∙◌}
+use Rattle.std.proofs.Common.{append-nil}
+use Rattle.std.{specs.Prelude.slice_get, specs.Prelude.IsOk, specs.Prelude.IfErr, specs.Prelude.OnOk, specs.Prelude.OnErr, specs.List.flat_map}
+use Rattle.pk_base.{specs.Shape.Shape, specs.Shape.epoch_commits, specs.Shape.commit_programs, specs.Page.Flash, specs.Page.page_at, specs.Page.whole, specs.Page.commit_page, specs.Key.Key}
+use Rattle.pk_base.{specs.Entry.Entry, specs.Entry.Place, specs.Firsts.firsts, specs.Map.Map, specs.Mark.all_posted, proofs.CommitPages.block_of_pair}
 use Rattle.pk_plan.specs.declared.owner.Owner.TheVariants.{Journal}
-use Rattle.pk_nand.specs.declared.types.Fault.{Fault}
-use Rattle.pk_nand.specs.declared.types.Fault.TheVariants.{Stopped}
-use Rattle.pk_nand.specs.BoardState.{BoardState}
-use Rattle.pk_nand.specs.Calls.{IsReady, after_program, after_programs}
-use Rattle.pk_nand.proofs.Leaving.{page_at-slice_set}
-use Rattle.pk_nand.proofs.Writing.{shape_is}
-use Rattle.pk_rootfmt.specs.Root.{Root}
-use Rattle.pk_rootfmt.specs.Newest.{newest_root}
-use Rattle.pk_pool.specs.declared.state.BlockState.TheVariants.{Owned}
-use Rattle.pk_pool.specs.Blocks.{PoolOnFlash}
-use Rattle.pk_jrn.specs.Epochs.{left_of, next_page}
-use Rattle.pk_jrn.specs.Appends.{next_bytes}
-use Rattle.pk_jrn.proofs.Appending.{commit_left}
-use Rattle.pk_model.specs.Found.{Found}
-use Rattle.pk_model.specs.Values.{placed}
-use Rattle.pk_model.specs.Laws.{AnyByRecursion}
-use Rattle.pk_model.proofs.Commits.{valid_blocks, pair_among}
-use Rattle.pk_model.proofs.SamePages.{any_front}
-use Rattle.pk_law_steps.specs.Under.{IsUnder, IsValuePage, places}
-use Rattle.pk_law_steps.specs.Roots.{committed}
-use Rattle.pk_law_steps.proofs.Untouched.{under_reads}
-use Rattle.pk_scan.specs.Used.{IsUseOf}
-use Rattle.pk_values.specs.Placed.{ValuesOnFlash}
-use Rattle.pk_values.proofs.Unchanged.{flash_elsewhere}
-use Rattle.pk_model.specs.Growth.{Goes}
-use Rattle.pk_model.specs.Crashes.{CrashFinds, commit}
-use Rattle.pk_nand.specs.Effects.{Works, Stops}
-use Rattle.pk_call.specs.Commit.{ProgramsOfCommit}
-use Rattle.pk_model.specs.Wear.{root_number, roots}
-use Rattle.pk_model.proofs.Growing.{weaken, weaken_went, at_end}
+use Rattle.pk_nand.{specs.declared.types.Fault.Fault, specs.declared.types.Fault.TheVariants.Stopped, specs.BoardState.BoardState, proofs.Leaving.page_at-slice_set, proofs.Writing.shape_is}
+use Rattle.pk_nand.{specs.Calls.IsReady, specs.Calls.after_program, specs.Calls.after_programs, specs.Effects.Works, specs.Effects.Stops, specs.Pairs.programs_of_pair}
 use Rattle.pk_nand.proofs.Effects.{works_none, works_program, works_then, stops_program, stops_then}
+use Rattle.pk_rootfmt.{specs.Root.Root, specs.Newest.newest_root}
+use Rattle.pk_pool.{specs.declared.state.BlockState.TheVariants.Owned, specs.Blocks.PoolOnFlash}
+use Rattle.pk_jrn.{specs.Epochs.left_of, specs.Epochs.next_page, specs.Appends.next_bytes, proofs.Appending.commit_left}
+use Rattle.pk_model.{specs.Found.Found, specs.Values.placed, specs.Laws.AnyByRecursion, proofs.Commits.valid_blocks, proofs.Commits.pair_among, proofs.SamePages.any_front, specs.Growth.Goes}
+use Rattle.pk_model.{specs.Crashes.CrashFinds, specs.Crashes.commit, specs.Wear.root_number, specs.Wear.roots, proofs.Growing.weaken, proofs.Growing.weaken_went, proofs.Growing.at_end}
+use Rattle.pk_law_steps.{specs.Under.IsUnder, specs.Under.IsValuePage, specs.Under.places, specs.Roots.committed, proofs.Untouched.under_reads}
+use Rattle.pk_scan.specs.Used.{IsUseOf}
+use Rattle.pk_values.{specs.Placed.ValuesOnFlash, proofs.Unchanged.flash_elsewhere}
+use Rattle.pk_call.specs.Commit.{ProgramsOfCommit}
 use Rattle.pk_log.specs.State.{LogState, all_committed}
 use Rattle.pk_log.specs.Commits.{CommitsNone, CommitsAll, CommitFailed, CommitStands, CommitHolds, CommitReaches, CommitGoes, CommitCut as LogCut, Maps}
 use Rattle.pk_gc.specs.Standing.{ReclaimOnFlash}
-use Rattle.pk_parts.specs.Parts.{Parts, frames_of, index_of, outputs_of}
-use Rattle.pk_parts.specs.Agreeing.{DriveOnFlashWith}
+use Rattle.pk_parts.{specs.Parts.Parts, specs.Parts.frames_of, specs.Parts.index_of, specs.Parts.outputs_of, specs.Agreeing.DriveOnFlashWith, proofs.Halves.whole_like, proofs.Keeping.KeepsAll-none}
 use Rattle.pk_parts.specs.Moves.{MayCommit, StepKeeps, OnlyCommits, StandsFor, StandsBetween, Keeps, KeepsAll, BreaksAll}
-use Rattle.pk_parts.proofs.Halves.{whole_like}
-use Rattle.pk_parts.proofs.Keeping.{KeepsAll-none}
-use Rattle.pk_parts.proofs.Standing.{same_found}
+use Rattle.pk_parts.{proofs.Standing.same_found, proofs.Elsewhere.values_same, proofs.Elsewhere.still_fits, proofs.Reclaiming.reclaim_elsewhere}
 use Rattle.pk_schedule.proofs.Keeping.{index_committed}
-use Rattle.pk_parts.proofs.Elsewhere.{values_same, still_fits}
-use Rattle.pk_parts.proofs.Reclaiming.{reclaim_elsewhere}
-use Rattle.pk_nand.specs.Pairs.{programs_of_pair}
-use Rattle.pk_base.proofs.CommitPages.{block_of_pair}
 
 -- the drive with another log
 abbrev pub with_log : Parts → LogState → Parts

@@ -1,13 +1,9 @@
 -- What is unchanged of a drive if no page differs that it needs.
-use Rattle.std.proofs.Common.{◌≡◌, ℕ, ◌/◌, List, Some, sym, subst}
-use Rattle.std.specs.Prelude.{slice_get}
-use Rattle.pk_base.specs.Shape.{Shape}
-use Rattle.pk_base.specs.Page.{Flash, page_at}
+use Rattle.std.{proofs.Common.◌≡◌, proofs.Common.ℕ, proofs.Common.◌/◌, proofs.Common.List, proofs.Common.Some, proofs.Common.sym, proofs.Common.subst, specs.Prelude.slice_get}
+use Rattle.pk_base.{specs.Shape.Shape, specs.Page.Flash, specs.Page.page_at}
 use Rattle.pk_plan.specs.declared.owner.Owner.TheVariants.{Journal, Values as for_values}
-use Rattle.pk_pool.specs.declared.state.BlockState.{BlockState}
-use Rattle.pk_pool.specs.declared.state.BlockState.TheVariants.{Ready, Owned}
-use Rattle.pk_pool.specs.Blocks.{Blocks, PoolOnFlash}
-use Rattle.pk_pool.proofs.Fitting.{block_of, PoolOnFlash-same}
+use Rattle.pk_pool.{specs.declared.state.BlockState.BlockState, specs.declared.state.BlockState.TheVariants.Ready, specs.declared.state.BlockState.TheVariants.Owned}
+use Rattle.pk_pool.{specs.Blocks.Blocks, specs.Blocks.PoolOnFlash, proofs.Fitting.block_of, proofs.Fitting.PoolOnFlash-same}
 use Rattle.pk_values.specs.Laws.{SameValues}
 
 -- ---- states of blocks

@@ -1,16 +1,12 @@
 -- A drive that is whole, and one of which a pair is half made.
 use Rattle.std.proofs.Common.{◌≡◌, ◌⊎◌, inl, inr, ℕ, Bool, true, false, ◌||◌, [], refl, sym, ap, subst, ◌∙◌, Err}
 use Rattle.std.specs.Prelude.{IsOk}
-use Rattle.pk_base.specs.Shape.{Shape}
-use Rattle.pk_base.specs.Page.{Flash}
-use Rattle.pk_base.specs.Map.{Map}
+use Rattle.pk_base.{specs.Shape.Shape, specs.Page.Flash, specs.Map.Map, proofs.Logic.not_both}
 use Rattle.pk_plan.specs.declared.owner.Owner.TheVariants.{Values}
-use Rattle.pk_pool.specs.Blocks.{Blocks, NoneLeaves, used_by, freed}
+use Rattle.pk_pool.{specs.Blocks.Blocks, specs.Blocks.NoneLeaves, specs.Blocks.used_by, specs.Blocks.freed, proofs.Leaving.freed_same}
 use Rattle.pk_rootfmt.specs.Root.{Root}
 use Rattle.pk_root.specs.Installing.{repeats_next}
-use Rattle.pk_pool.proofs.Leaving.{freed_same}
-use Rattle.pk_nand.specs.declared.types.Fault.{Fault}
-use Rattle.pk_nand.specs.BoardState.{BoardState}
+use Rattle.pk_nand.{specs.declared.types.Fault.Fault, specs.BoardState.BoardState}
 use Rattle.pk_model.specs.Found.{Found}
 use Rattle.pk_gc.specs.declared.course.Phase.{Phase}
 use Rattle.pk_gc.specs.declared.course.Phase.TheVariants.{Idle, Copies, Commits, GivesBack}
@@ -19,7 +15,6 @@ use Rattle.pk_schedule.specs.Index.{Index, IsSettled, HalfStands}
 use Rattle.pk_parts.specs.Parts.{Parts, index_of, settled_parts, commits_in, is_half}
 use Rattle.pk_parts.specs.Agreeing.{DriveOnFlashWith, IsWhole, IsHalfRoot, IsHalfCommit, IsHalfAtMost}
 use Rattle.pk_parts.specs.Moves.{StandsFor, StandsBetween, MayStep, MayCommit}
-use Rattle.pk_base.proofs.Logic.{not_both}
 
 true_false : true ≡ false → ⊥
 true_false e = cc

@@ -1,15 +1,9 @@
 -- Levels that have all their pages in frames.
-use Rattle.std.proofs.Common.{◌≡◌, inl, inr, ℕ, zero, suc, ◌+◌, ◌-◌, ◌<◌, ◌≤◌, Bool, true, false, cond, if◌then◌else◌, nat_le, List, [], ◌∷◌, length, map, slice_get, refl, ap, sym, subst, ◌∙◌, arith, Option, Some}
-use Rattle.std.specs.Prelude.{count_by, slice_index_or}
-use Rattle.std.proofs.lemmas.Bool.{cases_lt}
-use Rattle.std.proofs.lemmas.Bool.Decides.{nat_tests}
-use Rattle.std.proofs.lemmas.List.Sums.{sum_by-cons}
-use Rattle.pk_base.specs.Shape.{Shape, need, pinned, run_pages}
-use Rattle.pk_base.specs.Entry.{Entry}
-use Rattle.pk_base.specs.Map.{Map}
-use Rattle.pk_base.specs.Page.{Flash}
-use Rattle.pk_adapt.specs.Adapted.{adapted}
-use Rattle.pk_adapt.proofs.Fitting.{is_adapted}
+use Rattle.std.proofs.Common.{◌≡◌, inl, inr, ℕ, zero, suc, ◌+◌, ◌-◌, ◌<◌, ◌≤◌, Bool, true, false, cond, if◌then◌else◌, nat_le, List, [], ◌∷◌, length, map, slice_get, refl, ap, sym, subst, ◌∙◌, arith}
+use Rattle.std.proofs.Common.{Option, Some}
+use Rattle.std.{specs.Prelude.count_by, specs.Prelude.slice_index_or, proofs.lemmas.Bool.cases_lt, proofs.lemmas.Bool.Decides.nat_tests, proofs.lemmas.List.Sums.sum_by-cons}
+use Rattle.pk_base.{specs.Shape.Shape, specs.Shape.need, specs.Shape.pinned, specs.Shape.run_pages, specs.Entry.Entry, specs.Map.Map, specs.Page.Flash}
+use Rattle.pk_adapt.{specs.Adapted.adapted, proofs.Fitting.is_adapted}
 use Rattle.pk_rootfmt.specs.Root.{Root}
 use Rattle.pk_pin.specs.Frames.{Frames}
 use Rattle.pk_run.specs.Kept.{Kept, empty, is_pinned}

@@ -1,22 +1,12 @@
 -- Steps one after another, each of which keeps the map.
 use Rattle.std.proofs.Common.{◌≡◌, ◌⊎◌, inl, inr, ℕ, List, [], ◌++◌, Some, Ok, false, refl, sym, ap, subst, ◌∙◌}
-use Rattle.pk_base.specs.Shape.{Shape}
-use Rattle.pk_base.specs.Page.{Flash}
-use Rattle.pk_base.specs.Map.{Map}
-use Rattle.pk_base.specs.Mark.{all_posted}
-use Rattle.pk_nand.specs.BoardState.{BoardState}
-use Rattle.pk_nand.specs.Calls.{IsReady}
-use Rattle.pk_nand.proofs.Reaching.{Reached-start}
-use Rattle.pk_model.specs.Reading.{reading}
-use Rattle.pk_model.specs.Growth.{Goes}
-use Rattle.pk_model.specs.Crashes.{CrashFinds, commit}
-use Rattle.pk_model.proofs.Growing.{Reaches-then, Goes-then, at_end}
+use Rattle.pk_base.{specs.Shape.Shape, specs.Page.Flash, specs.Map.Map, specs.Mark.all_posted}
+use Rattle.pk_nand.{specs.BoardState.BoardState, specs.Calls.IsReady, proofs.Reaching.Reached-start}
+use Rattle.pk_model.{specs.Reading.reading, specs.Growth.Goes, specs.Crashes.CrashFinds, specs.Crashes.commit, proofs.Growing.Reaches-then, proofs.Growing.Goes-then, proofs.Growing.at_end}
 use Rattle.pk_model.specs.Found.{Found}
 use Rattle.pk_law_steps.specs.Under.{places}
-use Rattle.pk_parts.specs.Parts.{Parts, is_half}
-use Rattle.pk_parts.specs.Moves.{StandsFor, Keeps, KeepsAll, KeepsAllBetween, BreaksAll}
-use Rattle.pk_parts.proofs.Halves.{with_settled, with_whole, whole_of}
-use Rattle.pk_parts.proofs.Standing.{same_found}
+use Rattle.pk_parts.{specs.Parts.Parts, specs.Parts.is_half, specs.Moves.StandsFor, specs.Moves.Keeps, specs.Moves.KeepsAll, specs.Moves.KeepsAllBetween, specs.Moves.BreaksAll}
+use Rattle.pk_parts.{proofs.Halves.with_settled, proofs.Halves.with_whole, proofs.Halves.whole_of, proofs.Standing.same_found}
 
 -- if the second flash holds what the first held, or the map, a cut after it is one after the first
 pub cut_of_both : (shape : Shape) (m : Map) (first second flash : Flash) (front posted : List ℕ) → front ≡ []

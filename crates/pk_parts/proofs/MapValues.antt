@@ -1,25 +1,13 @@
 -- The values of a drive's map are those at its places, and each namespace keeps within its limit.
 use Rattle.std.proofs.Common.{◌≡◌, ℕ, ◌<◌, sym, ap, subst, ◌∙◌, arith, T, List, length}
-use Rattle.std.specs.FinMap.{entries}
-use Rattle.std.specs.FinMap.Entries.{is_sorted}
-use Rattle.pk_base.specs.Key.{Key, key_cmp}
-use Rattle.pk_base.specs.Shape.{Shape, IsShape}
-use Rattle.pk_base.specs.Page.{Flash, page_at, whole}
-use Rattle.pk_base.specs.Entry.{Place}
-use Rattle.pk_base.specs.Map.{Map}
+use Rattle.std.{specs.FinMap.entries, specs.FinMap.Entries.is_sorted}
+use Rattle.pk_base.{specs.Key.Key, specs.Key.key_cmp, specs.Shape.Shape, specs.Shape.IsShape, specs.Page.Flash, specs.Page.page_at, specs.Page.whole, specs.Entry.Place, specs.Map.Map}
 use Rattle.pk_base.proofs.KeyLemmas.{firsts_sorted}
 use Rattle.pk_rootfmt.specs.Root.{Root, named}
-use Rattle.pk_model.specs.Found.{Found, entries_in_order}
-use Rattle.pk_model.specs.RootLimits.{root_limits}
-use Rattle.pk_model.specs.Values.{KeepsWithin}
-use Rattle.pk_model.proofs.HeldMap.{nothing_fits}
-use Rattle.pk_model.proofs.Merges.{placed_sorted}
+use Rattle.pk_model.{specs.Found.Found, specs.Found.entries_in_order, specs.RootLimits.root_limits, specs.Values.KeepsWithin, proofs.HeldMap.nothing_fits, proofs.Merges.placed_sorted}
 use Rattle.pk_model.proofs.ValueSets.{values_sound, Reads}
-use Rattle.pk_law_steps.specs.Under.{counting, places}
-use Rattle.pk_law_steps.proofs.Counting.{sorted_read, entries-rising}
-use Rattle.pk_law_steps.proofs.Untouched.{Values, values_under}
-use Rattle.pk_parts.specs.Parts.{Parts}
-use Rattle.pk_parts.specs.Agreeing.{DriveOnFlashWith}
+use Rattle.pk_law_steps.{specs.Under.counting, specs.Under.places, proofs.Counting.sorted_read, proofs.Counting.entries-rising, proofs.Untouched.Values, proofs.Untouched.values_under}
+use Rattle.pk_parts.{specs.Parts.Parts, specs.Agreeing.DriveOnFlashWith}
 
 module _ (d : Parts) (shape : Shape) (flash : Flash) (top : ℕ × Root) (found : Found) (without all : Map) (a : DriveOnFlashWith d shape flash top found without all) where
   abbrev its_places : List (Key × Place)

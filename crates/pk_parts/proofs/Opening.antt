@@ -1,40 +1,23 @@
 -- What opening found makes parts that agree with the flash.
 use Rattle.std.proofs.Common.{◌≡◌, ℕ, ◌-◌, ◌/◌, List, [], false, length, refl, sym, ap, subst, ◌∙◌, arith}
-use Rattle.pk_base.specs.Shape.{Shape, IsShape, pinned}
-use Rattle.pk_base.specs.Page.{Flash, IsFlash}
-use Rattle.pk_base.specs.Entry.{Entry, Place}
-use Rattle.pk_base.specs.Key.{Key}
-use Rattle.pk_base.specs.Map.{Map}
+use Rattle.pk_base.{specs.Shape.Shape, specs.Shape.IsShape, specs.Shape.pinned, specs.Page.Flash, specs.Page.IsFlash, specs.Entry.Entry, specs.Entry.Place, specs.Key.Key, specs.Map.Map}
 use Rattle.pk_rootfmt.specs.Root.{named}
 use Rattle.pk_root.specs.Installing.{repeats_next}
 use Rattle.pk_jrn.specs.Epochs.{JournalEpoch}
 use Rattle.pk_plan.specs.declared.owner.Owner.TheVariants.{Values as for_values}
 use Rattle.pk_pool.specs.Blocks.{Blocks, used_by}
-use Rattle.pk_level.specs.Arenas.{HasArena}
-use Rattle.pk_level.specs.Levels.{HaveBlocks}
+use Rattle.pk_level.{specs.Arenas.HasArena, specs.Levels.HaveBlocks}
 use Rattle.pk_merge.specs.Jobs.{IsIdle}
 use Rattle.pk_compact.specs.declared.freezing.FreezeJob.TheVariants.{Idle as NoFreeze}
-use Rattle.pk_schedule.specs.declared.phase.Phase.TheVariants.{Idle}
-use Rattle.pk_schedule.specs.Index.{Schedule, IndexOnFlash, index}
+use Rattle.pk_schedule.{specs.declared.phase.Phase.TheVariants.Idle, specs.Index.Schedule, specs.Index.IndexOnFlash, specs.Index.index, proofs.Keeping.IsFound, proofs.Keeping.index_opens}
 use Rattle.pk_model.specs.Found.{Found}
 use Rattle.pk_law_steps.specs.Under.{IsUnder, places}
-use Rattle.pk_log.specs.State.{LogState, opened}
-use Rattle.pk_log.specs.Logs.{LogOnFlash, Opens}
-use Rattle.pk_values.specs.State.{ValuesState, with_none_open}
-use Rattle.pk_values.specs.Placed.{IsOutput, ValuesOnFlash, FoundAtOpening}
-use Rattle.pk_gc.specs.declared.course.Phase.{Phase}
-use Rattle.pk_gc.specs.declared.course.Phase.TheVariants.{Idle as NoReclaim}
-use Rattle.pk_gc.specs.State.{JobState}
-use Rattle.pk_gc.specs.Stepping.{runs_in}
-use Rattle.pk_gc.specs.Standing.{held_blocks}
-use Rattle.pk_scan.specs.Opened.{ListsOnFlash, BlocksOnFlash, FoundOnFlash}
-use Rattle.pk_scan.specs.declared.contents.Found.{Found as Opened}
-use Rattle.pk_scan.specs.Used.{IsUseOf}
+use Rattle.pk_log.{specs.State.LogState, specs.State.opened, specs.Logs.LogOnFlash, specs.Logs.Opens}
+use Rattle.pk_values.{specs.State.ValuesState, specs.State.with_none_open, specs.Placed.IsOutput, specs.Placed.ValuesOnFlash, specs.Placed.FoundAtOpening}
+use Rattle.pk_gc.{specs.declared.course.Phase.Phase, specs.declared.course.Phase.TheVariants.Idle as NoReclaim, specs.State.JobState, specs.Stepping.runs_in, specs.Standing.held_blocks}
+use Rattle.pk_scan.{specs.Opened.ListsOnFlash, specs.Opened.BlocksOnFlash, specs.Opened.FoundOnFlash, specs.declared.contents.Found.Found as Opened, specs.Used.IsUseOf}
 use Rattle.pk_walk.specs.Walking.{Walk}
-use Rattle.pk_parts.specs.Parts.{Parts, commits_in}
-use Rattle.pk_parts.specs.Opening.{OpenedOn}
-use Rattle.pk_parts.proofs.Reclaiming.{reclaim_rests}
-use Rattle.pk_schedule.proofs.Keeping.{IsFound, index_opens}
+use Rattle.pk_parts.{specs.Parts.Parts, specs.Parts.commits_in, specs.Opening.OpenedOn, proofs.Reclaiming.reclaim_rests}
 
 -- the lists are what a log is opened with
 log_opens : {A : Type 0} (shape : Shape) (flash : Flash) (frames : ℕ) (f : Opened A) (found : Found) (m : Map)

@@ -1,28 +1,17 @@
 -- The limits of a drive's namespaces are those on its flash; what each namespace reports.
 use Rattle.std.proofs.Common.{◌≡◌, ℕ, zero, suc, ◌+◌, ◌-◌, ◌<◌, ◌≤◌, refl, sym, ap, subst, ◌∙◌, arith, T, ◌&&◌, nat_le, leb→le, List, [], ◌∷◌, length, take, map, min, sum, Option, Some}
-use Rattle.std.specs.Prelude.{slice_index, slice_index_or}
-use Rattle.std.proofs.lemmas.List.Sums.{sum_by-cons}
-use Rattle.pk_base.specs.Shape.{Shape, limit}
-use Rattle.pk_base.specs.Page.{Flash, page_at}
-use Rattle.pk_base.specs.Map.{Map}
-use Rattle.pk_base.specs.declared.sizes.TheConstants.{MOST_SPACES}
+use Rattle.std.{specs.Prelude.slice_index, specs.Prelude.slice_index_or, proofs.lemmas.List.Sums.sum_by-cons}
+use Rattle.pk_base.{specs.Shape.Shape, specs.Shape.limit, specs.Page.Flash, specs.Page.page_at, specs.Map.Map, specs.declared.sizes.TheConstants.MOST_SPACES}
 use Rattle.pk_base.proofs.Logic.{left_part, right_part}
 use Rattle.pk_nand.specs.BoardState.{BoardState}
 use Rattle.pk_rootfmt.specs.Root.{Root, is_root, is_laid_out, are_limits, has_limits_room, fit_in, limits_of as all_limits}
 use Rattle.pk_rootfmt.specs.Held.{Held}
 use Rattle.pk_space.specs.Uses.{Use, space_live, space_keys}
-use Rattle.pk_model.specs.Found.{Found}
-use Rattle.pk_model.specs.Growth.{Reaches}
-use Rattle.pk_model.specs.RootLimits.{root_limits}
-use Rattle.pk_model.specs.Spaces.{limit_of, limits_at}
-use Rattle.pk_model.proofs.Commits.{root_valid}
-use Rattle.pk_model.proofs.Growing.{reached_limits}
-use Rattle.pk_model.proofs.RootLimits.{limits_under}
-use Rattle.pk_model.proofs.Roots.{newest_sound}
+use Rattle.pk_model.{specs.Found.Found, specs.Growth.Reaches, specs.RootLimits.root_limits, specs.Spaces.limit_of, specs.Spaces.limits_at, proofs.Commits.root_valid, proofs.Growing.reached_limits}
+use Rattle.pk_model.{proofs.RootLimits.limits_under, proofs.Roots.newest_sound}
 use Rattle.pk_call.specs.Sight.{InSpace, in_space_at, live_of_all}
-use Rattle.pk_parts.specs.Parts.{Parts, drive_limits, reported_from, spaces_of, settled_parts}
+use Rattle.pk_parts.{specs.Parts.Parts, specs.Parts.drive_limits, specs.Parts.reported_from, specs.Parts.spaces_of, specs.Parts.settled_parts, specs.Moves.StandsFor, specs.Moves.StandsBetween}
 use Rattle.pk_parts.specs.Agreeing.{DriveOnFlashWith, DriveOnFlash}
-use Rattle.pk_parts.specs.Moves.{StandsFor, StandsBetween}
 
 -- ---- the limits on the flash
 

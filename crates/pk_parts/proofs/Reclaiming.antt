@@ -1,32 +1,18 @@
 -- The reclaim of a drive is unchanged, whatever others do.
 use Rattle.std.proofs.Common.{◌≡◌, ◌⊎◌, inl, inr, ℕ, zero, suc, ◌+◌, ◌-◌, ◌*◌, ◌/◌, ◌<◌, ◌≤◌, sym, subst, ◌∙◌, refl, arith, true, false, List, [], ◌∷◌, Option, Some, None}
-use Rattle.std.specs.Prelude.{Bool, slice_index, slice_set, MatchOption, IfSome}
-use Rattle.std.specs.FinMap.Entries.{put}
-use Rattle.std.proofs.lemmas.List.{get_or-set_other}
-use Rattle.pk_base.specs.Key.{Key, key_cmp}
-use Rattle.pk_base.specs.Shape.{Shape, charge, dense}
-use Rattle.pk_base.specs.Page.{Flash, page_at}
-use Rattle.pk_base.specs.Entry.{Place}
+use Rattle.std.{specs.Prelude.Bool, specs.Prelude.slice_index, specs.Prelude.slice_set, specs.Prelude.MatchOption, specs.Prelude.IfSome, specs.FinMap.Entries.put, proofs.lemmas.List.get_or-set_other}
+use Rattle.pk_base.{specs.Key.Key, specs.Key.key_cmp, specs.Shape.Shape, specs.Shape.charge, specs.Shape.dense, specs.Page.Flash, specs.Page.page_at, specs.Entry.Place}
 use Rattle.pk_plan.specs.declared.owner.Owner.TheVariants.{Values as for_values}
-use Rattle.pk_pool.specs.Blocks.{Blocks, used_by}
-use Rattle.pk_pool.proofs.Fitting.{block_of}
-use Rattle.pk_live.specs.Values.{Values, IsClosed}
+use Rattle.pk_pool.{specs.Blocks.Blocks, specs.Blocks.used_by, proofs.Fitting.block_of}
+use Rattle.pk_live.{specs.Values.Values, specs.Values.IsClosed, specs.declared.open_block.OpenBlock.OpenBlock}
 use Rattle.pk_model.specs.Laws.{IsPageOf}
-use Rattle.pk_live.specs.declared.open_block.OpenBlock.{OpenBlock}
-use Rattle.pk_values.specs.declared.span.Span.{Span}
-use Rattle.pk_values.specs.State.{ValuesState}
-use Rattle.pk_values.specs.Placed.{HoldsValues, IsNotOpen, IsOpenIn, ValuesOnFlash, without}
+use Rattle.pk_values.{specs.declared.span.Span.Span, specs.State.ValuesState, specs.Placed.HoldsValues, specs.Placed.IsNotOpen, specs.Placed.IsOpenIn, specs.Placed.ValuesOnFlash, specs.Placed.without}
 use Rattle.pk_values.specs.Entries.{IsInOpen, heads_without}
-use Rattle.pk_gc.specs.declared.course.Course.{Course}
-use Rattle.pk_gc.specs.declared.course.Phase.{Phase}
+use Rattle.pk_gc.{specs.declared.course.Course.Course, specs.declared.course.Phase.Phase, specs.State.JobState, specs.State.live_from, specs.State.live_unseen, specs.State.unseen}
 use Rattle.pk_gc.specs.declared.course.Phase.TheVariants.{Idle, Copies, Commits, GivesBack}
-use Rattle.pk_law_work.specs.Rest.{steps_of, whole_reclaim}
-use Rattle.pk_law_work.specs.Jobs.{reclaim_rest}
-use Rattle.pk_gc.specs.State.{JobState, live_from, live_unseen, unseen}
-use Rattle.pk_gc.specs.Running.{IsSparse}
-use Rattle.pk_gc.specs.Stepping.{runs_in}
-use Rattle.pk_gc.specs.Standing.{held_blocks, ReclaimStands, ReclaimOnFlash}
+use Rattle.pk_gc.{specs.Running.IsSparse, specs.Stepping.runs_in, specs.Standing.held_blocks, specs.Standing.ReclaimStands, specs.Standing.ReclaimOnFlash}
 use Rattle.pk_gc.proofs.Keeping.{runs_elsewhere, runs_stored, runs_deleted}
+use Rattle.pk_law_work.{specs.Rest.steps_of, specs.Rest.whole_reclaim, specs.Jobs.reclaim_rest}
 use Rattle.pk_parts.specs.Parts.{reclaim_left}
 
 true_false : true ≡ false → ⊥

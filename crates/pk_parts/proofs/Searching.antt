@@ -1,30 +1,16 @@
 -- What a lookup says of the map.
 use Rattle.std.proofs.Common.{◌≡◌, ℕ, ap, subst, ◌∙◌, List, Option, Some, None, Result, Ok, Err}
-use Rattle.std.specs.Prelude.{IfOk, OnOk, OnErr}
-use Rattle.std.specs.FinMap.{get}
-use Rattle.std.specs.FinMap.Entries.{find}
-use Rattle.pk_base.specs.Key.{Key, key_cmp}
-use Rattle.pk_base.specs.Shape.{Shape}
-use Rattle.pk_base.specs.Page.{Flash}
-use Rattle.pk_base.specs.Entry.{Entry}
-use Rattle.pk_base.specs.Firsts.{firsts}
-use Rattle.pk_base.specs.Map.{Map}
-use Rattle.pk_base.specs.declared.entry.Entry.{Entry as RustEntry}
-use Rattle.pk_base.specs.declared.entry.Entry.TheVariants.{Put, Gone}
+use Rattle.std.{specs.Prelude.IfOk, specs.Prelude.OnOk, specs.Prelude.OnErr, specs.FinMap.get, specs.FinMap.Entries.find}
+use Rattle.pk_base.{specs.Key.Key, specs.Key.key_cmp, specs.Shape.Shape, specs.Page.Flash, specs.Entry.Entry, specs.Firsts.firsts, specs.Map.Map, specs.declared.entry.Entry.Entry as RustEntry}
+use Rattle.pk_base.{specs.declared.entry.Entry.TheVariants.Put, specs.declared.entry.Entry.TheVariants.Gone, proofs.KeyLemmas.firsts_sorted}
 use Rattle.pk_rootfmt.specs.Root.{Root}
 use Rattle.pk_nand.specs.declared.types.Fault.{Fault}
 use Rattle.pk_run.specs.Search.{IsFound}
 use Rattle.pk_level.specs.Levels.{RunsOnFlash}
-use Rattle.pk_model.specs.Found.{Found, entries_in_order}
-use Rattle.pk_model.proofs.Lookups.{flat, find-firsts, find-placed}
-use Rattle.pk_law_steps.specs.Under.{IsUnder, places}
-use Rattle.pk_law_steps.specs.Lookups.{IsValueOf}
-use Rattle.pk_law_steps.proofs.Counting.{finds}
+use Rattle.pk_model.{specs.Found.Found, specs.Found.entries_in_order, proofs.Lookups.flat, proofs.Lookups.find-firsts, proofs.Lookups.find-placed}
+use Rattle.pk_law_steps.{specs.Under.IsUnder, specs.Under.places, specs.Lookups.IsValueOf, proofs.Counting.finds}
 use Rattle.pk_log.specs.Logs.{LogOnFlash}
-use Rattle.pk_parts.specs.Parts.{Parts}
-use Rattle.pk_parts.specs.Finding.{named_by, named_by_found, IsPlaceIn}
-use Rattle.pk_parts.specs.Quiet.{Looks}
-use Rattle.pk_base.proofs.KeyLemmas.{firsts_sorted}
+use Rattle.pk_parts.{specs.Parts.Parts, specs.Finding.named_by, specs.Finding.named_by_found, specs.Finding.IsPlaceIn, specs.Quiet.Looks}
 
 -- ---- the place of a value
 

@@ -2,13 +2,10 @@
 use Rattle.std.proofs.Common.{◌≡◌, ◌⊎◌, inl, inr, refl, sym, subst, List, Result, Ok, Err}
 use Rattle.std.specs.Prelude.{OnOk}
 use Rattle.pk_base.specs.Entry.{Entry}
-use Rattle.pk_nand.specs.declared.types.Fault.{Fault}
-use Rattle.pk_nand.specs.BoardState.{BoardState}
-use Rattle.pk_log.specs.State.{LogState}
-use Rattle.pk_log.specs.Commits.{CommitsNone, CommitsAll}
+use Rattle.pk_nand.{specs.declared.types.Fault.Fault, specs.BoardState.BoardState}
+use Rattle.pk_log.{specs.State.LogState, specs.Commits.CommitsNone, specs.Commits.CommitsAll}
 use Rattle.pk_call.specs.Moving.{Commits}
-use Rattle.pk_parts.specs.Parts.{Parts, sight_of}
-use Rattle.pk_parts.proofs.Committing.{with_log}
+use Rattle.pk_parts.{specs.Parts.Parts, specs.Parts.sight_of, proofs.Committing.with_log}
 
 -- ---- a commit
 

@@ -1,16 +1,10 @@
 -- A drive that agrees with its board represents one map.
 use Rattle.std.proofs.Common.{◌≡◌, ℕ, sym, ap, subst, ◌∙◌, Option, Some, Result, Ok}
-use Rattle.pk_base.specs.Shape.{Shape}
-use Rattle.pk_base.specs.Page.{Flash, page_at}
-use Rattle.pk_base.specs.Map.{Map}
-use Rattle.pk_base.specs.Refusal.{Refusal}
+use Rattle.pk_base.{specs.Shape.Shape, specs.Page.Flash, specs.Page.page_at, specs.Map.Map, specs.Refusal.Refusal}
 use Rattle.pk_rootfmt.specs.Root.{Root}
-use Rattle.pk_model.specs.Found.{Found, found_under}
-use Rattle.pk_model.specs.Reading.{reading}
+use Rattle.pk_model.{specs.Found.Found, specs.Found.found_under, specs.Reading.reading}
 use Rattle.pk_law_steps.proofs.Untouched.{under_reads}
-use Rattle.pk_parts.specs.Parts.{Parts, settled_parts}
-use Rattle.pk_parts.specs.Agreeing.{DriveOnFlashWith, DriveOnFlash}
-use Rattle.pk_parts.specs.Moves.{StandsFor, StandsBetween}
+use Rattle.pk_parts.{specs.Parts.Parts, specs.Parts.settled_parts, specs.Agreeing.DriveOnFlashWith, specs.Agreeing.DriveOnFlash, specs.Moves.StandsFor, specs.Moves.StandsBetween}
 use Rattle.pk_parts.proofs.Halves.{between}
 
 -- what the drive's map reads as

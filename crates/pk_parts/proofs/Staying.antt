@@ -1,21 +1,15 @@
 -- What of a drive is unchanged by steps, one after another.
 use Rattle.std.proofs.Common.{◌≡◌, ◌⊎◌, inl, inr, ℕ, ◌+◌, ◌-◌, refl, sym, ap, subst, ◌∙◌, arith, Result, Ok, Err}
 use Rattle.std.specs.Prelude.{OnOk}
-use Rattle.pk_base.specs.Shape.{charge}
-use Rattle.pk_base.specs.Entry.{Entry}
+use Rattle.pk_base.{specs.Shape.charge, specs.Entry.Entry}
 use Rattle.pk_plan.specs.declared.owner.Owner.TheVariants.{Values}
-use Rattle.pk_nand.specs.declared.types.Fault.{Fault}
-use Rattle.pk_nand.specs.BoardState.{BoardState}
-use Rattle.pk_pool.specs.declared.state.BlockState.TheVariants.{Free, Ready}
-use Rattle.pk_pool.specs.Blocks.{Blocks, is_owned_by}
+use Rattle.pk_nand.{specs.declared.types.Fault.Fault, specs.BoardState.BoardState}
+use Rattle.pk_pool.{specs.declared.state.BlockState.TheVariants.Free, specs.declared.state.BlockState.TheVariants.Ready, specs.Blocks.Blocks, specs.Blocks.is_owned_by, proofs.Sharing.count-set}
 use Rattle.pk_pool.specs.Taking.{ErasesOne, ErasesNone}
-use Rattle.pk_pool.proofs.Sharing.{count-set}
-use Rattle.pk_log.specs.State.{LogState, pushed}
-use Rattle.pk_log.specs.Commits.{CommitsNone, CommitsAll}
+use Rattle.pk_log.{specs.State.LogState, specs.State.pushed, specs.Commits.CommitsNone, specs.Commits.CommitsAll}
 use Rattle.pk_values.specs.State.{ValuesState, fits_open}
 use Rattle.pk_space.specs.Uses.{Use}
-use Rattle.pk_parts.specs.Parts.{Parts, block_if_open}
-use Rattle.pk_parts.specs.Staying.{StaysFresh, SameUse, Stays, StaysOrOpens, StaysOrFrees}
+use Rattle.pk_parts.{specs.Parts.Parts, specs.Parts.block_if_open, specs.Staying.StaysFresh, specs.Staying.SameUse, specs.Staying.Stays, specs.Staying.StaysOrOpens, specs.Staying.StaysOrFrees}
 
 -- ---- no step
 

@@ -2,12 +2,9 @@
 use Rattle.std.proofs.Common.{◌≡◌, ℕ, sym, ap, subst, ◌∙◌, true, Result, Ok, Err}
 use Rattle.std.specs.Prelude.{OnErr}
 use Rattle.pk_base.specs.Shape.{Shape}
-use Rattle.pk_nand.specs.declared.types.Fault.{Fault}
-use Rattle.pk_nand.specs.declared.types.Fault.TheVariants.{Reading, Stopped}
-use Rattle.pk_nand.specs.BoardState.{BoardState}
+use Rattle.pk_nand.{specs.declared.types.Fault.Fault, specs.declared.types.Fault.TheVariants.Reading, specs.declared.types.Fault.TheVariants.Stopped, specs.BoardState.BoardState}
 use Rattle.pk_model.specs.Steps.{Step}
-use Rattle.pk_parts.specs.Parts.{Parts}
-use Rattle.pk_parts.specs.Stopping.{failed_by, StoppedOn}
+use Rattle.pk_parts.{specs.Parts.Parts, specs.Stopping.failed_by, specs.Stopping.StoppedOn}
 
 module _ (f r : Fault) (d e : Parts) (same : r ≡ f) (rest : e ≡ failed_by d f) where
   pub fails_stopped : StoppedOn {T = Unit {0}} e (Err r)

@@ -1,29 +1,16 @@
 -- What a lookup reads.
 use Rattle.std.proofs.Common.{◌≡◌, ℕ, zero, suc, ◌+◌, ◌-◌, ◌<◌, ◌≤◌, refl, sym, ap, subst, ◌∙◌, arith, min, List, Option, Some, Ok, Result}
 use Rattle.std.specs.Prelude.{OnOk, OnErr, Err}
-use Rattle.pk_base.specs.Key.{Key}
-use Rattle.pk_base.specs.Shape.{Shape}
-use Rattle.pk_base.specs.Page.{Flash, IsFlash}
-use Rattle.pk_base.specs.Entry.{Place}
-use Rattle.pk_base.specs.Map.{Map}
-use Rattle.pk_nand.specs.BoardState.{BoardState}
-use Rattle.pk_nand.specs.Calls.{Rose, counted, last_count, IsReady}
-use Rattle.pk_nand.specs.Operations.{ReadFailed}
+use Rattle.pk_base.{specs.Key.Key, specs.Shape.Shape, specs.Page.Flash, specs.Page.IsFlash, specs.Entry.Place, specs.Map.Map, proofs.Logic.some_same}
+use Rattle.pk_nand.{specs.BoardState.BoardState, specs.Calls.Rose, specs.Calls.counted, specs.Calls.last_count, specs.Calls.IsReady, specs.Operations.ReadFailed}
 use Rattle.pk_nand.specs.Counts.{counted_by, after_reads}
 use Rattle.pk_level.specs.Levels.{ReadsUpTo, ReadFailsWithin}
-use Rattle.pk_model.specs.Laws.{IsHeldMap}
-use Rattle.pk_model.specs.Spaces.{Terms, limits_at}
-use Rattle.pk_model.specs.Reading.{reading}
-use Rattle.pk_model.proofs.HeldMap.{map_held}
+use Rattle.pk_model.{specs.Laws.IsHeldMap, specs.Spaces.Terms, specs.Spaces.limits_at, specs.Reading.reading, proofs.HeldMap.map_held}
 use Rattle.pk_law_steps.proofs.Untouched.{under_reads}
 use Rattle.pk_call.specs.Drive.{HoldsMap}
-use Rattle.pk_parts.specs.Parts.{Parts, sight_of, drive_limits, terms_of, settled_parts}
-use Rattle.pk_parts.specs.Agreeing.{DriveOnFlashWith, DriveOnFlash, IsWhole}
-use Rattle.pk_parts.specs.Finding.{IsPlaceIn}
-use Rattle.pk_parts.specs.Quiet.{ReadsOnly, ReadsFailing, Looks}
-use Rattle.pk_parts.proofs.Halves.{with_whole}
+use Rattle.pk_parts.{specs.Parts.Parts, specs.Parts.sight_of, specs.Parts.drive_limits, specs.Parts.terms_of, specs.Parts.settled_parts, specs.Finding.IsPlaceIn, proofs.Halves.with_whole}
+use Rattle.pk_parts.{specs.Agreeing.DriveOnFlashWith, specs.Agreeing.DriveOnFlash, specs.Agreeing.IsWhole, specs.Quiet.ReadsOnly, specs.Quiet.ReadsFailing, specs.Quiet.Looks}
 use Rattle.pk_parts.proofs.OwnLimits.{limits_on}
-use Rattle.pk_base.proofs.Logic.{some_same}
 
 -- ---- the board
 

@@ -1,27 +1,13 @@
 -- What each namespace uses, by its part of the map.
 use Rattle.std.proofs.Common.{◌≡◌, ℕ, ◌+◌, ◌<◌, true, false, cond, if◌then◌else◌, ◌==◌, List, [], ◌∷◌, length, refl, sym, ap, subst, ◌∙◌, arith}
-use Rattle.std.specs.FinMap.{entries, len, len-entries}
-use Rattle.std.specs.FinMap.Entries.{where_key}
-use Rattle.pk_base.specs.Key.{Key, key_cmp, space_of}
-use Rattle.pk_base.specs.Shape.{Shape, IsShape, charge}
-use Rattle.pk_base.specs.Page.{Page, Flash, IsFlash, page_at, whole}
-use Rattle.pk_base.specs.Entry.{Entry, Place}
-use Rattle.pk_base.specs.Map.{Map, live, pages_in}
-use Rattle.pk_base.proofs.KeyLemmas.{firsts_sorted}
+use Rattle.std.{specs.FinMap.entries, specs.FinMap.len, specs.FinMap.len-entries, specs.FinMap.Entries.where_key}
+use Rattle.pk_base.{specs.Key.Key, specs.Key.key_cmp, specs.Key.space_of, specs.Shape.Shape, specs.Shape.IsShape, specs.Shape.charge, specs.Entry.Entry, specs.Entry.Place}
+use Rattle.pk_base.{specs.Page.Page, specs.Page.Flash, specs.Page.IsFlash, specs.Page.page_at, specs.Page.whole, specs.Map.Map, specs.Map.live, specs.Map.pages_in, proofs.KeyLemmas.firsts_sorted}
 use Rattle.pk_rootfmt.specs.Root.{Root, named}
 use Rattle.pk_space.specs.Uses.{Use, IsSpace, space_live, space_keys}
-use Rattle.pk_model.specs.Found.{Found, entries_in_order}
-use Rattle.pk_model.specs.RootLimits.{root_limits}
-use Rattle.pk_model.specs.Spaces.{in_space}
-use Rattle.pk_model.specs.Values.{pages_of_space}
-use Rattle.pk_model.proofs.HeldMap.{nothing_fits}
-use Rattle.pk_model.proofs.Live.{length-value_at}
-use Rattle.pk_model.proofs.Merges.{placed_sorted}
-use Rattle.pk_model.proofs.SpaceLemmas.{entries_in}
-use Rattle.pk_model.proofs.ValueSets.{values_sound, Reads}
-use Rattle.pk_law_steps.specs.Under.{IsUnder, counting, places}
-use Rattle.pk_law_steps.proofs.Counting.{entries-rising, sorted_read}
-use Rattle.pk_law_steps.proofs.Untouched.{values_under}
+use Rattle.pk_model.{specs.Found.Found, specs.Found.entries_in_order, specs.RootLimits.root_limits, specs.Spaces.in_space, specs.Values.pages_of_space, proofs.HeldMap.nothing_fits}
+use Rattle.pk_model.{proofs.Live.length-value_at, proofs.Merges.placed_sorted, proofs.SpaceLemmas.entries_in, proofs.ValueSets.values_sound, proofs.ValueSets.Reads}
+use Rattle.pk_law_steps.{specs.Under.IsUnder, specs.Under.counting, specs.Under.places, proofs.Counting.entries-rising, proofs.Counting.sorted_read, proofs.Untouched.values_under}
 use Rattle.pk_scan.specs.Used.{keys_of_space, IsUseOf}
 
 -- the entries of a namespace

@@ -1,14 +1,11 @@
 -- How a drive matches its flash.
 use Rattle.std.specs.Prelude.{◌≡◌, ℕ, ◌/◌, List, [], Option, Some, ◌⊎◌, false}
-use Rattle.pk_base.specs.Shape.{Shape}
-use Rattle.pk_base.specs.Page.{Flash, IsFlash}
-use Rattle.pk_base.specs.Map.{Map}
+use Rattle.pk_base.{specs.Shape.Shape, specs.Page.Flash, specs.Page.IsFlash, specs.Map.Map}
 use Rattle.pk_rootfmt.specs.Root.{Root}
 use Rattle.pk_model.specs.Found.{Found}
 use Rattle.pk_law_steps.specs.Under.{IsUnder, IsValuePage, places}
 use Rattle.pk_values.specs.Placed.{HoldsValues, IsOutput, ValuesOnFlash}
-use Rattle.pk_gc.specs.declared.course.Phase.TheVariants.{Commits}
-use Rattle.pk_gc.specs.Standing.{ReclaimOnFlash}
+use Rattle.pk_gc.{specs.declared.course.Phase.TheVariants.Commits, specs.Standing.ReclaimOnFlash}
 use Rattle.pk_schedule.specs.Index.{IndexOnFlash, IsSettled, HalfStands}
 use Rattle.pk_scan.specs.Used.{IsUseOf}
 use Rattle.pk_reclaim.specs.Space.{HalfMoves, reclaim_parts}

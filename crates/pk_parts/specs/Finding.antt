@@ -1,14 +1,8 @@
 -- Where the value of a key is.
 use Rattle.std.specs.Prelude.{◌≡◌, ℕ, List, Option, Some, None, Result, Ok, Err}
-use Rattle.std.specs.FinMap.{get}
-use Rattle.std.specs.FinMap.Entries.{find}
-use Rattle.pk_base.specs.Key.{Key, key_cmp}
-use Rattle.pk_base.specs.Shape.{Shape}
-use Rattle.pk_base.specs.Page.{Flash, page_at}
-use Rattle.pk_base.specs.Entry.{Entry, Place}
-use Rattle.pk_base.specs.Map.{Map}
-use Rattle.pk_base.specs.declared.entry.Entry.{Entry as RustEntry}
-use Rattle.pk_base.specs.declared.entry.Entry.TheVariants.{Put, Gone}
+use Rattle.std.{specs.FinMap.get, specs.FinMap.Entries.find}
+use Rattle.pk_base.{specs.Key.Key, specs.Key.key_cmp, specs.Shape.Shape, specs.Page.Flash, specs.Page.page_at, specs.Entry.Entry, specs.Entry.Place, specs.Map.Map}
+use Rattle.pk_base.{specs.declared.entry.Entry.Entry as RustEntry, specs.declared.entry.Entry.TheVariants.Put, specs.declared.entry.Entry.TheVariants.Gone}
 use Rattle.pk_segfmt.specs.Value.{value_at}
 use Rattle.pk_nand.specs.declared.types.Fault.{Fault}
 use Rattle.pk_model.specs.Found.{Found}

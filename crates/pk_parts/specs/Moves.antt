@@ -1,25 +1,14 @@
 -- Steps inside a command, each of which keeps the map: a commit, a freeze, the write of a value.
 use Rattle.std.specs.Prelude.{◌≡◌, ◌⊎◌, ℕ, List, [], length, Result, Ok}
-use Rattle.pk_base.specs.Key.{Key}
-use Rattle.pk_base.specs.Shape.{Shape}
-use Rattle.pk_base.specs.Page.{Flash, page_at}
-use Rattle.pk_base.specs.Map.{Map}
+use Rattle.pk_base.{specs.Key.Key, specs.Shape.Shape, specs.Page.Flash, specs.Page.page_at, specs.Map.Map}
 use Rattle.pk_segfmt.specs.Value.{value_at}
 use Rattle.pk_rootfmt.specs.Root.{Root}
 use Rattle.pk_plan.specs.declared.owner.Owner.TheVariants.{Values}
-use Rattle.pk_nand.specs.declared.types.Fault.{Fault}
-use Rattle.pk_nand.specs.BoardState.{BoardState}
-use Rattle.pk_nand.specs.Calls.{IsReady}
+use Rattle.pk_nand.{specs.declared.types.Fault.Fault, specs.BoardState.BoardState, specs.Calls.IsReady}
 use Rattle.pk_pool.specs.Blocks.{used_by}
-use Rattle.pk_model.specs.Found.{Found}
-use Rattle.pk_model.specs.Reading.{reading}
-use Rattle.pk_model.specs.Laws.{IsPageOf}
+use Rattle.pk_model.{specs.Found.Found, specs.Reading.reading, specs.Laws.IsPageOf, specs.Growth.Reaches, specs.Growth.Goes, specs.Crashes.CrashFinds, specs.Crashes.commit, specs.Steps.Step}
 use Rattle.pk_law_steps.specs.Under.{IsValuePage, places}
-use Rattle.pk_model.specs.Growth.{Reaches, Goes}
-use Rattle.pk_model.specs.Crashes.{CrashFinds, commit}
-use Rattle.pk_model.specs.Steps.{Step}
-use Rattle.pk_parts.specs.Parts.{Parts, frames_of, settled_parts}
-use Rattle.pk_parts.specs.Agreeing.{DriveOnFlashWith, IsWhole, IsHalfAtMost}
+use Rattle.pk_parts.{specs.Parts.Parts, specs.Parts.frames_of, specs.Parts.settled_parts, specs.Agreeing.DriveOnFlashWith, specs.Agreeing.IsWhole, specs.Agreeing.IsHalfAtMost}
 
 -- The drive agrees with these pages, for this map with the pending entries, and no pair is half made.
 pub record StandsFor (d : Parts) (shape : Shape) (flash : Flash) (m : Map) : Type 0 where

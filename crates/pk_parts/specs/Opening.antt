@@ -1,14 +1,11 @@
 -- A drive as it is after its opening.
 use Rattle.std.specs.Prelude.{◌≡◌, ℕ, [], false, None}
-use Rattle.pk_base.specs.Shape.{Shape}
-use Rattle.pk_base.specs.Page.{Flash}
-use Rattle.pk_base.specs.Map.{Map}
+use Rattle.pk_base.{specs.Shape.Shape, specs.Page.Flash, specs.Map.Map}
 use Rattle.pk_rootfmt.specs.Root.{Root}
 use Rattle.pk_model.specs.Found.{Found}
 use Rattle.pk_call.specs.Steady.{live_blocks}
 use Rattle.pk_gc.specs.Stepping.{runs_in}
-use Rattle.pk_parts.specs.Parts.{Parts, counts_of, frames_of}
-use Rattle.pk_parts.specs.Agreeing.{DriveOnFlashWith, IsWhole}
+use Rattle.pk_parts.{specs.Parts.Parts, specs.Parts.counts_of, specs.Parts.frames_of, specs.Agreeing.DriveOnFlashWith, specs.Agreeing.IsWhole}
 
 -- The drive agrees with the flash and runs, with these frames. Nothing is pending, the epoch takes no more commits, no block is open, as
 -- many blocks are in use as have a page of a value, and no reclaim runs.

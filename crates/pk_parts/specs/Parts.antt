@@ -7,24 +7,17 @@ use Rattle.pk_pool.specs.Blocks.{Blocks, IsShared, is_ready, used_by, freed}
 use Rattle.pk_run.specs.Kept.{is_pinned}
 use Rattle.pk_level.specs.Levels.{Levels, IsLevels, run_of}
 use Rattle.pk_space.specs.Uses.{Use, space_live, space_keys}
-use Rattle.pk_model.specs.Spaces.{Terms}
-use Rattle.pk_model.specs.RootLimits.{root_limits}
+use Rattle.pk_model.{specs.Spaces.Terms, specs.RootLimits.root_limits}
 use Rattle.pk_call.specs.Sight.{Sight, Counts, InSpace}
 use Rattle.pk_log.specs.State.{LogState}
 use Rattle.pk_values.specs.State.{ValuesState, fits_open}
 use Rattle.pk_live.specs.declared.open_block.OpenBlock.{OpenBlock}
 use Rattle.pk_jrn.specs.Epochs.{left_of as pages_left}
-use Rattle.pk_law_work.specs.Backlog.{Backlog, is_tight}
-use Rattle.pk_law_work.specs.Rest.{whole_reclaim}
-use Rattle.pk_law_work.specs.Work.{work}
+use Rattle.pk_law_work.{specs.Backlog.Backlog, specs.Backlog.is_tight, specs.Rest.whole_reclaim, specs.Work.work}
 use Rattle.pk_compact.specs.FreezeSteps.{taken_by}
-use Rattle.pk_schedule.specs.Index.{Index, Schedule, index, merging, output}
-use Rattle.pk_schedule.specs.Steps.{backlog_of as backlog_of_index}
-use Rattle.pk_gc.specs.declared.course.Phase.{Phase}
+use Rattle.pk_schedule.{specs.Index.Index, specs.Index.Schedule, specs.Index.index, specs.Index.merging, specs.Index.output, specs.Steps.backlog_of as backlog_of_index}
+use Rattle.pk_gc.{specs.declared.course.Phase.Phase, specs.State.JobState, specs.State.steps_left, specs.Stepping.runs_in, specs.Standing.held_blocks}
 use Rattle.pk_gc.specs.declared.course.Phase.TheVariants.{Idle, Copies, GivesBack, Commits}
-use Rattle.pk_gc.specs.State.{JobState, steps_left}
-use Rattle.pk_gc.specs.Stepping.{runs_in}
-use Rattle.pk_gc.specs.Standing.{held_blocks}
 use Rattle.pk_root.specs.Installing.{repeats_next}
 use Rattle.pk_walk.specs.Walking.{Walk}
 

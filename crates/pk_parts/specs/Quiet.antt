@@ -1,18 +1,13 @@
 -- Reads alone, and what a lookup says.
 use Rattle.std.specs.Prelude.{◌≡◌, ℕ, ◌+◌, ◌≤◌, Option}
-use Rattle.pk_base.specs.Entry.{Place}
-use Rattle.pk_base.specs.Key.{Key}
-use Rattle.pk_base.specs.Page.{Flash}
-use Rattle.pk_base.specs.Map.{Map}
+use Rattle.pk_base.{specs.Entry.Place, specs.Key.Key, specs.Page.Flash, specs.Map.Map}
 use Rattle.pk_rootfmt.specs.Root.{Root}
-use Rattle.pk_nand.specs.BoardState.{BoardState}
-use Rattle.pk_nand.specs.Calls.{Rose, last_count}
+use Rattle.pk_nand.{specs.BoardState.BoardState, specs.Calls.Rose, specs.Calls.last_count}
 use Rattle.pk_level.specs.Levels.{RunsOnFlash}
 use Rattle.pk_model.specs.Found.{Found}
 use Rattle.pk_law_steps.specs.Under.{IsUnder}
 use Rattle.pk_log.specs.Logs.{LogOnFlash}
-use Rattle.pk_parts.specs.Parts.{Parts}
-use Rattle.pk_parts.specs.Finding.{IsPlaceIn}
+use Rattle.pk_parts.{specs.Parts.Parts, specs.Finding.IsPlaceIn}
 
 -- at most this many pages were read, and nothing else was done
 pub record ReadsOnly (old new : BoardState) (most : ℕ) : Type 0 where

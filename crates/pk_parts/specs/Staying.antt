@@ -1,8 +1,7 @@
 -- What of a drive is unchanged by a step inside a command, apart from its map.
 use Rattle.std.specs.Prelude.{◌≡◌, ◌≢◌, ◌⊎◌, ℕ, ◌+◌, ◌/◌, ◌≤◌, true, false, Some}
 use Rattle.std.specs.FinMap.Entries.{find}
-use Rattle.pk_base.specs.Key.{Key, key_cmp}
-use Rattle.pk_base.specs.Entry.{Place}
+use Rattle.pk_base.{specs.Key.Key, specs.Key.key_cmp, specs.Entry.Place}
 use Rattle.pk_values.specs.State.{fits_open}
 use Rattle.pk_parts.specs.Parts.{Parts, counts_of, block_if_open}
 

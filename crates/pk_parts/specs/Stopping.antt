@@ -1,7 +1,6 @@
 -- When a drive is stopped.
 use Rattle.std.specs.Prelude.{◌≡◌, true, Result, Ok, Err}
-use Rattle.pk_nand.specs.declared.types.Fault.{Fault}
-use Rattle.pk_nand.specs.declared.types.Fault.TheVariants.{Reading, Stopped}
+use Rattle.pk_nand.{specs.declared.types.Fault.Fault, specs.declared.types.Fault.TheVariants.Reading, specs.declared.types.Fault.TheVariants.Stopped}
 use Rattle.pk_parts.specs.Parts.{Parts}
 
 -- the drive after a flash operation that failed with this fault: one that is not a read stops it

@@ -1,12 +1,9 @@
 -- A list cut into pieces: reading and writing one, and counts of a list of tests.
 use Rattle.std.proofs.Common.{◌≡◌, ℕ, zero, suc, ◌+◌, ◌*◌, ◌<◌, ◌≤◌, Bool, true, false, cond, List, [], ◌∷◌, ◌++◌, length, get_or, take, drop, refl, ap, ◌∙◌, arith, length-take, length-drop}
 use Rattle.std.proofs.Common.{get_or-set_same}
-use Rattle.std.proofs.lemmas.Slice.{take-put_mid_below}
-use Rattle.std.specs.Prelude.{not, count_by, slice_get, Some}
-use Rattle.std.proofs.Math.ListN.{set}
-use Rattle.std.proofs.Math.Nat.{suc-mul, mul-le-mul_right}
+use Rattle.std.{proofs.lemmas.Slice.take-put_mid_below, specs.Prelude.not, specs.Prelude.count_by, specs.Prelude.slice_get, specs.Prelude.Some, proofs.Math.ListN.set}
+use Rattle.std.{proofs.Math.Nat.suc-mul, proofs.Math.Nat.mul-le-mul_right, proofs.lemmas.List.Sums.sum_by-set, proofs.lemmas.List.Sums.sum_by-cons}
 use Rattle.std.proofs.lemmas.List.{drop-take, drop-drop, drop_at, take_at, drop-append-le}
-use Rattle.std.proofs.lemmas.List.Sums.{sum_by-set, sum_by-cons}
 use Rattle.std.proofs.lemmas.Option.{slice_get_within, get_or_from_slice_get}
 use borrow.Rule.Slice.PartMut.{put_mid}
 use Rattle.pk_pin.specs.Frames.{chunks}

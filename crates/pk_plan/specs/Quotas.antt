@@ -2,8 +2,7 @@
 use Rattle.std.specs.Prelude.{◌≡◌, ℕ, ◌+◌, ◌*◌, ◌≤◌}
 use Rattle.pk_base.specs.declared.sizes.TheConstants.{EPOCH_BLOCKS, ROOT_BLOCKS}
 use Rattle.pk_base.specs.Shape.{Shape, IsShape, meta_blocks, data_blocks, need, most_calls}
-use Rattle.pk_plan.specs.declared.owner.Owner.{Owner}
-use Rattle.pk_plan.specs.declared.owner.Owner.TheVariants.{Journal, Meta, Values}
+use Rattle.pk_plan.{specs.declared.owner.Owner.Owner, specs.declared.owner.Owner.TheVariants.Journal, specs.declared.owner.Owner.TheVariants.Meta, specs.declared.owner.Owner.TheVariants.Values}
 
 -- most blocks of an owner: two epochs, the runs with a merge's output, and the data blocks
 abbrev pub quota_of : Shape → Owner → ℕ

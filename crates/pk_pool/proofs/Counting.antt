@@ -1,11 +1,7 @@
 -- Counts of blocks after one changes its state.
-use Rattle.std.proofs.Common.{inl, inr, [], ◌∷◌, refl, arith}
-use Rattle.std.specs.Prelude.{not}
-use Rattle.std.proofs.lemmas.List.Sums.{sum_by-cons}
-use Rattle.pk_pool.specs.declared.state.BlockState.{BlockState}
+use Rattle.std.{proofs.Common.inl, proofs.Common.inr, proofs.Common.[], proofs.Common.◌∷◌, proofs.Common.refl, proofs.Common.arith, specs.Prelude.not, proofs.lemmas.List.Sums.sum_by-cons}
+use Rattle.pk_pool.{specs.declared.state.BlockState.BlockState, specs.Blocks.is_ready, proofs.Sharing.count-set}
 use Rattle.pk_pool.specs.declared.state.BlockState.TheVariants.{Root, Free, Ready, Owned, Leaving}
-use Rattle.pk_pool.specs.Blocks.{is_ready}
-use Rattle.pk_pool.proofs.Sharing.{count-set}
 use Rattle.pk_pool.specs.Unready.{Erased, TakenReady, TakenFree, GivenBack, AllCounted, TakePays}
 
 pub erased : Erased

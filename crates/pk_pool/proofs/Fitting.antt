@@ -1,30 +1,17 @@
 -- What programs and erases leave of a pool's view of a flash.
 use Rattle.std.proofs.Common.{◌≡◌, ◌≢◌, ◌⊎◌, inl, inr, ℕ, ◌+◌, ◌-◌, ◌*◌, ◌/◌, ◌%◌, ◌<◌, ◌≤◌, List, [], ◌∷◌, length, Some, refl, sym, ap, ◌∙◌, subst, arith, zero-add}
-use Rattle.std.specs.Prelude.{slice_get}
-use Rattle.std.proofs.Math.ListN.{set}
-use Rattle.std.proofs.Math.Nat.{mul-mod_left, mul_assoc, mul_comm}
-use Rattle.std.proofs.lemmas.Nat.{div-mul-add, div-add-mod'}
-use Rattle.std.proofs.lemmas.Option.{same_Some}
-use Rattle.std.proofs.lemmas.Bool.{cases_eq, cases_lt}
-use Rattle.pk_base.specs.Shape.{Shape, IsShape, page_count}
-use Rattle.pk_base.specs.Page.{Flash, page_at}
-use Rattle.pk_base.specs.Mark.{Mark, program, erase, after}
-use Rattle.pk_nand.specs.BoardState.{BoardState, shape_of}
-use Rattle.pk_nand.specs.Cut.{Interrupted, touched_block}
-use Rattle.pk_nand.specs.Calls.{IsReady, LeftBehind}
-use Rattle.pk_nand.specs.Operations.{InOrder, after_erase, EraseFailed, IsErasedBlock}
-use Rattle.pk_nand.specs.Crash.{SameOutside}
+use Rattle.std.{specs.Prelude.slice_get, proofs.Math.ListN.set, proofs.Math.Nat.mul-mod_left, proofs.Math.Nat.mul_assoc, proofs.Math.Nat.mul_comm, proofs.lemmas.Option.same_Some}
+use Rattle.std.{proofs.lemmas.Nat.div-mul-add, proofs.lemmas.Nat.div-add-mod', proofs.lemmas.Bool.cases_eq, proofs.lemmas.Bool.cases_lt}
+use Rattle.pk_base.{specs.Shape.Shape, specs.Shape.IsShape, specs.Shape.page_count, specs.Page.Flash, specs.Page.page_at, specs.Mark.Mark, specs.Mark.program, specs.Mark.erase, specs.Mark.after}
+use Rattle.pk_base.proofs.BlockLemmas.{apart}
+use Rattle.pk_nand.{specs.BoardState.BoardState, specs.BoardState.shape_of, specs.Cut.Interrupted, specs.Cut.touched_block, specs.Calls.IsReady, specs.Calls.LeftBehind, specs.Crash.SameOutside}
+use Rattle.pk_nand.{specs.Operations.InOrder, specs.Operations.after_erase, specs.Operations.EraseFailed, specs.Operations.IsErasedBlock, proofs.Touching.elsewhere, proofs.Writing.shape_is}
 use Rattle.pk_nand.proofs.Leaving.{erased_leaves, page-erased_in, interrupted_done, IsFlash-after, IsFlash-left, full_erase}
 use Rattle.pk_nand.proofs.Reaching.{Reached-start, Reached-erase, Went-erase_failed}
-use Rattle.pk_nand.proofs.Touching.{elsewhere}
-use Rattle.pk_nand.proofs.Writing.{shape_is}
-use Rattle.pk_pool.specs.declared.state.BlockState.{BlockState}
+use Rattle.pk_pool.{specs.declared.state.BlockState.BlockState, specs.Blocks.Blocks, specs.Blocks.PoolOnFlash, specs.Blocks.IsOwned, specs.Blocks.with_state}
 use Rattle.pk_pool.specs.declared.state.BlockState.TheVariants.{Free, Ready, Owned}
-use Rattle.pk_pool.specs.Blocks.{Blocks, PoolOnFlash, IsOwned, with_state}
-use Rattle.pk_pool.specs.Laws.{IsNotReady, IsInBlock}
-use Rattle.pk_pool.specs.Taking.{SameButBlock, ReachesIn, WentIn}
+use Rattle.pk_pool.{specs.Laws.IsNotReady, specs.Laws.IsInBlock, specs.Taking.SameButBlock, specs.Taking.ReachesIn, specs.Taking.WentIn}
 use Rattle.pk_pool.proofs.States.{get-set_other, get-set_same, free_is_not_ready, owned_is_not_ready}
-use Rattle.pk_base.proofs.BlockLemmas.{apart}
 
 -- ---- pages of a block
 

@@ -1,19 +1,13 @@
 -- Blocks that leave their owner, until they are freed.
 use Rattle.std.proofs.Common.{◌≡◌, ◌⊎◌, inl, inr, ℕ, zero, suc, ◌≤◌, List, [], ◌∷◌, Some, map, refl, ap, ◌∙◌, arith}
-use Rattle.std.specs.Prelude.{count_by, slice_get, not}
-use Rattle.std.proofs.Math.ListN.{set}
-use Rattle.std.proofs.lemmas.List.{map-set, length-map}
+use Rattle.std.{specs.Prelude.count_by, specs.Prelude.slice_get, specs.Prelude.not, proofs.Math.ListN.set, proofs.lemmas.List.map-set, proofs.lemmas.List.length-map, proofs.lemmas.Option.same_Some}
 use Rattle.std.proofs.lemmas.List.Sums.{sum_by-cons}
-use Rattle.std.proofs.lemmas.Option.{same_Some}
-use Rattle.pk_base.specs.Shape.{Shape}
-use Rattle.pk_base.specs.Page.{Flash}
+use Rattle.pk_base.{specs.Shape.Shape, specs.Page.Flash}
 use Rattle.pk_plan.specs.declared.owner.Owner.{Owner}
-use Rattle.pk_pool.specs.declared.state.BlockState.{BlockState}
+use Rattle.pk_pool.{specs.declared.state.BlockState.BlockState, proofs.States.owned_is_not_root, proofs.States.leaving_is_not_root, proofs.Sharing.count-set, proofs.Sharing.shared_set}
 use Rattle.pk_pool.specs.declared.state.BlockState.TheVariants.{Root, Free, Ready, Owned, Leaving}
 use Rattle.pk_pool.specs.Blocks.{Blocks, is_root, is_ready, is_owned_by, used_by, with_state, given_back, freed_state, freed, IsShared, IsSpare, IsLeaving, NoneLeaves, PoolOnFlash}
 use Rattle.pk_pool.specs.Leaving.{LeftAndFreed, FreedWith, FreedSame, SpareFreed, LeavingFreed, OwnedFreed, LeftUnready, FreedUnready}
-use Rattle.pk_pool.proofs.States.{owned_is_not_root, leaving_is_not_root}
-use Rattle.pk_pool.proofs.Sharing.{count-set, shared_set}
 
 -- ---- one block leaves
 

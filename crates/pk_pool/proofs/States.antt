@@ -1,14 +1,10 @@
 -- Lists of states of which one is written.
 use Rattle.std.proofs.Common.{◌≡◌, ◌≢◌, ◌⊎◌, inl, inr, ℕ, zero, suc, List, [], ◌∷◌, Some, refl, sym, ap, ◌∙◌, subst, arith, replicate}
-use Rattle.std.specs.Prelude.{slice_get}
-use Rattle.std.proofs.Math.ListN.{set}
-use Rattle.std.proofs.lemmas.Option.{slice_get_within, same_Some}
-use Rattle.std.proofs.lemmas.Bool.{cases_eq}
+use Rattle.std.{specs.Prelude.slice_get, proofs.Math.ListN.set, proofs.lemmas.Option.slice_get_within, proofs.lemmas.Option.same_Some, proofs.lemmas.Bool.cases_eq}
 use Rattle.pk_base.specs.Shape.{Shape}
 use Rattle.pk_plan.specs.declared.owner.Owner.{Owner}
-use Rattle.pk_pool.specs.declared.state.BlockState.{BlockState}
+use Rattle.pk_pool.{specs.declared.state.BlockState.BlockState, specs.Blocks.unused, specs.Blocks.NoneLeaves}
 use Rattle.pk_pool.specs.declared.state.BlockState.TheVariants.{Root, Free, Ready, Owned, Leaving}
-use Rattle.pk_pool.specs.Blocks.{unused, NoneLeaves}
 
 pub get-set_other : {X : Type 0} (xs : List X) (i k : ℕ) (y : X) → k ≢ i → slice_get (set xs i y) k ≡ slice_get xs k
 get-set_other [] i k y ne = refl

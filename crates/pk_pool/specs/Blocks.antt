@@ -1,10 +1,8 @@
 -- The blocks of a flash, each with its owner or free.
 use Rattle.std.specs.Prelude.{◌≡◌, ◌⊎◌, ℕ, ◌<◌, ◌≤◌, Bool, true, false, List, [], ◌∷◌, length, count_by, slice_get, slice_set, Some, replicate, map}
-use Rattle.pk_base.specs.Shape.{Shape}
-use Rattle.pk_base.specs.Page.{Flash}
+use Rattle.pk_base.{specs.Shape.Shape, specs.Page.Flash}
 use Rattle.pk_nand.specs.Operations.{IsErasedBlock}
-use Rattle.pk_plan.specs.declared.owner.Owner.{Owner}
-use Rattle.pk_plan.specs.declared.owner.Owner.TheVariants.{Journal, Meta, Values}
+use Rattle.pk_plan.{specs.declared.owner.Owner.Owner, specs.declared.owner.Owner.TheVariants.Journal, specs.declared.owner.Owner.TheVariants.Meta, specs.declared.owner.Owner.TheVariants.Values}
 use Rattle.pk_plan.specs.Quotas.{quota_of, IsPlan}
 use Rattle.pk_pool.specs.declared.state.BlockState.{BlockState}
 use Rattle.pk_pool.specs.declared.state.BlockState.TheVariants.{Root, Free, Ready, Owned, Leaving}

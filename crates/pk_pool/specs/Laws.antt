@@ -1,13 +1,8 @@
 -- What calls of other crates leave of a pool's view of a flash: the statements.
 use Rattle.std.specs.Prelude.{◌≡◌, ℕ, ◌+◌, ◌*◌, ◌<◌, ◌≤◌, List, slice_get, Some}
-use Rattle.pk_base.specs.Shape.{Shape}
-use Rattle.pk_base.specs.Page.{Flash}
-use Rattle.pk_base.specs.Mark.{program, erase}
-use Rattle.pk_nand.specs.Cut.{Interrupted}
-use Rattle.pk_nand.specs.Operations.{InOrder, IsErasedBlock}
-use Rattle.pk_nand.specs.Crash.{SameOutside}
-use Rattle.pk_pool.specs.declared.state.BlockState.TheVariants.{Ready}
-use Rattle.pk_pool.specs.Blocks.{Blocks, PoolOnFlash}
+use Rattle.pk_base.{specs.Shape.Shape, specs.Page.Flash, specs.Mark.program, specs.Mark.erase}
+use Rattle.pk_nand.{specs.Cut.Interrupted, specs.Operations.InOrder, specs.Operations.IsErasedBlock, specs.Crash.SameOutside}
+use Rattle.pk_pool.{specs.declared.state.BlockState.TheVariants.Ready, specs.Blocks.Blocks, specs.Blocks.PoolOnFlash}
 
 -- the block does not count as erased
 abbrev pub IsNotReady : Blocks → ℕ → Type 0

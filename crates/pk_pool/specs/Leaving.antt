@@ -1,10 +1,8 @@
 -- Blocks that leave their owner: what becomes of them if they are freed.
 use Rattle.std.specs.Prelude.{◌≡◌, ◌⊎◌, ℕ, List, slice_get, slice_set, Some}
 use Rattle.pk_plan.specs.declared.owner.Owner.{Owner}
-use Rattle.pk_pool.specs.declared.state.BlockState.{BlockState}
-use Rattle.pk_pool.specs.declared.state.BlockState.TheVariants.{Owned, Leaving}
+use Rattle.pk_pool.{specs.declared.state.BlockState.BlockState, specs.declared.state.BlockState.TheVariants.Owned, specs.declared.state.BlockState.TheVariants.Leaving, specs.Unready.unready}
 use Rattle.pk_pool.specs.Blocks.{Blocks, with_state, given_back, left_by, freed_state, freed, IsSpare, IsLeaving, NoneLeaves}
-use Rattle.pk_pool.specs.Unready.{unready}
 
 -- blocks that left and are freed are free as if they had been given back
 abbrev pub LeftAndFreed : Type 0

@@ -1,10 +1,7 @@
 -- What the calls of a pool that are handed a board do to both.
 use Rattle.std.specs.Prelude.{◌≡◌, ℕ, ◌*◌}
-use Rattle.pk_base.specs.Shape.{Shape}
-use Rattle.pk_base.specs.Page.{Flash}
-use Rattle.pk_nand.specs.BoardState.{BoardState}
-use Rattle.pk_nand.specs.Operations.{after_erase, EraseFailed}
-use Rattle.pk_nand.specs.Crash.{SameOutside, Reached, Went}
+use Rattle.pk_base.{specs.Shape.Shape, specs.Page.Flash}
+use Rattle.pk_nand.{specs.BoardState.BoardState, specs.Operations.after_erase, specs.Operations.EraseFailed, specs.Crash.SameOutside, specs.Crash.Reached, specs.Crash.Went}
 use Rattle.pk_pool.specs.declared.state.BlockState.TheVariants.{Free, Ready}
 use Rattle.pk_pool.specs.Blocks.{Blocks, IsLowest, IsNowhere, with_state}
 

@@ -1,26 +1,15 @@
 -- A chain of commands through a port, folded into one run.
 use Rattle.std.proofs.Common.{◌≡◌, inl, inr, ℕ, ◌+◌, ◌≤◌, ◌⊎◌, if◌then◌else◌, List, [], ◌∷◌, ◌++◌, Some, true, false, refl, sym, ap, subst, ◌∙◌, arith, append-nil, append_assoc}
-use Rattle.pk_base.specs.Shape.{Shape}
-use Rattle.pk_base.specs.Map.{Map}
+use Rattle.pk_base.{specs.Shape.Shape, specs.Map.Map}
 use Rattle.pk_nvme.specs.Command.{Command}
-use Rattle.pk_nand.specs.Calls.{Rose}
-use Rattle.pk_nand.specs.Effects.{OnlyFlash}
-use Rattle.pk_model.specs.Growth.{Goes}
-use Rattle.pk_model.specs.Kept.{rise}
-use Rattle.pk_model.specs.Reading.{Holds}
-use Rattle.pk_model.specs.Run.{Exchange}
-use Rattle.pk_model.specs.Wear.{roots}
-use Rattle.pk_model.proofs.Growing.{weaken_went, Goes-reaches}
-use Rattle.pk_call.specs.Calling.{only_looks}
-use Rattle.pk_call.specs.Exec.{most_installs}
+use Rattle.pk_nand.{specs.Calls.Rose, specs.Effects.OnlyFlash, proofs.Effects.only_then}
+use Rattle.pk_model.{specs.Growth.Goes, specs.Kept.rise, specs.Reading.Holds, specs.Run.Exchange, specs.Wear.roots, proofs.Growing.weaken_went, proofs.Growing.Goes-reaches}
 use Rattle.pk_model.specs.Spaces.{Terms, limits_at}
-use Rattle.pk_port.specs.Asking.{KeptSilently, Asked}
-use Rattle.pk_port.specs.Steps.{Mounted, Standing, Runs, Serves, Stops, HasCause, Chain}
-use Rattle.pk_port.specs.Chained.{installs_of, installs, AllServed, HaltedAt, Chained}
-use Rattle.pk_port.specs.declared.halt.Halt.{Halt}
+use Rattle.pk_call.{specs.Calling.only_looks, specs.Exec.most_installs}
+use Rattle.pk_port.{specs.Asking.KeptSilently, specs.Asking.Asked, specs.Chained.installs_of, specs.Chained.installs, specs.Chained.AllServed, specs.Chained.HaltedAt, specs.Chained.Chained}
+use Rattle.pk_port.{specs.Steps.Mounted, specs.Steps.Standing, specs.Steps.Runs, specs.Steps.Serves, specs.Steps.Stops, specs.Steps.HasCause, specs.Steps.Chain, specs.declared.halt.Halt.Halt}
 use Rattle.pk_port.specs.declared.halt.Halt.TheVariants.{Stopped, Worn}
 use Rattle.pk_port.proofs.Growing.{silent-more, asked-none, asked-next, asked-stops}
-use Rattle.pk_nand.proofs.Effects.{only_then}
 
 -- ---- roots
 

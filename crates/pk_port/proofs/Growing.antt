@@ -1,30 +1,16 @@
 -- Commands one after another through a port, and a text after them.
 use Rattle.std.proofs.Common.{◌≡◌, inl, inr, ℕ, ◌+◌, ◌≤◌, List, [], ◌∷◌, ◌++◌, Option, Some, refl, sym, ap, subst, ◌∙◌, arith, append-nil, append_assoc, replicate}
 use Rattle.std.proofs.lemmas.Fn.{FoldsTo-push}
-use Rattle.pk_base.specs.Shape.{Shape}
-use Rattle.pk_base.specs.Page.{Flash}
-use Rattle.pk_base.specs.Mark.{all_posted, post}
-use Rattle.pk_base.specs.Map.{Map}
+use Rattle.pk_base.{specs.Shape.Shape, specs.Page.Flash, specs.Mark.all_posted, specs.Mark.post, specs.Map.Map, proofs.Logic.ok_same}
 use Rattle.pk_nvme.specs.Command.{Command}
-use Rattle.pk_nand.specs.BoardState.{BoardState}
-use Rattle.pk_nand.specs.Operations.{after_post, PostFailed}
-use Rattle.pk_nand.proofs.Reaching.{Reached-start, Reached-post}
-use Rattle.pk_model.specs.Answer.{reply, map_after}
-use Rattle.pk_model.specs.Growth.{Reaches, Goes}
-use Rattle.pk_model.specs.Kept.{AtMost, rise}
-use Rattle.pk_model.specs.Reading.{Holds}
-use Rattle.pk_model.specs.Run.{Exchange, commands, faults, records}
+use Rattle.pk_nand.{specs.BoardState.BoardState, specs.Operations.after_post, specs.Operations.PostFailed, proofs.Reaching.Reached-start, proofs.Reaching.Reached-post, proofs.Effects.only_then}
+use Rattle.pk_model.{specs.Answer.reply, specs.Answer.map_after, specs.Growth.Reaches, specs.Growth.Goes, specs.Kept.AtMost, specs.Kept.rise, specs.Reading.Holds}
+use Rattle.pk_model.{specs.Run.Exchange, specs.Run.commands, specs.Run.faults, specs.Run.records, specs.Spaces.Terms, specs.Spaces.limits_at}
 use Rattle.pk_model.proofs.Growing.{weaken, weaken_went, at_end, Reaches-then, Goes-then, Goes-post_failed, GrowsAlong-post, Limited, Reaches-limited, Goes-limited, reached_limits}
 use Rattle.pk_call.specs.Meter.{Meter, meter, Metered}
-use Rattle.pk_serve.specs.Port.{StepCut}
-use Rattle.pk_serve.specs.Serving.{StepWithin}
-use Rattle.pk_serve.proofs.Answering.{reply_other, answers}
+use Rattle.pk_serve.{specs.Port.StepCut, specs.Serving.StepWithin, proofs.Answering.reply_other, proofs.Answering.answers}
 use Rattle.pk_serve.proofs.Counting.{at_most-zero, at_most-more, at_most-one, commands-push, faults-push, faults-one}
-use Rattle.pk_port.specs.Asking.{KeptSilently, KeptWord, Asked, Ran}
-use Rattle.pk_port.specs.Steps.{Mounted, Serves, Stops}
-use Rattle.pk_base.proofs.Logic.{ok_same}
-use Rattle.pk_nand.proofs.Effects.{only_then}
-use Rattle.pk_model.specs.Spaces.{Terms, limits_at}
+use Rattle.pk_port.{specs.Asking.KeptSilently, specs.Asking.KeptWord, specs.Asking.Asked, specs.Asking.Ran, specs.Steps.Mounted, specs.Steps.Serves, specs.Steps.Stops}
 
 -- more commands, and more faults
 pub silent-more : (shape : Shape) (terms : Terms) (start : Map) (cs more : List Command) (n later : Option ℕ) → ((k : ℕ) → AtMost n k → AtMost later k)

@@ -1,21 +1,12 @@
 -- A command in the first namespace of a drive, as a drive answers it that has this namespace alone.
 use Rattle.std.proofs.Common.{◌≡◌, ◌≢◌, ℕ, ◌≤◌, List, [], ◌∷◌, length, Bool, true, false, ◌==◌, cond, ◌&&◌, nat_le, Option, Some, None, refl, sym, ap, subst, ◌∙◌, arith, ne_eqb}
-use Rattle.std.proofs.lemmas.Bool.{le-leb}
-use Rattle.pk_base.specs.Shape.{Shape}
-use Rattle.std.specs.List.{AllByRecursion}
-use Rattle.std.specs.FinMap.{get, entries}
-use Rattle.std.specs.FinMap.Entries.{where_key}
-use Rattle.pk_base.specs.Key.{Key, key_cmp, space_of}
-use Rattle.pk_base.specs.Map.{Map, IsMap}
-use Rattle.pk_nvme.specs.Command.{Command}
-use Rattle.pk_nvme.specs.Reply.{Reply}
-use Rattle.pk_model.specs.Answer.{Answer, map_after}
-use Rattle.pk_model.specs.Run.{Step}
-use Rattle.pk_model.specs.Spaces.{Terms, one_space, limit_of, is_space, in_space}
-use Rattle.pk_law_isolation.specs.Isolation.{map_alone, terms_alone, command_alone}
-use Rattle.pk_law_isolation.proofs.Alone.{own_answer, own_step, other_step}
-use Rattle.pk_law_isolation.proofs.Sums.{first_is_part}
+use Rattle.std.{proofs.lemmas.Bool.le-leb, specs.List.AllByRecursion, specs.FinMap.get, specs.FinMap.entries, specs.FinMap.Entries.where_key}
+use Rattle.pk_base.{specs.Shape.Shape, specs.Key.Key, specs.Key.key_cmp, specs.Key.space_of, specs.Map.Map, specs.Map.IsMap}
+use Rattle.pk_nvme.{specs.Command.Command, specs.Reply.Reply}
+use Rattle.pk_model.{specs.Answer.Answer, specs.Answer.map_after, specs.Run.Step, specs.Spaces.Terms, specs.Spaces.one_space, specs.Spaces.limit_of, specs.Spaces.is_space, specs.Spaces.in_space}
 use Rattle.pk_model.proofs.SpaceLemmas.{by_keys, entries_in, get_in_space}
+use Rattle.pk_law_isolation.{specs.Isolation.map_alone, specs.Isolation.terms_alone, specs.Isolation.command_alone, proofs.Alone.own_answer, proofs.Alone.own_step, proofs.Alone.other_step}
+use Rattle.pk_law_isolation.proofs.Sums.{first_is_part}
 use Rattle.pk_serve.proofs.Answering.{answers}
 
 module _ (shape : Shape) (terms : Terms) (some : 1 ≤ length terms.limits) (c : Command) (first : c.namespace ≡ 1) where

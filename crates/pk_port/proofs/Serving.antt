@@ -1,38 +1,17 @@
 -- What a command that was served leaves of a drive on its board, and what it reports to a host.
 use Rattle.std.proofs.Common.{◌≡◌, ◌≢◌, inl, inr, ℕ, ◌+◌, ◌≤◌, ◌<◌, ◌^◌, refl, sym, ap, subst, ◌∙◌, arith, List, [], ◌∷◌, length, take, Bool, true, false, ◌==◌, nat_le, Option, Some, Result, Ok, Err}
-use Rattle.std.proofs.lemmas.Bool.{eqb-true, eqb-false}
-use Rattle.std.proofs.lemmas.Bool.Decides.{nat_tests}
-use Rattle.std.proofs.lemmas.List.{length-take-le}
-use Rattle.pk_base.specs.Shape.{Shape}
-use Rattle.pk_base.specs.Page.{Flash}
-use Rattle.pk_base.specs.Entry.{Entry}
-use Rattle.pk_base.specs.Map.{Map}
-use Rattle.pk_nvme.specs.Command.{Command}
-use Rattle.pk_nvme.specs.Reply.{Reply}
-use Rattle.pk_nand.specs.BoardState.{BoardState, shape_of, shape_or_none}
-use Rattle.pk_nand.specs.Calls.{Rose}
-use Rattle.pk_nand.specs.Effects.{OnlyFlash, OnlyReading}
-use Rattle.pk_call.specs.Calling.{only_looks}
-use Rattle.pk_model.specs.Answer.{map_after}
-use Rattle.pk_model.specs.Reading.{reading, Holds}
-use Rattle.pk_model.specs.Spaces.{Terms, limits_at, limit_of, in_space}
-use Rattle.pk_call.specs.Drive.{HoldsMap}
-use Rattle.pk_call.specs.Sight.{Sight}
-use Rattle.pk_model.specs.Wear.{root_number, roots, is_worn}
-use Rattle.pk_call.specs.Exec.{most_installs, IsValue}
-use Rattle.pk_call.specs.Meter.{reads_after}
-use Rattle.pk_serve.specs.Port.{StepCut, Submitted, Submits, SubmitStops}
-use Rattle.pk_host.specs.Good.{IsGoodMap, IsHanded}
-use Rattle.pk_host.specs.Port.{IsWithin, PortSteps, Replies, room_of}
-use Rattle.pk_host.proofs.LeftLemmas.{good_left}
+use Rattle.std.{proofs.lemmas.Bool.eqb-true, proofs.lemmas.Bool.eqb-false, proofs.lemmas.Bool.Decides.nat_tests, proofs.lemmas.List.length-take-le}
+use Rattle.pk_base.{specs.Shape.Shape, specs.Page.Flash, specs.Entry.Entry, specs.Map.Map}
+use Rattle.pk_nvme.{specs.Command.Command, specs.Reply.Reply}
+use Rattle.pk_nand.{specs.BoardState.BoardState, specs.BoardState.shape_of, specs.BoardState.shape_or_none, specs.Calls.Rose, specs.Effects.OnlyFlash, specs.Effects.OnlyReading}
+use Rattle.pk_call.{specs.Calling.only_looks, specs.Drive.HoldsMap, specs.Sight.Sight, specs.Exec.most_installs, specs.Exec.IsValue, specs.Meter.reads_after}
+use Rattle.pk_model.{specs.Answer.map_after, specs.Reading.reading, specs.Reading.Holds, specs.Spaces.Terms, specs.Spaces.limits_at, specs.Spaces.limit_of, specs.Spaces.in_space}
+use Rattle.pk_model.{specs.Wear.root_number, specs.Wear.roots, specs.Wear.is_worn, proofs.Growing.went_limits}
+use Rattle.pk_serve.{specs.Port.StepCut, specs.Port.Submitted, specs.Port.Submits, specs.Port.SubmitStops, proofs.Limiting.limits_some, proofs.Limiting.limits_held}
+use Rattle.pk_host.{specs.Good.IsGoodMap, specs.Good.IsHanded, specs.Port.IsWithin, specs.Port.PortSteps, specs.Port.Replies, specs.Port.room_of, proofs.LeftLemmas.good_left}
 use Rattle.pk_host.proofs.DataLemmas.{data_fit}
-use Rattle.pk_port.specs.Ready.{Ready, Fits}
-use Rattle.pk_port.specs.Steps.{mount, seen, Serves, Fails}
-use Rattle.pk_port.specs.declared.halt.Halt.TheVariants.{Stopped}
-use Rattle.pk_port.proofs.Isolating.{first_step, others_left}
-use Rattle.pk_port.proofs.Stepping.{part_of, part_held}
-use Rattle.pk_serve.proofs.Limiting.{limits_some, limits_held}
-use Rattle.pk_model.proofs.Growing.{went_limits}
+use Rattle.pk_port.{specs.Ready.Ready, specs.Ready.Fits, specs.Steps.mount, specs.Steps.seen, specs.Steps.Serves, specs.Steps.Fails, specs.declared.halt.Halt.TheVariants.Stopped}
+use Rattle.pk_port.{proofs.Isolating.first_step, proofs.Isolating.others_left, proofs.Stepping.part_of, proofs.Stepping.part_held}
 
 -- what is passed, of a board of this shape
 pub value_on : (shape : Shape) (board : BoardState) (opcode size : ℕ) (handed value : List ℕ)

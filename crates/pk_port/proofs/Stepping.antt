@@ -1,21 +1,14 @@
 -- One command through the port, and what a host sees of it.
 use Rattle.std.proofs.Common.{◌≡◌, inl, inr, ℕ, ◌≤◌, refl, sym, ap, subst, ◌∙◌, List, [], ◌∷◌, length, Option, Some, None, Result, Ok, Err, arith}
-use Rattle.std.specs.Option.{option_map}
-use Rattle.std.specs.Result.{result_ok}
-use Rattle.pk_base.specs.Shape.{Shape}
-use Rattle.pk_base.specs.Map.{Map}
-use Rattle.pk_base.specs.Refusal.{Refusal}
+use Rattle.std.{specs.Option.option_map, specs.Result.result_ok}
+use Rattle.pk_base.{specs.Shape.Shape, specs.Map.Map, specs.Refusal.Refusal}
 use Rattle.pk_nvme.specs.Command.{Command}
 use Rattle.pk_nand.specs.Calls.{Rose}
-use Rattle.pk_model.specs.Answer.{map_after}
-use Rattle.pk_model.specs.Reading.{reading, Holds}
-use Rattle.pk_model.specs.Run.{Exchange}
-use Rattle.pk_model.specs.Spaces.{limits_at, limit_of, in_space}
+use Rattle.pk_model.{specs.Answer.map_after, specs.Reading.reading, specs.Reading.Holds, specs.Run.Exchange, specs.Spaces.limits_at, specs.Spaces.limit_of, specs.Spaces.in_space}
 use Rattle.pk_host.specs.Port.{Took, LeftBySome}
 use Rattle.pk_port.specs.Steps.{Mounted, Standing, Serves, Stops, Fails, Stepped, Chain, seen}
-use Rattle.pk_port.specs.declared.halt.Halt.{Halt}
+use Rattle.pk_port.{specs.declared.halt.Halt.Halt, proofs.Isolating.first_left}
 use Rattle.pk_serve.proofs.Limiting.{limits_some}
-use Rattle.pk_port.proofs.Isolating.{first_left}
 
 -- the first namespace of a map that is read
 abbrev pub part_of : Result Map Refusal → Option Map

@@ -1,17 +1,11 @@
 -- What commands through a port have made of a board, and what every cut of it leaves.
 use Rattle.std.specs.Prelude.{◌≡◌, ◌⊎◌, ℕ, ◌≤◌, List, [], ◌++◌, Option, Some}
-use Rattle.pk_base.specs.Shape.{Shape}
-use Rattle.pk_base.specs.Page.{Flash}
-use Rattle.pk_base.specs.Map.{Map}
+use Rattle.pk_base.{specs.Shape.Shape, specs.Page.Flash, specs.Map.Map}
 use Rattle.pk_nvme.specs.Command.{Command}
-use Rattle.pk_nand.specs.BoardState.{BoardState}
-use Rattle.pk_nand.specs.Effects.{OnlyFlash}
-use Rattle.pk_model.specs.Growth.{Reaches}
-use Rattle.pk_model.specs.Kept.{Kept, AtMost, rise}
-use Rattle.pk_model.specs.Reading.{Holds}
-use Rattle.pk_model.specs.Run.{Exchange, commands, RunWithin, faults}
-use Rattle.pk_call.specs.Meter.{Meter, meter, MeteredAll}
+use Rattle.pk_nand.{specs.BoardState.BoardState, specs.Effects.OnlyFlash}
+use Rattle.pk_model.{specs.Growth.Reaches, specs.Kept.Kept, specs.Kept.AtMost, specs.Kept.rise, specs.Reading.Holds, specs.Run.Exchange, specs.Run.commands, specs.Run.RunWithin, specs.Run.faults}
 use Rattle.pk_model.specs.Spaces.{Terms, limits_at}
+use Rattle.pk_call.specs.Meter.{Meter, meter, MeteredAll}
 
 -- the flash holds the map after a prefix of the commands, and no byte was posted
 abbrev pub KeptSilently : Shape → Terms → Map → List Command → Option ℕ → Flash → List ℕ → Type 0

@@ -1,18 +1,11 @@
 -- What a chain of commands through a port did to the board as a whole.
 use Rattle.std.specs.Prelude.{◌≡◌, ◌⊎◌, ℕ, ◌+◌, ◌≤◌, if◌then◌else◌, List, [], ◌∷◌, Some, false}
-use Rattle.pk_base.specs.Shape.{Shape}
-use Rattle.pk_base.specs.Map.{Map}
+use Rattle.pk_base.{specs.Shape.Shape, specs.Map.Map}
 use Rattle.pk_nvme.specs.Command.{Command}
-use Rattle.pk_nand.specs.Calls.{Rose}
-use Rattle.pk_nand.specs.Effects.{OnlyFlash}
-use Rattle.pk_model.specs.Growth.{Goes}
-use Rattle.pk_model.specs.Kept.{rise}
-use Rattle.pk_model.specs.Wear.{roots}
-use Rattle.pk_call.specs.Calling.{only_looks}
-use Rattle.pk_call.specs.Exec.{most_installs}
-use Rattle.pk_port.specs.Asking.{KeptSilently, Asked}
-use Rattle.pk_port.specs.Steps.{Standing, HasCause}
-use Rattle.pk_port.specs.declared.halt.Halt.{Halt}
+use Rattle.pk_nand.{specs.Calls.Rose, specs.Effects.OnlyFlash}
+use Rattle.pk_model.{specs.Growth.Goes, specs.Kept.rise, specs.Wear.roots}
+use Rattle.pk_call.{specs.Calling.only_looks, specs.Exec.most_installs}
+use Rattle.pk_port.{specs.Asking.KeptSilently, specs.Asking.Asked, specs.Steps.Standing, specs.Steps.HasCause, specs.declared.halt.Halt.Halt}
 
 -- most roots that commands install: one that only looks installs none
 abbrev pub installs_of : Command → ℕ

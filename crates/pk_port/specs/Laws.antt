@@ -2,8 +2,7 @@
 use Rattle.std.proofs.Common.{◌≡◌, sym, subst, List, [], ◌∷◌, ◌++◌}
 use Rattle.pk_base.specs.Shape.{Shape}
 use Rattle.pk_nvme.specs.Command.{Command}
-use Rattle.pk_host.specs.Port.{PortState, Took}
-use Rattle.pk_host.specs.TookLaws.{took_none, took_both}
+use Rattle.pk_host.{specs.Port.PortState, specs.Port.Took, specs.TookLaws.took_none, specs.TookLaws.took_both}
 use Rattle.pk_port.specs.Steps.{Standing, Stepped, Chain, seen}
 
 -- one chain after another

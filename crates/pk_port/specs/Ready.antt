@@ -1,11 +1,8 @@
 -- What a port keeps to between two commands.
 use Rattle.std.specs.Prelude.{◌≡◌, [], false, Option, Some}
-use Rattle.pk_base.specs.Shape.{Shape}
-use Rattle.pk_base.specs.Page.{Flash}
-use Rattle.pk_base.specs.Map.{Map}
+use Rattle.pk_base.{specs.Shape.Shape, specs.Page.Flash, specs.Map.Map}
 use Rattle.pk_nand.specs.BoardState.{BoardState}
-use Rattle.pk_call.specs.Sight.{Sight}
-use Rattle.pk_call.specs.Drive.{HoldsMap}
+use Rattle.pk_call.{specs.Sight.Sight, specs.Drive.HoldsMap}
 use Rattle.pk_host.specs.Good.{IsGoodMap}
 use Rattle.pk_model.specs.Spaces.{limit_of, in_space}
 use Rattle.pk_nvme.specs.declared.limits.TheConstants.{NAMESPACE}

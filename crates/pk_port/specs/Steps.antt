@@ -1,29 +1,15 @@
 -- A drive with its board as a port: what each command does to both.
 use Rattle.std.specs.Prelude.{◌≡◌, ◌⊎◌, ℕ, ◌≤◌, List, [], ◌∷◌, Bool, true, false, Option, Some, Result, Ok, Err}
-use Rattle.std.specs.Result.{result_ok}
-use Rattle.std.specs.Option.{option_map}
-use Rattle.pk_base.specs.Shape.{Shape}
-use Rattle.pk_base.specs.Map.{Map}
-use Rattle.pk_nvme.specs.Command.{Command}
-use Rattle.pk_nand.specs.BoardState.{BoardState, shape_of}
-use Rattle.pk_nand.specs.Calls.{Rose}
-use Rattle.pk_nand.specs.Effects.{OnlyFlash, OnlyReading}
-use Rattle.pk_nvme.specs.declared.limits.TheConstants.{NAMESPACE}
-use Rattle.pk_model.specs.Spaces.{Terms, limits_at, terms_at, limit_of, in_space}
-use Rattle.pk_model.specs.Growth.{Reaches, Goes}
-use Rattle.pk_model.specs.Reading.{reading, Holds}
-use Rattle.pk_model.specs.Run.{Exchange}
-use Rattle.pk_model.specs.Wear.{is_worn}
-use Rattle.pk_call.specs.Sight.{Sight}
-use Rattle.pk_call.specs.Calling.{only_looks}
-use Rattle.pk_call.specs.Meter.{meter, Metered}
-use Rattle.pk_call.specs.Seen.{reply_of}
-use Rattle.pk_call.specs.declared.types.Outcome.{Outcome}
-use Rattle.pk_serve.specs.Port.{StepCut}
-use Rattle.pk_serve.specs.Serving.{StepWithin}
+use Rattle.std.{specs.Result.result_ok, specs.Option.option_map}
+use Rattle.pk_base.{specs.Shape.Shape, specs.Map.Map}
+use Rattle.pk_nvme.{specs.Command.Command, specs.declared.limits.TheConstants.NAMESPACE}
+use Rattle.pk_nand.{specs.BoardState.BoardState, specs.BoardState.shape_of, specs.Calls.Rose, specs.Effects.OnlyFlash, specs.Effects.OnlyReading}
+use Rattle.pk_model.{specs.Spaces.Terms, specs.Spaces.limits_at, specs.Spaces.terms_at, specs.Spaces.limit_of, specs.Spaces.in_space, specs.Growth.Reaches, specs.Growth.Goes, specs.Run.Exchange}
+use Rattle.pk_model.{specs.Reading.reading, specs.Reading.Holds, specs.Wear.is_worn}
+use Rattle.pk_call.{specs.Sight.Sight, specs.Calling.only_looks, specs.Meter.meter, specs.Meter.Metered, specs.Seen.reply_of, specs.declared.types.Outcome.Outcome}
+use Rattle.pk_serve.{specs.Port.StepCut, specs.Serving.StepWithin}
 use Rattle.pk_host.specs.Port.{PortState, Took}
-use Rattle.pk_port.specs.declared.halt.Halt.{Halt}
-use Rattle.pk_port.specs.declared.halt.Halt.TheVariants.{Stopped, Worn}
+use Rattle.pk_port.{specs.declared.halt.Halt.Halt, specs.declared.halt.Halt.TheVariants.Stopped, specs.declared.halt.Halt.TheVariants.Worn}
 
 -- What is known of a drive on its board: the board, whether the drive is stopped, and its frames and limits.
 pub record Mounted : Type 0 where

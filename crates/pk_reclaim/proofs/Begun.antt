@@ -1,42 +1,24 @@
 -- A reclaim begins: a victim was chosen, and a block taken for its copies; or a victim without live pages was freed.
 use Rattle.std.proofs.Common.{◌≡◌, inl, inr, ℕ, ◌+◌, ◌-◌, ◌*◌, ◌<◌, ◌≤◌, refl, sym, ap, subst, ◌∙◌, arith, true, false, List, [], ◌∷◌, sum, take, drop, append-nil}
 use Rattle.std.proofs.lemmas.Option.{slice_get_within}
-use Rattle.pk_base.specs.Key.{Key}
-use Rattle.pk_base.specs.Shape.{Shape, data_blocks, dense}
-use Rattle.pk_base.specs.Page.{Flash, page_at}
-use Rattle.pk_base.specs.Entry.{Entry, Place}
-use Rattle.pk_base.specs.Map.{Map}
+use Rattle.pk_base.{specs.Key.Key, specs.Shape.Shape, specs.Shape.data_blocks, specs.Shape.dense, specs.Page.Flash, specs.Page.page_at, specs.Entry.Entry, specs.Entry.Place, specs.Map.Map}
 use Rattle.pk_plan.specs.declared.owner.Owner.TheVariants.{Values as for_values}
-use Rattle.pk_nand.specs.BoardState.{BoardState}
-use Rattle.pk_nand.specs.Calls.{IsReady}
-use Rattle.pk_nand.specs.Operations.{IsErasedBlock}
+use Rattle.pk_nand.{specs.BoardState.BoardState, specs.Calls.IsReady, specs.Operations.IsErasedBlock}
 use Rattle.pk_rootfmt.specs.Root.{Root}
 use Rattle.pk_pool.specs.Blocks.{Blocks, used_by}
-use Rattle.pk_model.specs.Found.{Found}
-use Rattle.pk_model.specs.Growth.{Reaches}
+use Rattle.pk_model.{specs.Found.Found, specs.Growth.Reaches}
 use Rattle.pk_law_steps.specs.Under.{places}
 use Rattle.pk_live.specs.Values.{Values, IsClosed, count_of}
-use Rattle.pk_gc.specs.declared.course.Course.{Course}
-use Rattle.pk_gc.specs.declared.course.Phase.TheVariants.{Idle, Copies}
-use Rattle.pk_gc.specs.declared.moves.Move.{Move}
-use Rattle.pk_gc.specs.State.{JobState, started, live_from}
-use Rattle.pk_gc.specs.Running.{IsRunning, IsSparse}
-use Rattle.pk_gc.specs.Beginning.{Starts, GivesBack}
-use Rattle.pk_gc.proofs.Copying.{start_runs}
-use Rattle.pk_gc.proofs.Lowering.{live_of_block}
-use Rattle.pk_gc.proofs.Victims.{below_quota}
-use Rattle.pk_values.specs.State.{ValuesState, fits_open}
-use Rattle.pk_values.specs.Placed.{ValuesOnFlash, HoldsValues}
-use Rattle.pk_values.proofs.Unchanged.{none_in_spare}
-use Rattle.pk_reclaim.proofs.Holding.{chosen, output_taken, dead_given_back}
-use Rattle.pk_log.specs.State.{LogState}
+use Rattle.pk_gc.{specs.declared.course.Course.Course, specs.declared.course.Phase.TheVariants.Idle, specs.declared.course.Phase.TheVariants.Copies, specs.declared.moves.Move.Move}
+use Rattle.pk_gc.{specs.State.JobState, specs.State.started, specs.State.live_from, specs.Running.IsRunning, specs.Running.IsSparse, specs.Beginning.Starts, specs.Beginning.GivesBack}
+use Rattle.pk_gc.{proofs.Copying.start_runs, proofs.Lowering.live_of_block, proofs.Victims.below_quota}
+use Rattle.pk_values.{specs.State.ValuesState, specs.State.fits_open, specs.Placed.ValuesOnFlash, specs.Placed.HoldsValues, proofs.Unchanged.none_in_spare}
+use Rattle.pk_reclaim.{proofs.Holding.chosen, proofs.Holding.output_taken, proofs.Holding.dead_given_back, specs.Steps.SpaceMoves, proofs.Room.no_need}
 use Rattle.pk_reclaim.specs.Space.{ReclaimParts, SpaceOnFlash, MayReclaim, HasRoom, reclaim_parts}
-use Rattle.pk_reclaim.specs.Steps.{SpaceMoves}
 use Rattle.pk_reclaim.proofs.Owners.{SameOwners, owners_taken, owners_given, spare_aside, names_stay, others_kept}
 use Rattle.pk_reclaim.proofs.Quiet.{NamesOwned, IsQuiet, SameBut, Finds, under_quiet, low_quiet, log_quiet, meta_quiet, journal_quiet, none_reaches, erase_quiet, erase_reaches}
-use Rattle.pk_reclaim.proofs.Still.{still_same, still_moves, names_of}
-use Rattle.pk_reclaim.proofs.Room.{no_need}
-use Rattle.pk_reclaim.proofs.Ready.{job_in, space_in, used_is}
+use Rattle.pk_reclaim.{proofs.Still.still_same, proofs.Still.still_moves, proofs.Still.names_of, proofs.Ready.job_in, proofs.Ready.space_in, proofs.Ready.used_is}
+use Rattle.pk_log.specs.State.{LogState}
 
 -- the pages of a victim that are live are those of the values that begin in it
 sparse_started : (shape : Shape) (live : Values) (victim output : ℕ) → live.block_pages ≡ shape.block_pages → count_of live victim ≤ dense shape → IsSparse shape (started victim output) live.heads

@@ -1,20 +1,13 @@
 -- What the one call of a step does to a board apart from its pages.
 use Rattle.std.proofs.Common.{◌≡◌, inl, inr, ℕ, ◌+◌, ◌*◌, ◌/◌, ◌%◌, ◌<◌, ◌≤◌, refl, sym, ap, subst, ◌∙◌, arith, List, [], div-lt_iff_lt-mul}
-use Rattle.pk_base.specs.Shape.{Shape}
-use Rattle.pk_base.specs.Page.{Flash, page_at}
-use Rattle.pk_base.specs.Mark.{Mark, program, erase}
-use Rattle.pk_nand.specs.BoardState.{BoardState, shape_of, shape_or_none}
-use Rattle.pk_nand.specs.Calls.{IsReady, after_program, LeftBy, ProgramFailed}
-use Rattle.pk_nand.specs.Operations.{after_read, after_erase, ReadFailed, EraseFailed}
-use Rattle.pk_nand.specs.Cut.{Interrupted, Touches}
-use Rattle.pk_nand.specs.Effects.{AtMostOneCall, NoFault, OnlyFlash, OnlyReading, made_no_call, made_read, made_program, made_erase}
-use Rattle.pk_nand.proofs.Effects.{stops_erase, stops_program}
 use Rattle.std.proofs.Math.Nat.{mul-mod_left}
-use Rattle.pk_nand.proofs.Touching.{untouched}
+use Rattle.pk_base.{specs.Shape.Shape, specs.Page.Flash, specs.Page.page_at, specs.Mark.Mark, specs.Mark.program, specs.Mark.erase}
+use Rattle.pk_nand.{specs.BoardState.BoardState, specs.BoardState.shape_of, specs.BoardState.shape_or_none, specs.Cut.Interrupted, specs.Cut.Touches, proofs.Touching.untouched}
+use Rattle.pk_nand.{specs.Calls.IsReady, specs.Calls.after_program, specs.Calls.LeftBy, specs.Calls.ProgramFailed, proofs.Effects.stops_erase, proofs.Effects.stops_program}
+use Rattle.pk_nand.specs.Operations.{after_read, after_erase, ReadFailed, EraseFailed}
+use Rattle.pk_nand.specs.Effects.{AtMostOneCall, NoFault, OnlyFlash, OnlyReading, made_no_call, made_read, made_program, made_erase}
 use Rattle.pk_rootfmt.specs.Newest.{newest_root}
-use Rattle.pk_model.proofs.SamePages.{newest_root_same}
-use Rattle.pk_model.specs.Growth.{Grows}
-use Rattle.pk_model.specs.Wear.{root_number, roots}
+use Rattle.pk_model.{proofs.SamePages.newest_root_same, specs.Growth.Grows, specs.Wear.root_number, specs.Wear.roots}
 
 -- ---- one call that did not fail
 

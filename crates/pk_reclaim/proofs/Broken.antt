@@ -1,43 +1,21 @@
 -- A step of which the one call failed.
 use Rattle.std.proofs.Common.{◌≡◌, inl, ℕ, ◌*◌, ◌<◌, ◌≤◌, refl, sym, subst, ◌∙◌, arith, true, false, List, []}
 use Rattle.std.proofs.Math.Nat.{mul-le-mul_right}
-use Rattle.pk_base.specs.Key.{Key}
-use Rattle.pk_base.specs.Shape.{Shape, epoch_commits}
-use Rattle.pk_base.specs.Page.{Flash, commit_page}
-use Rattle.pk_base.specs.Entry.{Entry, Place}
-use Rattle.pk_base.specs.Map.{Map}
+use Rattle.pk_base.{specs.Key.Key, specs.Shape.Shape, specs.Shape.epoch_commits, specs.Page.Flash, specs.Page.commit_page, specs.Entry.Entry, specs.Entry.Place, specs.Map.Map}
 use Rattle.pk_base.proofs.ShapeLemmas.{block_pages_positive}
-use Rattle.pk_nand.specs.BoardState.{BoardState}
-use Rattle.pk_nand.specs.Calls.{IsReady, ProgramFailed}
-use Rattle.pk_nand.specs.declared.types.Fault.{Fault}
+use Rattle.pk_nand.{specs.BoardState.BoardState, specs.Calls.IsReady, specs.Calls.ProgramFailed, specs.declared.types.Fault.Fault}
 use Rattle.pk_rootfmt.specs.Root.{Root}
-use Rattle.pk_pool.specs.declared.state.BlockState.TheVariants.{Free}
-use Rattle.pk_pool.specs.Blocks.{Blocks, IsShared}
-use Rattle.pk_pool.specs.Taking.{FailsToErase}
-use Rattle.pk_pool.proofs.Sharing.{behind_roots}
+use Rattle.pk_pool.{specs.declared.state.BlockState.TheVariants.Free, specs.Blocks.Blocks, specs.Blocks.IsShared, specs.Taking.FailsToErase, proofs.Sharing.behind_roots}
 use Rattle.pk_pool.proofs.States.{free_is_not_root}
-use Rattle.pk_jrn.specs.Epochs.{left_of, next_page}
-use Rattle.pk_jrn.proofs.Appending.{commit_left}
-use Rattle.pk_model.specs.Found.{Found}
-use Rattle.pk_model.specs.Growth.{Goes}
-use Rattle.pk_model.specs.Crashes.{CrashFinds, background}
+use Rattle.pk_jrn.{specs.Epochs.left_of, specs.Epochs.next_page, proofs.Appending.commit_left}
+use Rattle.pk_model.{specs.Found.Found, specs.Growth.Goes, specs.Crashes.CrashFinds, specs.Crashes.background}
 use Rattle.pk_law_steps.specs.Under.{places}
-use Rattle.pk_gc.specs.declared.course.Course.{Course}
-use Rattle.pk_gc.specs.declared.course.Phase.TheVariants.{Idle, Copies}
-use Rattle.pk_gc.specs.declared.moves.Move.{Move}
-use Rattle.pk_gc.specs.State.{target}
-use Rattle.pk_gc.specs.Running.{IsRunning}
-use Rattle.pk_gc.specs.Breaking.{FailsToCopy}
-use Rattle.pk_values.specs.State.{ValuesState}
-use Rattle.pk_values.proofs.Unchanged.{none_in_spare}
+use Rattle.pk_gc.{specs.declared.course.Course.Course, specs.declared.course.Phase.TheVariants.Idle, specs.declared.course.Phase.TheVariants.Copies, specs.declared.moves.Move.Move, specs.State.target}
+use Rattle.pk_gc.{specs.Running.IsRunning, specs.Breaking.FailsToCopy}
+use Rattle.pk_values.{specs.State.ValuesState, proofs.Unchanged.none_in_spare}
 use Rattle.pk_log.specs.State.{LogState}
-use Rattle.pk_reclaim.specs.Space.{SpaceOnFlash, MayReclaim}
-use Rattle.pk_reclaim.proofs.Owners.{spare_aside}
-use Rattle.pk_reclaim.proofs.Quiet.{IsQuiet, erase_goes, program_goes}
-use Rattle.pk_reclaim.proofs.Boards.{SameRoots, erase_low, program_low}
-use Rattle.pk_reclaim.proofs.Places.{high as pair_high}
-use Rattle.pk_reclaim.proofs.Still.{names_of}
-use Rattle.pk_reclaim.proofs.Ready.{job_in, space_in}
+use Rattle.pk_reclaim.{specs.Space.SpaceOnFlash, specs.Space.MayReclaim, proofs.Owners.spare_aside, proofs.Quiet.IsQuiet, proofs.Quiet.erase_goes, proofs.Quiet.program_goes, proofs.Still.names_of}
+use Rattle.pk_reclaim.{proofs.Boards.SameRoots, proofs.Boards.erase_low, proofs.Boards.program_low, proofs.Places.high as pair_high, proofs.Ready.job_in, proofs.Ready.space_in}
 use Rattle.pk_reclaim.proofs.Copies.{quiet, in_output}
 
 -- the bytes that were read matter no more than they are held

@@ -1,63 +1,29 @@
 -- The first program of the commit of a reclaim's moves was made, or it failed.
 use Rattle.std.proofs.Common.{◌≡◌, inl, ℕ, ◌+◌, ◌-◌, ◌*◌, ◌/◌, ◌<◌, ◌≤◌, refl, sym, ap, subst, ◌∙◌, arith, true, List, [], ◌∷◌, ◌++◌, length, reverse, append-nil, Some}
 use Rattle.std.specs.Prelude.{slice_get, slice_set, flat_map}
-use Rattle.pk_base.specs.Key.{Key}
-use Rattle.pk_base.specs.Shape.{Shape, dense, data_blocks, page_entries, epoch_commits}
-use Rattle.pk_base.specs.Page.{Flash, page_at, commit_page, whole as whole_page}
-use Rattle.pk_base.specs.Entry.{Entry, Place}
-use Rattle.pk_base.specs.Firsts.{firsts}
-use Rattle.pk_base.specs.Map.{Map}
+use Rattle.pk_base.{specs.Key.Key, specs.Shape.Shape, specs.Shape.dense, specs.Shape.data_blocks, specs.Shape.page_entries, specs.Shape.epoch_commits, specs.Entry.Entry, specs.Entry.Place}
+use Rattle.pk_base.{specs.Page.Flash, specs.Page.page_at, specs.Page.commit_page, specs.Page.whole as whole_page, specs.Firsts.firsts, specs.Map.Map}
 use Rattle.pk_plan.specs.declared.owner.Owner.TheVariants.{Journal, Meta, Values as for_values}
-use Rattle.pk_nand.specs.BoardState.{BoardState}
-use Rattle.pk_nand.specs.Calls.{IsReady}
-use Rattle.pk_nand.proofs.Leaving.{page_at-slice_set}
-use Rattle.pk_jrn.specs.Epochs.{JournalEpoch, left_of, next_page}
-use Rattle.pk_jrn.specs.Appends.{next_bytes}
-use Rattle.pk_jrn.specs.Replays.{buffer_of}
-use Rattle.pk_jrn.proofs.Appending.{commit_left}
+use Rattle.pk_nand.{specs.BoardState.BoardState, specs.Calls.IsReady, proofs.Leaving.page_at-slice_set}
+use Rattle.pk_jrn.{specs.Epochs.JournalEpoch, specs.Epochs.left_of, specs.Epochs.next_page, specs.Appends.next_bytes, specs.Replays.buffer_of, proofs.Appending.commit_left}
 use Rattle.pk_rootfmt.specs.Root.{Root}
 use Rattle.pk_root.proofs.Places.{InstallerOnFlash-by_same}
-use Rattle.pk_pool.specs.declared.state.BlockState.TheVariants.{Owned}
-use Rattle.pk_pool.specs.Blocks.{Blocks, used_by}
-use Rattle.pk_model.specs.Found.{Found}
-use Rattle.pk_model.specs.Laws.{AnyByRecursion}
-use Rattle.pk_model.specs.Values.{placed as placed_of}
-use Rattle.pk_model.specs.Growth.{Goes}
-use Rattle.pk_model.specs.Crashes.{CrashFinds, background}
+use Rattle.pk_pool.{specs.declared.state.BlockState.TheVariants.Owned, specs.Blocks.Blocks, specs.Blocks.used_by}
+use Rattle.pk_model.{specs.Found.Found, specs.Laws.AnyByRecursion, specs.Values.placed as placed_of, specs.Growth.Goes, specs.Crashes.CrashFinds, specs.Crashes.background}
 use Rattle.pk_law_steps.specs.Under.{IsUnder, places}
-use Rattle.pk_law_moves.specs.Moves.{moved, CanMove}
-use Rattle.pk_law_moves.specs.Victims.{exchanged}
-use Rattle.pk_law_moves.proofs.Moving.{places_move}
-use Rattle.pk_gc.specs.declared.course.Course.{Course}
-use Rattle.pk_gc.specs.declared.course.Phase.TheVariants.{Copies, Commits}
-use Rattle.pk_gc.specs.declared.moves.Move.{Move}
-use Rattle.pk_gc.specs.State.{JobState, source, placed_at, left_of as moves_left, entries_all}
-use Rattle.pk_gc.specs.Victims.{AreDead}
-use Rattle.pk_gc.specs.Cuts.{Journals, IsHalfMoved, MovesStand}
-use Rattle.pk_gc.specs.Committing.{HasRoom as MovesHaveRoom, FailsToAdd, entries_left}
-use Rattle.pk_gc.specs.Ending.{CanGive}
-use Rattle.pk_gc.specs.Stepping.{Hands, CommitsMoves}
-use Rattle.pk_gc.proofs.Finishing.{may_move, entries_are as left_are}
-use Rattle.pk_gc.proofs.Buffering.{moves_buffered, moves_fit}
+use Rattle.pk_law_moves.{specs.Moves.moved, specs.Moves.CanMove, specs.Victims.exchanged, proofs.Moving.places_move}
+use Rattle.pk_gc.{specs.declared.course.Course.Course, specs.declared.course.Phase.TheVariants.Copies, specs.declared.course.Phase.TheVariants.Commits, specs.declared.moves.Move.Move}
+use Rattle.pk_gc.{specs.State.JobState, specs.State.source, specs.State.placed_at, specs.State.left_of as moves_left, specs.State.entries_all, specs.Victims.AreDead, specs.Ending.CanGive}
+use Rattle.pk_gc.{specs.Cuts.Journals, specs.Cuts.IsHalfMoved, specs.Cuts.MovesStand, specs.Committing.HasRoom as MovesHaveRoom, specs.Committing.FailsToAdd, specs.Committing.entries_left}
+use Rattle.pk_gc.{specs.Stepping.Hands, specs.Stepping.CommitsMoves, proofs.Finishing.may_move, proofs.Finishing.entries_are as left_are, proofs.Buffering.moves_buffered, proofs.Buffering.moves_fit}
 use Rattle.pk_gc.proofs.Cutting.{commit_begins, commit_begin_fails}
-use Rattle.pk_values.specs.State.{ValuesState, fits_open}
-use Rattle.pk_values.specs.Placed.{ValuesOnFlash, HoldsValues, IsOutput}
-use Rattle.pk_values.specs.Laws.{value_blocks}
-use Rattle.pk_reclaim.specs.Hands.{hands_of}
+use Rattle.pk_values.{specs.State.ValuesState, specs.State.fits_open, specs.Placed.ValuesOnFlash, specs.Placed.HoldsValues, specs.Placed.IsOutput, specs.Laws.value_blocks}
 use Rattle.pk_values.proofs.Unchanged.{lie_in_few, among_values}
-use Rattle.pk_reclaim.proofs.Ends.{moves_placed}
-use Rattle.pk_log.specs.State.{LogState}
-use Rattle.pk_log.specs.Logs.{LogOnFlash}
-use Rattle.pk_reclaim.specs.Space.{ReclaimParts, SpaceOnFlash, HalfMoves, HasRoom, reclaim_parts}
-use Rattle.pk_reclaim.specs.Steps.{SpaceMoves, with_newest}
-use Rattle.pk_reclaim.proofs.Known.{as_many_known}
-use Rattle.pk_reclaim.proofs.Owners.{owners_same, held_aside, others_kept}
-use Rattle.pk_reclaim.proofs.Quiet.{aside_unnamed}
-use Rattle.pk_reclaim.proofs.Still.{names_of}
-use Rattle.pk_reclaim.proofs.Room.{fits_need, entries_few}
-use Rattle.pk_reclaim.proofs.Places.{high, in_newest, for_journal}
-use Rattle.pk_reclaim.proofs.Given.{output_fits}
-use Rattle.pk_reclaim.proofs.Ready.{job_in, space_in, is_copied, can_give}
+use Rattle.pk_reclaim.{specs.Hands.hands_of, proofs.Ends.moves_placed, specs.Space.ReclaimParts, specs.Space.SpaceOnFlash, specs.Space.HalfMoves, specs.Space.HasRoom, specs.Space.reclaim_parts}
+use Rattle.pk_reclaim.{specs.Steps.SpaceMoves, specs.Steps.with_newest, proofs.Known.as_many_known, proofs.Owners.owners_same, proofs.Owners.held_aside, proofs.Owners.others_kept}
+use Rattle.pk_reclaim.{proofs.Quiet.aside_unnamed, proofs.Still.names_of, proofs.Room.fits_need, proofs.Room.entries_few, proofs.Places.high, proofs.Places.in_newest, proofs.Places.for_journal}
+use Rattle.pk_reclaim.{proofs.Given.output_fits, proofs.Ready.job_in, proofs.Ready.space_in, proofs.Ready.is_copied, proofs.Ready.can_give}
+use Rattle.pk_log.{specs.State.LogState, specs.Logs.LogOnFlash}
 
 module _ (log : LogState) (values : ValuesState) (pool : Blocks) (c : Course) (moves : List Move) (entries : List Entry) (page : List ℕ) (old : BoardState) (top : ℕ × Root) (found : Found) (m : Map)
     (ready : IsReady old log.shape) (stands : SpaceOnFlash (space_in log values pool moves entries page (Copies c)) old.pages top found m)

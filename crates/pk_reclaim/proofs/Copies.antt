@@ -1,39 +1,22 @@
 -- A page of a value was read, or programmed into the output.
 use Rattle.std.proofs.Common.{◌≡◌, inl, ℕ, ◌-◌, ◌*◌, ◌/◌, refl, sym, ap, subst, arith, true, List, [], ◌∷◌, ◌++◌, append-nil}
-use Rattle.pk_base.specs.Key.{Key}
-use Rattle.pk_base.specs.Shape.{Shape, charge}
-use Rattle.pk_base.specs.Page.{Flash}
-use Rattle.pk_base.specs.Entry.{Entry, Place}
-use Rattle.pk_base.specs.Map.{Map}
-use Rattle.pk_nand.specs.BoardState.{BoardState}
-use Rattle.pk_nand.specs.Calls.{IsReady, after_program}
-use Rattle.pk_nand.specs.Operations.{after_read}
+use Rattle.pk_base.{specs.Key.Key, specs.Shape.Shape, specs.Shape.charge, specs.Page.Flash, specs.Entry.Entry, specs.Entry.Place, specs.Map.Map}
+use Rattle.pk_nand.{specs.BoardState.BoardState, specs.Calls.IsReady, specs.Calls.after_program, specs.Operations.after_read}
 use Rattle.pk_segfmt.proofs.StoredLemmas.{charge_some}
 use Rattle.pk_rootfmt.specs.Root.{Root}
-use Rattle.pk_pool.specs.Blocks.{Blocks}
-use Rattle.pk_pool.proofs.Fitting.{block_of}
+use Rattle.pk_pool.{specs.Blocks.Blocks, proofs.Fitting.block_of}
 use Rattle.pk_model.specs.Found.{Found}
 use Rattle.pk_law_steps.specs.Under.{places}
-use Rattle.pk_gc.specs.declared.course.Course.{Course}
-use Rattle.pk_gc.specs.declared.course.Phase.TheVariants.{Copies}
-use Rattle.pk_gc.specs.declared.moves.Move.{Move}
-use Rattle.pk_gc.specs.State.{JobState, target, read_next, programmed, begun_at}
-use Rattle.pk_gc.specs.Running.{IsRunning, begun_move}
-use Rattle.pk_gc.specs.Standing.{IsCopying}
-use Rattle.pk_gc.specs.Stepping.{ProgramsHeld, ReadsNext, BeginsValue}
-use Rattle.pk_gc.proofs.Copying.{program_runs, target_exists}
+use Rattle.pk_gc.{specs.declared.course.Course.Course, specs.declared.course.Phase.TheVariants.Copies, specs.declared.moves.Move.Move, specs.Running.IsRunning, specs.Running.begun_move}
+use Rattle.pk_gc.{specs.State.JobState, specs.State.target, specs.State.read_next, specs.State.programmed, specs.State.begun_at, specs.Standing.IsCopying, proofs.Going.next_is_value}
+use Rattle.pk_gc.{specs.Stepping.ProgramsHeld, specs.Stepping.ReadsNext, specs.Stepping.BeginsValue, proofs.Copying.program_runs, proofs.Copying.target_exists}
 use Rattle.pk_gc.proofs.Counting.{program_sparse, begin_sparse}
-use Rattle.pk_gc.proofs.Going.{next_is_value}
-use Rattle.pk_values.specs.State.{ValuesState}
-use Rattle.pk_values.specs.Placed.{ValuesOnFlash}
-use Rattle.pk_reclaim.proofs.Holding.{programmed_output}
-use Rattle.pk_log.specs.State.{LogState}
-use Rattle.pk_reclaim.specs.Space.{ReclaimParts, SpaceOnFlash, reclaim_parts}
-use Rattle.pk_reclaim.specs.Steps.{SpaceMoves}
-use Rattle.pk_reclaim.proofs.Owners.{owners_same, held_aside, others_kept}
+use Rattle.pk_values.{specs.State.ValuesState, specs.Placed.ValuesOnFlash}
+use Rattle.pk_reclaim.{proofs.Holding.programmed_output, specs.Space.ReclaimParts, specs.Space.SpaceOnFlash, specs.Space.reclaim_parts, specs.Steps.SpaceMoves}
+use Rattle.pk_reclaim.{proofs.Owners.owners_same, proofs.Owners.held_aside, proofs.Owners.others_kept, proofs.Still.IsStill, proofs.Still.still_moves, proofs.Still.names_of}
 use Rattle.pk_reclaim.proofs.Quiet.{IsQuiet, SameBut, under_quiet, low_quiet, log_quiet, meta_quiet, journal_quiet, program_quiet, program_reaches}
-use Rattle.pk_reclaim.proofs.Still.{IsStill, still_moves, names_of}
 use Rattle.pk_reclaim.proofs.Ready.{job_in, space_in, are_held, hands}
+use Rattle.pk_log.specs.State.{LogState}
 
 -- a read leaves the pages
 still_read : (old new : BoardState) → new ≡ after_read old → IsStill old new

@@ -3,26 +3,16 @@ use Rattle.std.proofs.Common.{◌≡◌, ℕ, ◌+◌, ◌/◌, false, List, [],
 use Rattle.std.specs.Prelude.{slice_get, slice_set}
 use Rattle.pk_base.specs.Page.{Flash, page_at, whole}
 use Rattle.pk_plan.specs.declared.owner.Owner.TheVariants.{Journal, Values as for_values}
-use Rattle.pk_nand.specs.BoardState.{BoardState}
-use Rattle.pk_nand.proofs.Leaving.{page_at-slice_set}
+use Rattle.pk_nand.{specs.BoardState.BoardState, proofs.Leaving.page_at-slice_set}
 use Rattle.pk_pool.specs.declared.state.BlockState.TheVariants.{Free, Owned}
 use Rattle.pk_pool.specs.Blocks.{Blocks, PoolOnFlash, used_by, with_state}
-use Rattle.pk_jrn.specs.Epochs.{next_page}
-use Rattle.pk_jrn.specs.Appends.{next_bytes}
+use Rattle.pk_jrn.{specs.Epochs.next_page, specs.Appends.next_bytes}
 use Rattle.pk_law_moves.specs.Moves.{moved, entries_of}
-use Rattle.pk_gc.specs.declared.course.Course.{Course}
-use Rattle.pk_gc.specs.declared.moves.Move.{Move}
-use Rattle.pk_gc.specs.State.{placed_at, left_of, heads_all}
-use Rattle.pk_gc.specs.Committing.{entries_left}
-use Rattle.pk_gc.specs.Stepping.{Hands}
+use Rattle.pk_gc.{specs.declared.course.Course.Course, specs.declared.moves.Move.Move, specs.State.placed_at, specs.State.left_of, specs.State.heads_all, specs.Committing.entries_left}
+use Rattle.pk_gc.{specs.Stepping.Hands, proofs.Ending.none_changes}
 use Rattle.pk_live.specs.OpenBlocks.{closed_with}
-use Rattle.pk_gc.proofs.Ending.{none_changes}
-use Rattle.pk_values.specs.State.{ValuesState}
-use Rattle.pk_values.specs.Placed.{ValuesOnFlash}
-use Rattle.pk_values.specs.Laws.{SameValues}
-use Rattle.pk_reclaim.specs.Hands.{hands_of}
-use Rattle.pk_reclaim.specs.Values.{MovesPlaced, EndPlaced}
-use Rattle.pk_reclaim.proofs.Holding.{programmed_pool, ValuesOnFlash-given, one_less}
+use Rattle.pk_values.{specs.State.ValuesState, specs.Placed.ValuesOnFlash, specs.Laws.SameValues}
+use Rattle.pk_reclaim.{specs.Hands.hands_of, specs.Values.MovesPlaced, specs.Values.EndPlaced, proofs.Holding.programmed_pool, proofs.Holding.ValuesOnFlash-given, proofs.Holding.one_less}
 use Rattle.pk_reclaim.proofs.Relocating.{relocated, ValuesOnFlash-relocated}
 
 -- the values after the commit

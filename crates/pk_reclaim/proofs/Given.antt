@@ -1,10 +1,7 @@
 -- A reclaim ended: no move remained, or its moves were committed before; the victim was freed.
 use Rattle.std.proofs.Common.{◌≡◌, inl, ℕ, ◌+◌, ◌-◌, ◌*◌, ◌≤◌, refl, sym, ap, subst, ◌∙◌, arith, true, false, List, [], Option, Some}
 use Rattle.std.proofs.lemmas.Bool.{le-leb}
-use Rattle.pk_base.specs.Key.{Key}
-use Rattle.pk_base.specs.Shape.{Shape, IsShape, data_blocks, dense, most_pages}
-use Rattle.pk_base.specs.Page.{Flash}
-use Rattle.pk_base.specs.Entry.{Entry, Place}
+use Rattle.pk_base.{specs.Key.Key, specs.Shape.Shape, specs.Shape.IsShape, specs.Shape.data_blocks, specs.Shape.dense, specs.Shape.most_pages, specs.Page.Flash, specs.Entry.Entry, specs.Entry.Place}
 use Rattle.pk_base.specs.Map.{Map}
 use Rattle.pk_plan.specs.declared.owner.Owner.TheVariants.{Values as for_values}
 use Rattle.pk_nand.specs.BoardState.{BoardState}
@@ -15,25 +12,14 @@ use Rattle.pk_pool.specs.Blocks.{Blocks, used_by}
 use Rattle.pk_model.specs.Found.{Found}
 use Rattle.pk_law_steps.specs.Under.{places}
 use Rattle.pk_law_moves.proofs.Emptying.{leaves_room}
-use Rattle.pk_gc.specs.declared.course.Course.{Course}
-use Rattle.pk_gc.specs.declared.course.Phase.TheVariants.{Idle, Copies, GivesBack}
-use Rattle.pk_gc.specs.declared.moves.Move.{Move}
-use Rattle.pk_gc.specs.declared.reclaimed.Reclaimed.{Reclaimed}
-use Rattle.pk_gc.specs.State.{JobState, source}
-use Rattle.pk_gc.specs.Victims.{AreDead}
+use Rattle.pk_gc.{specs.declared.course.Course.Course, specs.declared.course.Phase.TheVariants.Idle, specs.declared.course.Phase.TheVariants.Copies, specs.declared.course.Phase.TheVariants.GivesBack}
+use Rattle.pk_gc.{specs.declared.moves.Move.Move, specs.declared.reclaimed.Reclaimed.Reclaimed, specs.State.JobState, specs.State.source, specs.Victims.AreDead}
 use Rattle.pk_gc.specs.Stepping.{Hands, EndsWithout, GivesVictim, victim_given}
-use Rattle.pk_values.specs.State.{ValuesState, OpenBlock, fits_open, has_left}
-use Rattle.pk_values.specs.Placed.{ValuesOnFlash}
-use Rattle.pk_reclaim.specs.Hands.{hands_of}
-use Rattle.pk_reclaim.proofs.Holding.{victim_given_back}
-use Rattle.pk_reclaim.proofs.Ends.{end_placed}
+use Rattle.pk_values.{specs.State.ValuesState, specs.State.OpenBlock, specs.State.fits_open, specs.State.has_left, specs.Placed.ValuesOnFlash}
+use Rattle.pk_reclaim.{specs.Hands.hands_of, proofs.Holding.victim_given_back, proofs.Ends.end_placed, specs.Steps.SpaceMoves, proofs.Still.still_same, proofs.Still.still_moves, proofs.Still.names_of}
+use Rattle.pk_reclaim.{specs.Space.ReclaimParts, specs.Space.SpaceOnFlash, specs.Space.HasRoom, specs.Space.reclaim_parts, proofs.Room.fits_need}
+use Rattle.pk_reclaim.{proofs.Owners.SameOwners, proofs.Owners.owners_given, proofs.Owners.names_stay, proofs.Ready.job_in, proofs.Ready.space_in, proofs.Ready.can_give}
 use Rattle.pk_log.specs.State.{LogState}
-use Rattle.pk_reclaim.specs.Space.{ReclaimParts, SpaceOnFlash, HasRoom, reclaim_parts}
-use Rattle.pk_reclaim.specs.Steps.{SpaceMoves}
-use Rattle.pk_reclaim.proofs.Owners.{SameOwners, owners_given, names_stay}
-use Rattle.pk_reclaim.proofs.Still.{still_same, still_moves, names_of}
-use Rattle.pk_reclaim.proofs.Room.{fits_need}
-use Rattle.pk_reclaim.proofs.Ready.{job_in, space_in, can_give}
 
 -- ---- the parts of hands
 

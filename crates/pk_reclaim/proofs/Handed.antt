@@ -1,32 +1,19 @@
 -- A step of the job that was handed the newest epoch and the active buffer of the log, and the live values and the open block.
 use Rattle.std.proofs.Common.{◌≡◌, ◌⊎◌, inl, inr, ℕ, refl, ap, subst, sym, arith, Option, Some, None, Result, Ok, Err}
 use Rattle.std.specs.Prelude.{IfOk, IfErr, OnErr, MatchOption}
-use Rattle.pk_base.specs.Shape.{Shape, IsShape}
-use Rattle.pk_base.specs.Page.{Flash}
-use Rattle.pk_nand.specs.declared.types.Fault.{Fault}
-use Rattle.pk_nand.specs.declared.types.Fault.TheVariants.{Reading, Stopped}
-use Rattle.pk_nand.specs.BoardState.{BoardState}
-use Rattle.pk_nand.specs.Calls.{IsReady}
+use Rattle.pk_base.{specs.Shape.Shape, specs.Shape.IsShape, specs.Page.Flash}
+use Rattle.pk_nand.{specs.declared.types.Fault.Fault, specs.declared.types.Fault.TheVariants.Reading, specs.declared.types.Fault.TheVariants.Stopped, specs.BoardState.BoardState, specs.Calls.IsReady}
 use Rattle.pk_pool.specs.Blocks.{Blocks, IsShared}
-use Rattle.pk_live.specs.Values.{Values}
-use Rattle.pk_live.specs.declared.open_block.OpenBlock.{OpenBlock}
+use Rattle.pk_live.{specs.Values.Values, specs.declared.open_block.OpenBlock.OpenBlock}
 use Rattle.pk_buf.specs.Table.{Table}
 use Rattle.pk_jrn.specs.Epochs.{JournalEpoch}
-use Rattle.pk_gc.specs.declared.course.Phase.{Phase}
+use Rattle.pk_gc.{specs.declared.course.Phase.Phase, specs.declared.reclaimed.Reclaimed.Reclaimed, specs.State.JobState, specs.Victims.Chooses, specs.Stepping.Hands, specs.Stepping.Steps}
 use Rattle.pk_gc.specs.declared.course.Phase.TheVariants.{Idle, Copies, Commits, GivesBack}
-use Rattle.pk_gc.specs.declared.reclaimed.Reclaimed.{Reclaimed}
 use Rattle.pk_gc.specs.declared.reclaimed.Reclaimed.TheVariants.{Worked, NeedsFreeze, Ended}
-use Rattle.pk_gc.specs.State.{JobState}
-use Rattle.pk_gc.specs.Victims.{Chooses}
-use Rattle.pk_gc.specs.Stepping.{Hands, Steps}
 use Rattle.pk_gc.specs.Breaking.{BreaksIn, JobBroken}
-use Rattle.pk_values.specs.State.{ValuesState, IsSmall}
-use Rattle.pk_values.specs.Placed.{IsOpenIn}
+use Rattle.pk_values.{specs.State.ValuesState, specs.State.IsSmall, specs.Placed.IsOpenIn}
 use Rattle.pk_log.specs.State.{LogState}
-use Rattle.pk_reclaim.specs.Hands.{hands_of}
-use Rattle.pk_reclaim.specs.Space.{ReclaimParts, reclaim_parts}
-use Rattle.pk_reclaim.specs.Steps.{ReclaimMoves, Does}
-use Rattle.pk_reclaim.proofs.Stepping.{Somewhere}
+use Rattle.pk_reclaim.{specs.Hands.hands_of, specs.Space.ReclaimParts, specs.Space.reclaim_parts, specs.Steps.ReclaimMoves, specs.Steps.Does, proofs.Stepping.Somewhere}
 use Rattle.pk_reclaim.proofs.Whole.{Below, Whole, whole}
 
 module _ (log : LogState) (values : ValuesState) (pool pool' : Blocks) (job job' : JobState) (live' : Values)

@@ -1,35 +1,20 @@
 -- A block that a reclaim holds: it is taken, written, and freed. The open block is closed before.
 use Rattle.std.proofs.Common.{◌≡◌, ◌≢◌, inl, inr, ℕ, ◌+◌, ◌/◌, ◌≤◌, Bool, true, false, List, [], ◌∷◌, Option, Some, None, refl, sym, ap, subst, ◌∙◌, arith, length-set}
-use Rattle.std.specs.Prelude.{slice_get, slice_set, MatchOption}
-use Rattle.std.proofs.Math.ListN.{set}
-use Rattle.std.proofs.lemmas.Bool.{cases_eq}
-use Rattle.std.proofs.lemmas.Option.{slice_get-get_or}
-use Rattle.pk_base.specs.Key.{Key}
-use Rattle.pk_base.specs.Shape.{Shape, IsShape}
-use Rattle.pk_base.specs.Page.{Flash, whole}
-use Rattle.pk_base.specs.Entry.{Place}
+use Rattle.std.{specs.Prelude.slice_get, specs.Prelude.slice_set, specs.Prelude.MatchOption, proofs.Math.ListN.set, proofs.lemmas.Bool.cases_eq, proofs.lemmas.Option.slice_get-get_or}
+use Rattle.pk_base.{specs.Key.Key, specs.Shape.Shape, specs.Shape.IsShape, specs.Page.Flash, specs.Page.whole, specs.Entry.Place}
 use Rattle.pk_plan.specs.declared.owner.Owner.TheVariants.{Values as for_values}
-use Rattle.pk_nand.specs.BoardState.{BoardState}
-use Rattle.pk_nand.proofs.Leaving.{page_at-slice_set}
-use Rattle.pk_pool.specs.declared.state.BlockState.TheVariants.{Free, Owned}
+use Rattle.pk_nand.{specs.BoardState.BoardState, proofs.Leaving.page_at-slice_set}
+use Rattle.pk_pool.{specs.declared.state.BlockState.TheVariants.Free, specs.declared.state.BlockState.TheVariants.Owned, specs.Taking.SameButBlock, specs.Taking.ReachesIn, specs.Laws.IsInBlock}
 use Rattle.pk_pool.specs.Blocks.{Blocks, PoolOnFlash, IsOwned, IsSpare, used_by, with_state}
-use Rattle.pk_pool.specs.Taking.{SameButBlock, ReachesIn}
 use Rattle.pk_pool.proofs.States.{get-set_other, get-set_same, set_is, free_is_not_ready, owned_is_not_ready}
 use Rattle.pk_pool.proofs.Sharing.{used_given, used_adopted}
-use Rattle.pk_pool.specs.Laws.{IsInBlock}
 use Rattle.pk_pool.proofs.Fitting.{PoolOnFlash-marked, PoolOnFlash-but_block, PoolOnFlash-programmed, owned_not_ready, in_block}
-use Rattle.pk_live.specs.Values.{Values}
-use Rattle.pk_gc.specs.Stepping.{Hands}
-use Rattle.pk_live.specs.OpenBlocks.{closed_with}
-use Rattle.pk_gc.specs.Victims.{Chooses}
-use Rattle.pk_live.specs.declared.open_block.OpenBlock.{OpenBlock}
-use Rattle.pk_values.specs.State.{ValuesState}
-use Rattle.pk_values.specs.Placed.{ValuesOnFlash, IsOpenIn, IsNotOpen, HoldsValues}
-use Rattle.pk_values.specs.Laws.{SameValues}
-use Rattle.pk_reclaim.specs.Values.{OutputTaken, DeadGivenBack, CopyProgrammed, VictimGivenBack}
+use Rattle.pk_live.{specs.Values.Values, specs.OpenBlocks.closed_with, specs.declared.open_block.OpenBlock.OpenBlock}
+use Rattle.pk_gc.{specs.Stepping.Hands, specs.Victims.Chooses}
+use Rattle.pk_values.{specs.State.ValuesState, specs.Placed.ValuesOnFlash, specs.Placed.IsOpenIn, specs.Placed.IsNotOpen, specs.Placed.HoldsValues, specs.Laws.SameValues}
 use Rattle.pk_values.proofs.Unchanged.{some_pages, open_same, flash_elsewhere}
 use Rattle.pk_values.proofs.Filling.{another, kept, was, taken, same_values, reached_in}
-use Rattle.pk_reclaim.proofs.Releasing.{released_as}
+use Rattle.pk_reclaim.{specs.Values.OutputTaken, specs.Values.DeadGivenBack, specs.Values.CopyProgrammed, specs.Values.VictimGivenBack, proofs.Releasing.released_as}
 
 abbrev state_of : Values → Option OpenBlock → ValuesState
 state_of live open_block = record { live = live; open_block = open_block }

@@ -1,37 +1,18 @@
 -- What is known of the values of a map that a flash holds.
 use Rattle.std.proofs.Common.{◌≡◌, ℕ, ◌≤◌, refl, sym, ap, subst, ◌∙◌, true, false, cond, T, List, [], ◌∷◌, length, sum, Some, None, Ok}
-use Rattle.std.specs.Prelude.{slice_index}
-use Rattle.std.specs.List.{AllByRecursion, AllZip}
-use Rattle.std.specs.Ordering.{eq_by_cmp}
-use Rattle.std.specs.FinMap.Entries.{find, is_sorted}
-use Rattle.pk_base.specs.Key.{Key, IsKey, key_cmp}
-use Rattle.pk_base.specs.Shape.{Shape, IsShape, limit}
-use Rattle.pk_base.specs.Page.{Page, Flash, IsFlash, page_at}
-use Rattle.pk_base.specs.Entry.{Entry, Place}
-use Rattle.pk_base.specs.EntryChecks.{IsEntry}
-use Rattle.pk_base.specs.Firsts.{firsts}
-use Rattle.pk_base.specs.Map.{Map}
+use Rattle.std.{specs.Prelude.slice_index, specs.List.AllByRecursion, specs.List.AllZip, specs.Ordering.eq_by_cmp, specs.FinMap.Entries.find, specs.FinMap.Entries.is_sorted}
+use Rattle.pk_base.{specs.Key.Key, specs.Key.IsKey, specs.Key.key_cmp, specs.Shape.Shape, specs.Shape.IsShape, specs.Shape.limit, specs.Entry.Entry, specs.Entry.Place, specs.EntryChecks.IsEntry}
+use Rattle.pk_base.{specs.Page.Page, specs.Page.Flash, specs.Page.IsFlash, specs.Page.page_at, specs.Firsts.firsts, specs.Map.Map, proofs.KeyLemmas.firsts_sorted}
 use Rattle.pk_rootfmt.specs.Root.{Root, named}
 use Rattle.pk_segfmt.specs.Value.{value_at}
 use Rattle.pk_pool.specs.Blocks.{Blocks}
-use Rattle.pk_model.specs.Found.{Found, found_under, entries_in_order}
-use Rattle.pk_model.specs.Values.{placed, all_pages}
-use Rattle.pk_model.proofs.Entries.{counting_all, journal_are, meta_are}
-use Rattle.pk_model.proofs.HeldMap.{nothing_fits}
-use Rattle.pk_model.proofs.Lookups.{same_key}
-use Rattle.pk_model.proofs.Merges.{placed_sorted}
-use Rattle.pk_model.proofs.ValueSets.{values_sound, fits_parts}
-use Rattle.pk_law_steps.specs.Under.{IsUnder, counting, places}
-use Rattle.pk_law_steps.proofs.Untouched.{values_under}
-use Rattle.pk_law_steps.proofs.Counting.{counts}
-use Rattle.pk_live.specs.Lives.{head_of}
-use Rattle.pk_live.proofs.Standing.{heads_read}
-use Rattle.pk_values.specs.State.{ValuesState}
-use Rattle.pk_values.specs.Placed.{ValuesOnFlash, AreApart as ApartInData}
-use Rattle.pk_values.proofs.Standing.{total_of}
-use Rattle.pk_law_moves.specs.Moves.{AreApart}
-use Rattle.pk_base.proofs.KeyLemmas.{firsts_sorted}
+use Rattle.pk_model.{specs.Found.Found, specs.Found.found_under, specs.Found.entries_in_order, specs.Values.placed, specs.Values.all_pages, proofs.HeldMap.nothing_fits, proofs.Lookups.same_key}
+use Rattle.pk_model.{proofs.Entries.counting_all, proofs.Entries.journal_are, proofs.Entries.meta_are, proofs.Merges.placed_sorted, proofs.ValueSets.values_sound, proofs.ValueSets.fits_parts}
 use Rattle.pk_model.specs.RootLimits.{root_limits}
+use Rattle.pk_law_steps.{specs.Under.IsUnder, specs.Under.counting, specs.Under.places, proofs.Untouched.values_under, proofs.Counting.counts}
+use Rattle.pk_live.{specs.Lives.head_of, proofs.Standing.heads_read}
+use Rattle.pk_values.{specs.State.ValuesState, specs.Placed.ValuesOnFlash, specs.Placed.AreApart as ApartInData, proofs.Standing.total_of}
+use Rattle.pk_law_moves.specs.Moves.{AreApart}
 
 -- ---- keys
 

@@ -1,23 +1,16 @@
 -- A block that is for values changes its state, and the journal and runs keep theirs.
 use Rattle.std.proofs.Common.{◌≡◌, inl, inr, ℕ, ◌*◌, ◌/◌, ◌<◌, refl, sym, ap, subst, ◌∙◌, arith, Bool, true, false, cond, Some}
-use Rattle.std.specs.Prelude.{slice_get}
-use Rattle.std.proofs.lemmas.Option.{same_Some}
-use Rattle.std.proofs.lemmas.Bool.{cases_eq}
-use Rattle.pk_base.specs.Shape.{Shape}
-use Rattle.pk_base.specs.Page.{Flash, page_at}
+use Rattle.std.{specs.Prelude.slice_get, proofs.lemmas.Option.same_Some, proofs.lemmas.Bool.cases_eq}
+use Rattle.pk_base.{specs.Shape.Shape, specs.Page.Flash, specs.Page.page_at}
 use Rattle.pk_plan.specs.declared.owner.Owner.{Owner}
 use Rattle.pk_plan.specs.declared.owner.Owner.TheVariants.{Journal, Meta, Values as for_values}
 use Rattle.pk_rootfmt.specs.Root.{Root}
-use Rattle.pk_pool.specs.declared.state.BlockState.{BlockState}
+use Rattle.pk_pool.{specs.declared.state.BlockState.BlockState, proofs.Leaving.freed_same, proofs.Leaving.freed_set, proofs.Leaving.none_leaves, proofs.Sharing.count-set, proofs.States.get-set_other}
 use Rattle.pk_pool.specs.declared.state.BlockState.TheVariants.{Free, Ready, Owned}
 use Rattle.pk_pool.specs.Blocks.{Blocks, IsSpare, NoneLeaves, freed_state, is_owned_by, used_by, with_state}
-use Rattle.pk_pool.proofs.Leaving.{freed_same, freed_set, none_leaves}
-use Rattle.pk_pool.proofs.Sharing.{count-set}
-use Rattle.pk_pool.proofs.States.{get-set_other}
 use Rattle.pk_model.specs.Laws.{AnyByRecursion}
 use Rattle.pk_values.specs.Placed.{HoldsValues}
-use Rattle.pk_reclaim.specs.Steps.{KeepsOthers}
-use Rattle.pk_reclaim.proofs.Quiet.{NamesOwned, IsAside}
+use Rattle.pk_reclaim.{specs.Steps.KeepsOthers, proofs.Quiet.NamesOwned, proofs.Quiet.IsAside}
 
 -- the blocks of the journal and of runs are the same ones, and if no block leaves, none does
 pub record SameOwners (pool pool' : Blocks) : Type 0 where

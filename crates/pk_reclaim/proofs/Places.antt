@@ -1,18 +1,12 @@
 -- The pages of a commit of the newest epoch are after the root blocks, in blocks of the journal.
 use Rattle.std.proofs.Common.{◌≡◌, inl, inr, ℕ, ◌+◌, ◌*◌, ◌/◌, ◌<◌, ◌≤◌, sym, subst, ◌∙◌, arith, Some}
-use Rattle.std.specs.Prelude.{slice_get}
-use Rattle.std.proofs.lemmas.Bool.{cases_eq}
-use Rattle.pk_base.specs.Shape.{Shape, epoch_pages, epoch_commits}
-use Rattle.pk_base.specs.Page.{Flash, page_at, page_in, commit_page}
-use Rattle.pk_base.specs.Map.{Map}
-use Rattle.pk_base.proofs.ShapeLemmas.{block_pages_positive}
-use Rattle.pk_base.proofs.CommitPages.{within, second}
+use Rattle.std.{specs.Prelude.slice_get, proofs.lemmas.Bool.cases_eq}
+use Rattle.pk_base.{specs.Shape.Shape, specs.Shape.epoch_pages, specs.Shape.epoch_commits, specs.Page.Flash, specs.Page.page_at, specs.Page.page_in, specs.Page.commit_page, specs.Map.Map}
+use Rattle.pk_base.{proofs.ShapeLemmas.block_pages_positive, proofs.CommitPages.within, proofs.CommitPages.second}
 use Rattle.pk_plan.specs.declared.owner.Owner.TheVariants.{Journal}
 use Rattle.pk_pool.specs.declared.state.BlockState.TheVariants.{Owned}
 use Rattle.pk_rootfmt.specs.Root.{Root}
-use Rattle.pk_model.specs.Found.{Found}
-use Rattle.pk_model.specs.Laws.{AnyByRecursion}
-use Rattle.pk_model.proofs.Commits.{Blocks as RootBlocks, valid_blocks, behind_roots, among_newest}
+use Rattle.pk_model.{specs.Found.Found, specs.Laws.AnyByRecursion, proofs.Commits.Blocks as RootBlocks, proofs.Commits.valid_blocks, proofs.Commits.behind_roots, proofs.Commits.among_newest}
 use Rattle.pk_model.proofs.SamePages.{any_front}
 use Rattle.pk_reclaim.specs.Space.{ReclaimParts, SpaceOnFlash}
 

@@ -1,35 +1,18 @@
 -- A block that only values may use, and of which no value is read: whatever happens to it does not change map and log.
 use Rattle.std.proofs.Common.{◌≡◌, inl, inr, ℕ, ◌*◌, ◌/◌, ◌<◌, ◌≤◌, refl, sym, ap, subst, ◌∙◌, arith, List, [], ◌++◌, Some, div-lt_iff_lt-mul}
-use Rattle.std.specs.Prelude.{slice_get}
-use Rattle.std.specs.List.{concat}
-use Rattle.pk_base.specs.Shape.{Shape}
-use Rattle.pk_base.specs.Page.{Flash, page_at}
-use Rattle.pk_base.specs.Map.{Map}
-use Rattle.pk_base.specs.Mark.{Mark, program, erase, after}
+use Rattle.std.{specs.Prelude.slice_get, specs.List.concat}
+use Rattle.pk_base.{specs.Shape.Shape, specs.Page.Flash, specs.Page.page_at, specs.Map.Map, specs.Mark.Mark, specs.Mark.program, specs.Mark.erase, specs.Mark.after}
 use Rattle.pk_base.proofs.ShapeLemmas.{block_pages_positive}
 use Rattle.pk_plan.specs.declared.owner.Owner.TheVariants.{Journal, Meta}
-use Rattle.pk_nand.specs.BoardState.{BoardState, shape_or_none}
-use Rattle.pk_nand.specs.Cut.{Interrupted, Touches}
-use Rattle.pk_nand.specs.Calls.{after_program, ProgramFailed}
-use Rattle.pk_nand.specs.Operations.{after_erase, EraseFailed}
-use Rattle.pk_nand.proofs.Touching.{untouched, untouched_after, partner_block}
+use Rattle.pk_nand.{specs.BoardState.BoardState, specs.BoardState.shape_or_none, specs.Cut.Interrupted, specs.Cut.Touches, specs.Calls.after_program, specs.Calls.ProgramFailed}
+use Rattle.pk_nand.{specs.Operations.after_erase, specs.Operations.EraseFailed, proofs.Touching.untouched, proofs.Touching.untouched_after, proofs.Touching.partner_block}
 use Rattle.pk_rootfmt.specs.Root.{Root, named}
-use Rattle.pk_pool.specs.declared.state.BlockState.TheVariants.{Owned}
-use Rattle.pk_pool.specs.Blocks.{Blocks}
-use Rattle.pk_model.specs.Found.{Found}
-use Rattle.pk_model.specs.Laws.{AnyByRecursion}
-use Rattle.pk_model.specs.Spaces.{limits_at}
-use Rattle.pk_model.specs.Growth.{Grows, Reaches, Goes}
+use Rattle.pk_pool.{specs.declared.state.BlockState.TheVariants.Owned, specs.Blocks.Blocks}
+use Rattle.pk_model.{specs.Found.Found, specs.Laws.AnyByRecursion, specs.Spaces.limits_at, specs.Growth.Grows, specs.Growth.Reaches, specs.Growth.Goes, proofs.Growing.top_limits}
 use Rattle.pk_model.specs.Crashes.{CrashFinds, background}
-use Rattle.pk_model.proofs.Growing.{top_limits}
 use Rattle.pk_model.proofs.Running.{Reaches-none, Reaches-erase, Goes-erase, Reaches-program, Goes-program}
-use Rattle.pk_law_steps.specs.Under.{IsUnder, IsValuePage, places}
-use Rattle.pk_law_steps.proofs.Places.{in_append}
-use Rattle.pk_law_steps.proofs.Untouched.{under_reads, erases}
-use Rattle.pk_log.specs.State.{LogState}
-use Rattle.pk_log.specs.Logs.{LogOnFlash}
-use Rattle.pk_log.specs.Laws.{SameNamed}
-use Rattle.pk_log.proofs.Standing.{logs_elsewhere}
+use Rattle.pk_law_steps.{specs.Under.IsUnder, specs.Under.IsValuePage, specs.Under.places, proofs.Places.in_append, proofs.Untouched.under_reads, proofs.Untouched.erases}
+use Rattle.pk_log.{specs.State.LogState, specs.Logs.LogOnFlash, specs.Laws.SameNamed, proofs.Standing.logs_elsewhere}
 
 -- the blocks of the journal and of runs that the root names are those of the pool
 pub record NamesOwned (pool : Blocks) (root : Root) : Type 0 where

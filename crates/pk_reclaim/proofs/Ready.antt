@@ -1,40 +1,23 @@
 -- A step can be made if the space of a drive matches a flash.
 use Rattle.std.proofs.Common.{◌≡◌, inl, inr, ℕ, ◌+◌, ◌-◌, ◌*◌, ◌<◌, refl, sym, ap, subst, ◌∙◌, arith, true, false, T, List, [], ◌∷◌, ◌++◌, length, reverse, Option, Some, None}
-use Rattle.std.specs.Prelude.{MatchOption}
-use Rattle.std.specs.FinMap.Entries.{is_sorted}
-use Rattle.std.proofs.lemmas.List.FromFn.{length-map-range_with_len}
-use Rattle.pk_base.specs.Key.{Key, key_cmp}
-use Rattle.pk_base.specs.Shape.{Shape, page_count, data_blocks}
-use Rattle.pk_base.specs.Page.{Flash, IsFlash}
-use Rattle.pk_base.specs.Entry.{Entry, Place}
-use Rattle.pk_base.specs.Map.{Map}
+use Rattle.std.{specs.Prelude.MatchOption, specs.FinMap.Entries.is_sorted, proofs.lemmas.List.FromFn.length-map-range_with_len}
+use Rattle.pk_base.{specs.Key.Key, specs.Key.key_cmp, specs.Shape.Shape, specs.Shape.page_count, specs.Shape.data_blocks, specs.Page.Flash, specs.Page.IsFlash, specs.Entry.Entry, specs.Entry.Place}
+use Rattle.pk_base.{specs.Map.Map, proofs.KeyLemmas.firsts_sorted}
 use Rattle.pk_plan.specs.declared.owner.Owner.TheVariants.{Values as for_values}
 use Rattle.pk_buf.specs.Table.{Table}
 use Rattle.pk_pool.specs.Blocks.{Blocks, used_by}
 use Rattle.pk_rootfmt.specs.Root.{Root}
 use Rattle.pk_model.specs.Found.{Found}
 use Rattle.pk_law_steps.specs.Under.{places}
-use Rattle.pk_live.specs.Lives.{head_of}
-use Rattle.pk_gc.specs.declared.course.Course.{Course}
-use Rattle.pk_gc.specs.declared.course.Phase.{Phase}
+use Rattle.pk_live.{specs.Lives.head_of, specs.declared.open_block.OpenBlock.OpenBlock}
+use Rattle.pk_gc.{specs.declared.course.Course.Course, specs.declared.course.Phase.Phase, specs.declared.moves.Move.Move, specs.State.JobState, specs.State.source, specs.Copied.IsCopied}
 use Rattle.pk_gc.specs.declared.course.Phase.TheVariants.{Idle, Copies, Commits, GivesBack}
-use Rattle.pk_gc.specs.declared.moves.Move.{Move}
-use Rattle.pk_live.specs.declared.open_block.OpenBlock.{OpenBlock}
-use Rattle.pk_gc.specs.State.{JobState, source}
-use Rattle.pk_gc.specs.Victims.{IsFull, HoldsValues, AreDead}
-use Rattle.pk_gc.specs.Copied.{IsCopied}
-use Rattle.pk_gc.specs.Going.{AreHeld}
-use Rattle.pk_gc.specs.Ending.{CanGive}
+use Rattle.pk_gc.{specs.Victims.IsFull, specs.Victims.HoldsValues, specs.Victims.AreDead, specs.Going.AreHeld, specs.Ending.CanGive, proofs.Going.next_is_value, proofs.Ending.gives_up}
 use Rattle.pk_gc.specs.Stepping.{Hands, CanStep, CanGoOn}
-use Rattle.pk_gc.proofs.Going.{next_is_value}
-use Rattle.pk_gc.proofs.Ending.{gives_up}
-use Rattle.pk_values.specs.State.{ValuesState}
-use Rattle.pk_values.specs.Placed.{IsOpenIn}
-use Rattle.pk_reclaim.specs.Hands.{hands_of}
-use Rattle.pk_log.specs.State.{LogState}
-use Rattle.pk_reclaim.specs.Space.{ReclaimParts, SpaceOnFlash, MayReclaim, IsTurn, reclaim_parts}
+use Rattle.pk_values.{specs.State.ValuesState, specs.Placed.IsOpenIn}
+use Rattle.pk_reclaim.{specs.Hands.hands_of, specs.Space.ReclaimParts, specs.Space.SpaceOnFlash, specs.Space.MayReclaim, specs.Space.IsTurn, specs.Space.reclaim_parts}
 use Rattle.pk_reclaim.proofs.Known.{keys_known, rising_known, values_known, live_few, heads_known, apart_known}
-use Rattle.pk_base.proofs.KeyLemmas.{firsts_sorted}
+use Rattle.pk_log.specs.State.{LogState}
 
 -- ---- the open block
 

@@ -1,29 +1,14 @@
 -- A closed block without live pages is freed.
 use Rattle.std.proofs.Common.{◌≡◌, ◌≢◌, ℕ, ◌/◌, ◌<◌, true, false, not, ◌==◌, Bool, List, Option, Some, None, sym, ap, subst, ◌∙◌, arith, length-set}
-use Rattle.std.specs.Prelude.{slice_get, MatchOption}
-use Rattle.std.proofs.Math.ListN.{set}
-use Rattle.std.proofs.lemmas.Bool.{eq-eqb}
-use Rattle.std.proofs.lemmas.Option.{slice_get_within}
-use Rattle.pk_base.specs.Key.{Key}
-use Rattle.pk_base.specs.Shape.{Shape}
-use Rattle.pk_base.specs.Page.{Flash}
-use Rattle.pk_base.specs.Entry.{Place}
+use Rattle.std.{specs.Prelude.slice_get, specs.Prelude.MatchOption, proofs.Math.ListN.set, proofs.lemmas.Bool.eq-eqb, proofs.lemmas.Option.slice_get_within}
+use Rattle.pk_base.{specs.Key.Key, specs.Shape.Shape, specs.Page.Flash, specs.Entry.Place}
 use Rattle.pk_plan.specs.declared.owner.Owner.TheVariants.{Values as for_values}
-use Rattle.pk_pool.specs.declared.state.BlockState.TheVariants.{Free, Owned}
-use Rattle.pk_pool.specs.Blocks.{Blocks, with_state}
-use Rattle.pk_pool.proofs.States.{get-set_other, get-set_same, free_is_not_ready}
-use Rattle.pk_pool.proofs.Sharing.{used_given}
-use Rattle.pk_pool.proofs.Fitting.{PoolOnFlash-marked}
-use Rattle.pk_live.specs.Values.{IsClosed, count_of, block_sum}
+use Rattle.pk_pool.{specs.declared.state.BlockState.TheVariants.Free, specs.declared.state.BlockState.TheVariants.Owned, specs.Blocks.Blocks, specs.Blocks.with_state, proofs.Sharing.used_given}
+use Rattle.pk_pool.{proofs.States.get-set_other, proofs.States.get-set_same, proofs.States.free_is_not_ready, proofs.Fitting.PoolOnFlash-marked}
+use Rattle.pk_live.{specs.Values.IsClosed, specs.Values.count_of, specs.Values.block_sum, specs.Lives.is_used, proofs.Standing.block_is, specs.declared.open_block.OpenBlock.OpenBlock}
 use Rattle.pk_model.specs.Values.{all_pages}
-use Rattle.pk_law_steps.specs.Under.{IsValuePage}
-use Rattle.pk_law_steps.proofs.Places.{value_in}
-use Rattle.pk_live.specs.Lives.{is_used}
-use Rattle.pk_live.proofs.Standing.{block_is}
-use Rattle.pk_live.specs.declared.open_block.OpenBlock.{OpenBlock}
-use Rattle.pk_values.specs.State.{ValuesState}
-use Rattle.pk_values.specs.Placed.{ValuesOnFlash, IsOpenIn, IsNotOpen, IsOutput, HoldsValues}
-use Rattle.pk_values.proofs.Opening.{any_block}
+use Rattle.pk_law_steps.{specs.Under.IsValuePage, proofs.Places.value_in}
+use Rattle.pk_values.{specs.State.ValuesState, specs.Placed.ValuesOnFlash, specs.Placed.IsOpenIn, specs.Placed.IsNotOpen, specs.Placed.IsOutput, specs.Placed.HoldsValues, proofs.Opening.any_block}
 
 -- the values with these blocks closed
 abbrev with_closed : ValuesState → List Bool → ValuesState

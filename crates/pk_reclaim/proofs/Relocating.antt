@@ -1,44 +1,20 @@
 -- The moves of a reclaim are committed: the values are at their new places, and the output is the open block.
 use Rattle.std.proofs.Common.{◌≡◌, ◌≢◌, ◌⊎◌, inl, inr, ℕ, ◌+◌, ◌*◌, ◌/◌, ◌<◌, ◌≤◌, Bool, true, false, cond, T, List, [], ◌∷◌, length, Option, Some, None, refl, sym, ap, subst, ◌∙◌, arith, length-set}
-use Rattle.std.specs.Prelude.{slice_get, slice_index, MatchOption}
-use Rattle.std.specs.List.{AllByRecursion}
-use Rattle.std.specs.Ordering.{eq_by_cmp}
+use Rattle.std.{specs.Prelude.slice_get, specs.Prelude.slice_index, specs.Prelude.MatchOption, specs.List.AllByRecursion, specs.Ordering.eq_by_cmp, proofs.Math.ListN.set}
 use Rattle.std.specs.FinMap.Entries.{put, find, is_sorted, find-put, is_sorted-put}
-use Rattle.std.proofs.Math.ListN.{set}
-use Rattle.std.proofs.lemmas.Bool.{cases_eq, ltb-true}
-use Rattle.std.proofs.lemmas.Option.{same_Some, slice_get-get_or}
-use Rattle.pk_base.specs.Key.{Key, key_cmp}
-use Rattle.pk_base.specs.Shape.{Shape, IsShape, charge}
-use Rattle.pk_base.specs.Page.{Flash, page_at}
-use Rattle.pk_base.specs.Entry.{Place}
-use Rattle.pk_base.specs.EntryChecks.{IsPlace}
-use Rattle.pk_pool.specs.Blocks.{Blocks, PoolOnFlash}
-use Rattle.pk_pool.proofs.States.{get-set_other, get-set_same, set_is}
-use Rattle.pk_pool.proofs.Fitting.{block_of}
-use Rattle.pk_model.proofs.MapLemmas.{key_total}
-use Rattle.pk_model.proofs.Lookups.{same_key}
+use Rattle.std.{proofs.lemmas.Bool.cases_eq, proofs.lemmas.Bool.ltb-true, proofs.lemmas.Option.same_Some, proofs.lemmas.Option.slice_get-get_or}
+use Rattle.pk_base.{specs.Key.Key, specs.Key.key_cmp, specs.Shape.Shape, specs.Shape.IsShape, specs.Shape.charge, specs.Page.Flash, specs.Page.page_at, specs.Entry.Place, specs.EntryChecks.IsPlace}
+use Rattle.pk_pool.{specs.Blocks.Blocks, specs.Blocks.PoolOnFlash, proofs.States.get-set_other, proofs.States.get-set_same, proofs.States.set_is, proofs.Fitting.block_of}
+use Rattle.pk_model.{proofs.MapLemmas.key_total, proofs.Lookups.same_key}
 use Rattle.pk_law_steps.specs.Under.{IsValuePage}
-use Rattle.pk_live.specs.Values.{Values, IsClosed}
-use Rattle.pk_live.specs.Lives.{head_of}
-use Rattle.pk_law_moves.specs.Moves.{moved, AreApart as MovesApart}
-use Rattle.pk_law_moves.specs.Victims.{AreMoved}
-use Rattle.pk_law_moves.proofs.Moved.{page_moved}
-use Rattle.pk_law_moves.proofs.Emptying.{none_left}
-use Rattle.pk_gc.specs.declared.course.Course.{Course}
-use Rattle.pk_gc.specs.declared.moves.Move.{Move}
+use Rattle.pk_live.{specs.Values.Values, specs.Values.IsClosed, specs.Lives.head_of, specs.declared.open_block.OpenBlock.OpenBlock, specs.OpenBlocks.closed_with}
+use Rattle.pk_law_moves.{specs.Moves.moved, specs.Moves.AreApart as MovesApart, specs.Victims.AreMoved, proofs.Moved.page_moved, proofs.Emptying.none_left}
+use Rattle.pk_gc.{specs.declared.course.Course.Course, specs.declared.moves.Move.Move, specs.Running.IsMove, specs.Running.IsRunning, specs.Running.AreInOrder, specs.Stepping.Hands}
 use Rattle.pk_gc.specs.State.{JobState, new_place, placed_at, is_left, left_of, heads_behind, heads_all, target}
-use Rattle.pk_gc.specs.Running.{IsMove, IsRunning, AreInOrder}
-use Rattle.pk_gc.specs.Stepping.{Hands}
-use Rattle.pk_gc.specs.Ending.{CanGive}
-use Rattle.pk_gc.proofs.Finishing.{begins, page_left, empties}
+use Rattle.pk_gc.{specs.Ending.CanGive, proofs.Finishing.begins, proofs.Finishing.page_left, proofs.Finishing.empties}
 use Rattle.pk_gc.proofs.Ending.{InBlocks, left_same, lefts_same, in_blocks}
-use Rattle.pk_live.specs.declared.open_block.OpenBlock.{OpenBlock}
-use Rattle.pk_live.specs.OpenBlocks.{closed_with}
-use Rattle.pk_values.specs.State.{ValuesState}
-use Rattle.pk_values.specs.Placed.{ValuesOnFlash, IsOpenIn, IsNotOpen, IsOutput, HoldsValues}
-use Rattle.pk_values.specs.Laws.{SameValues}
-use Rattle.pk_values.proofs.Lists.{page_put}
-use Rattle.pk_values.proofs.Heads.{AreLive, live_moved}
+use Rattle.pk_values.{specs.State.ValuesState, specs.Placed.ValuesOnFlash, specs.Placed.IsOpenIn, specs.Placed.IsNotOpen, specs.Placed.IsOutput, specs.Placed.HoldsValues, specs.Laws.SameValues}
+use Rattle.pk_values.{proofs.Lists.page_put, proofs.Heads.AreLive, proofs.Heads.live_moved}
 
 -- ---- the heads
 

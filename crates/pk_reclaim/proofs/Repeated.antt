@@ -1,50 +1,24 @@
 -- The second program of the commit of a reclaim's moves was made, or it failed.
 use Rattle.std.proofs.Common.{◌≡◌, ℕ, ◌+◌, ◌-◌, ◌*◌, ◌/◌, ◌<◌, ◌≤◌, refl, sym, ap, subst, ◌∙◌, arith, false, List, [], ◌∷◌, append-nil, Some, Result, Ok, Err}
 use Rattle.std.specs.Prelude.{slice_get, slice_set, IfOk, IfErr}
-use Rattle.pk_base.specs.Shape.{Shape, epoch_commits}
-use Rattle.pk_base.specs.Page.{Flash, page_at, commit_page, whole as whole_page}
-use Rattle.pk_base.specs.Entry.{Entry}
-use Rattle.pk_base.specs.Map.{Map}
+use Rattle.pk_base.{specs.Shape.Shape, specs.Shape.epoch_commits, specs.Page.Flash, specs.Page.page_at, specs.Page.commit_page, specs.Page.whole as whole_page, specs.Entry.Entry, specs.Map.Map}
 use Rattle.pk_plan.specs.declared.owner.Owner.TheVariants.{Journal, Meta, Values as for_values}
-use Rattle.pk_nand.specs.BoardState.{BoardState}
-use Rattle.pk_nand.specs.Calls.{IsReady}
-use Rattle.pk_nand.specs.declared.types.Fault.{Fault}
-use Rattle.pk_nand.specs.declared.types.Fault.TheVariants.{Reading, Stopped}
+use Rattle.pk_nand.{specs.BoardState.BoardState, specs.Calls.IsReady, specs.declared.types.Fault.Fault, specs.declared.types.Fault.TheVariants.Reading, specs.declared.types.Fault.TheVariants.Stopped}
 use Rattle.pk_nand.proofs.Leaving.{page_at-slice_set}
-use Rattle.pk_jrn.specs.Epochs.{JournalEpoch, EpochOnFlash, next_page, before_half}
-use Rattle.pk_jrn.specs.Appends.{last_bytes, EndsCommit, FailsToEnd}
+use Rattle.pk_jrn.{specs.Epochs.JournalEpoch, specs.Epochs.EpochOnFlash, specs.Epochs.next_page, specs.Epochs.before_half, specs.Appends.last_bytes, specs.Appends.EndsCommit, specs.Appends.FailsToEnd}
 use Rattle.pk_rootfmt.specs.Root.{Root}
 use Rattle.pk_root.proofs.Places.{InstallerOnFlash-by_same}
-use Rattle.pk_pool.specs.declared.state.BlockState.TheVariants.{Owned}
-use Rattle.pk_pool.specs.Blocks.{Blocks, PoolOnFlash}
-use Rattle.pk_model.specs.Found.{Found}
-use Rattle.pk_model.specs.Laws.{AnyByRecursion}
-use Rattle.pk_model.specs.Growth.{Goes}
-use Rattle.pk_model.specs.Crashes.{CrashFinds, background}
+use Rattle.pk_pool.{specs.declared.state.BlockState.TheVariants.Owned, specs.Blocks.Blocks, specs.Blocks.PoolOnFlash}
+use Rattle.pk_model.{specs.Found.Found, specs.Laws.AnyByRecursion, specs.Growth.Goes, specs.Crashes.CrashFinds, specs.Crashes.background}
 use Rattle.pk_law_steps.specs.Under.{IsUnder, places}
-use Rattle.pk_gc.specs.declared.course.Phase.{Phase}
+use Rattle.pk_gc.{specs.declared.course.Phase.Phase, specs.declared.moves.Move.Move, specs.declared.reclaimed.Reclaimed.Reclaimed, specs.State.JobState, specs.Cuts.MovesStand, specs.Breaking.BreaksIn}
 use Rattle.pk_gc.specs.declared.course.Phase.TheVariants.{Idle, Copies, Commits, GivesBack}
-use Rattle.pk_gc.specs.declared.moves.Move.{Move}
-use Rattle.pk_gc.specs.declared.reclaimed.Reclaimed.{Reclaimed}
-use Rattle.pk_gc.specs.State.{JobState}
-use Rattle.pk_gc.specs.Cuts.{MovesStand}
-use Rattle.pk_gc.specs.Breaking.{BreaksIn}
-use Rattle.pk_gc.specs.Stepping.{Hands, EndsMoves, StepsIn}
-use Rattle.pk_gc.proofs.Cutting.{commit_ends, commit_end_fails}
-use Rattle.pk_values.specs.State.{ValuesState}
-use Rattle.pk_values.specs.Placed.{ValuesOnFlash}
-use Rattle.pk_values.specs.Laws.{SameValues}
-use Rattle.pk_values.proofs.Unchanged.{flash_elsewhere}
-use Rattle.pk_log.specs.State.{LogState}
-use Rattle.pk_log.specs.Logs.{LogOnFlash}
-use Rattle.pk_reclaim.specs.Hands.{hands_of}
-use Rattle.pk_reclaim.specs.Space.{ReclaimParts, SpaceOnFlash, HalfMoves, HasRoom, reclaim_parts}
-use Rattle.pk_reclaim.specs.Steps.{SpaceMoves, MakesWhole, RepeatsIn}
-use Rattle.pk_reclaim.proofs.Holding.{programmed_pool}
-use Rattle.pk_reclaim.proofs.Owners.{owners_same, others_kept}
-use Rattle.pk_reclaim.proofs.Places.{high, in_newest, for_journal}
-use Rattle.pk_reclaim.proofs.Given.{SameParts, same_parts}
-use Rattle.pk_reclaim.proofs.Ready.{job_in, space_in}
+use Rattle.pk_gc.{specs.Stepping.Hands, specs.Stepping.EndsMoves, specs.Stepping.StepsIn, proofs.Cutting.commit_ends, proofs.Cutting.commit_end_fails}
+use Rattle.pk_values.{specs.State.ValuesState, specs.Placed.ValuesOnFlash, specs.Laws.SameValues, proofs.Unchanged.flash_elsewhere}
+use Rattle.pk_log.{specs.State.LogState, specs.Logs.LogOnFlash}
+use Rattle.pk_reclaim.{specs.Hands.hands_of, specs.Space.ReclaimParts, specs.Space.SpaceOnFlash, specs.Space.HalfMoves, specs.Space.HasRoom, specs.Space.reclaim_parts, proofs.Holding.programmed_pool}
+use Rattle.pk_reclaim.{specs.Steps.SpaceMoves, specs.Steps.MakesWhole, specs.Steps.RepeatsIn, proofs.Owners.owners_same, proofs.Owners.others_kept, proofs.Given.SameParts, proofs.Given.same_parts}
+use Rattle.pk_reclaim.{proofs.Places.high, proofs.Places.in_newest, proofs.Places.for_journal, proofs.Ready.job_in, proofs.Ready.space_in}
 
 module _ (log : LogState) (values : ValuesState) (pool : Blocks) (victim : ℕ) (moves : List Move) (entries : List Entry) (page : List ℕ) (old : BoardState) (top : ℕ × Root) (found : Found) (m : Map)
     (ready : IsReady old log.shape) (stands : SpaceOnFlash (space_in log values pool moves entries page (Commits victim)) old.pages top found m) where

@@ -1,15 +1,13 @@
 -- Room for values, and for the moves of a reclaim.
 use Rattle.std.proofs.Common.{◌≡◌, inl, inr, ℕ, zero, suc, ◌+◌, ◌-◌, ◌<◌, ◌≤◌, refl, sym, ap, subst, ◌∙◌, arith, Bool, true, false, cond, List, [], ◌∷◌, length}
-use Rattle.std.specs.Prelude.{nat_le, nat_lt, not, ◌&&◌, ◌||◌, ◌==◌}
+use Rattle.std.{specs.Prelude.nat_le, specs.Prelude.nat_lt, specs.Prelude.not, specs.Prelude.◌&&◌, specs.Prelude.◌||◌, specs.Prelude.◌==◌, proofs.lemmas.List.Sums.count_by-le-length}
 use Rattle.std.proofs.lemmas.Bool.{lt-leb, lt-ltb, le-ltb, ne_eqb, cases_lt}
-use Rattle.std.proofs.lemmas.List.Sums.{count_by-le-length}
 use Rattle.pk_base.specs.Shape.{Shape, buffer, dense, epoch_commits}
 use Rattle.pk_law_work.specs.Backlog.{is_tight}
 use Rattle.pk_buf.specs.Table.{Table}
 use Rattle.pk_jrn.specs.Epochs.{JournalEpoch, left_of}
 use Rattle.pk_law_moves.specs.Moves.{entries_of}
-use Rattle.pk_gc.specs.declared.moves.Move.{Move}
-use Rattle.pk_gc.specs.State.{is_left, is_new, placed_at, left_of as moves_left}
+use Rattle.pk_gc.{specs.declared.moves.Move.Move, specs.State.is_left, specs.State.is_new, specs.State.placed_at, specs.State.left_of as moves_left}
 use Rattle.pk_gc.specs.Committing.{HasRoom as MovesHaveRoom, entries_left, new_keys}
 use Rattle.pk_reclaim.specs.Laws.{FreezeMakesRoom}
 

@@ -1,39 +1,21 @@
 -- What a step leaves of the log and of the board, whatever it did.
 use Rattle.std.proofs.Common.{◌≡◌, inl, inr, ℕ, ◌+◌, refl, sym, ap, subst, ◌∙◌, true, false, Bool, List}
-use Rattle.pk_base.specs.Entry.{Entry}
-use Rattle.pk_base.specs.Page.{page_at}
+use Rattle.pk_base.{specs.Entry.Entry, specs.Page.page_at}
 use Rattle.pk_buf.specs.Table.{Table}
-use Rattle.pk_nand.specs.declared.types.Fault.{Fault}
-use Rattle.pk_nand.specs.declared.types.Fault.TheVariants.{Reading, Stopped}
-use Rattle.pk_nand.specs.BoardState.{BoardState}
-use Rattle.pk_nand.specs.Calls.{IsReady}
-use Rattle.pk_nand.specs.Effects.{Stops}
-use Rattle.pk_nand.proofs.Effects.{stops_erase, stops_program}
+use Rattle.pk_nand.{specs.declared.types.Fault.Fault, specs.declared.types.Fault.TheVariants.Reading, specs.declared.types.Fault.TheVariants.Stopped, specs.BoardState.BoardState, specs.Calls.IsReady}
+use Rattle.pk_nand.{specs.Effects.Stops, proofs.Effects.stops_erase, proofs.Effects.stops_program}
 use Rattle.pk_pool.specs.Blocks.{Blocks, IsShared}
-use Rattle.pk_jrn.specs.Epochs.{JournalEpoch, next_page, before_half}
-use Rattle.pk_jrn.specs.Appends.{next_bytes, last_bytes}
-use Rattle.pk_gc.specs.declared.course.Course.{Course}
-use Rattle.pk_gc.specs.declared.course.Phase.{Phase}
+use Rattle.pk_jrn.{specs.Epochs.JournalEpoch, specs.Epochs.next_page, specs.Epochs.before_half, specs.Appends.next_bytes, specs.Appends.last_bytes}
+use Rattle.pk_gc.{specs.declared.course.Course.Course, specs.declared.course.Phase.Phase, specs.declared.moves.Move.Move, specs.declared.reclaimed.Reclaimed.Reclaimed, specs.Committing.entries_left}
 use Rattle.pk_gc.specs.declared.course.Phase.TheVariants.{Idle, Copies, Commits, GivesBack}
-use Rattle.pk_gc.specs.declared.moves.Move.{Move}
-use Rattle.pk_gc.specs.declared.reclaimed.Reclaimed.{Reclaimed}
 use Rattle.pk_gc.specs.declared.reclaimed.Reclaimed.TheVariants.{Worked, NeedsFreeze, Ended}
-use Rattle.pk_gc.specs.State.{JobState, target}
-use Rattle.pk_gc.specs.Committing.{entries_left}
-use Rattle.pk_gc.specs.Stepping.{Hands, StepsIn, ReclaimGoesOn}
-use Rattle.pk_gc.specs.Breaking.{BreaksIn, FailsToRead}
+use Rattle.pk_gc.{specs.State.JobState, specs.State.target, specs.Stepping.Hands, specs.Stepping.StepsIn, specs.Stepping.ReclaimGoesOn, specs.Breaking.BreaksIn, specs.Breaking.FailsToRead}
 use Rattle.pk_values.specs.State.{ValuesState}
-use Rattle.pk_reclaim.specs.Hands.{hands_of}
-use Rattle.pk_log.specs.State.{LogState}
-use Rattle.pk_reclaim.specs.Space.{ReclaimParts, reclaim_parts}
-use Rattle.pk_reclaim.specs.Steps.{KeepsLog, Unread, ReclaimBroken}
-use Rattle.pk_reclaim.proofs.Ready.{job_in, space_in}
+use Rattle.pk_reclaim.{specs.Hands.hands_of, specs.Space.ReclaimParts, specs.Space.reclaim_parts, specs.Steps.KeepsLog, specs.Steps.Unread, specs.Steps.ReclaimBroken, proofs.Given.same_parts}
+use Rattle.pk_reclaim.{proofs.Ready.job_in, proofs.Ready.space_in, proofs.Committed.commit_breaks, proofs.Repeated.second_high, proofs.Repeated.repeat_breaks, proofs.Stepping.Somewhere}
 use Rattle.pk_reclaim.proofs.Boards.{Sound, Failed, SameRoots, sound_none, sound_read, sound_program, sound_erase, failed_read, failed_program, failed_erase, only_read, roots_low, program_low}
-use Rattle.pk_reclaim.proofs.Given.{same_parts}
 use Rattle.pk_reclaim.proofs.Broken.{erase_breaks, erase_roots, copy_breaks, copy_roots, commit_roots, read_again}
-use Rattle.pk_reclaim.proofs.Committed.{commit_breaks}
-use Rattle.pk_reclaim.proofs.Repeated.{second_high, repeat_breaks}
-use Rattle.pk_reclaim.proofs.Stepping.{Somewhere}
+use Rattle.pk_log.specs.State.{LogState}
 
 keeps_entries : (t t' : Table) (es : List Entry) → t' ≡ record t { entries = es } → t' ≡ record t { entries = t'.entries }
 keeps_entries t t' es is = subst (λ (x : Table). x ≡ record t { entries = x.entries }) (sym is) refl

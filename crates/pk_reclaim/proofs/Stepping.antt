@@ -1,38 +1,26 @@
 -- What a step did, for each of its answers, by how far the reclaim had come.
 use Rattle.std.proofs.Common.{◌≡◌, ◌≢◌, ◌⊎◌, inl, inr, ℕ, ◌≤◌, refl, sym, ap, subst, ◌∙◌, arith, List, length}
 use Rattle.std.specs.Prelude.{unwrap_or}
-use Rattle.pk_base.specs.Shape.{Shape, dense}
-use Rattle.pk_base.specs.Map.{Map}
-use Rattle.pk_base.specs.Entry.{Entry}
+use Rattle.pk_base.{specs.Shape.Shape, specs.Shape.dense, specs.Map.Map, specs.Entry.Entry}
 use Rattle.pk_law_work.specs.Rest.{Lowers}
 use Rattle.pk_buf.specs.Table.{Table}
-use Rattle.pk_nand.specs.BoardState.{BoardState}
-use Rattle.pk_nand.specs.Calls.{IsReady}
+use Rattle.pk_nand.{specs.BoardState.BoardState, specs.Calls.IsReady}
 use Rattle.pk_rootfmt.specs.Root.{Root}
-use Rattle.pk_pool.specs.Blocks.{Blocks}
-use Rattle.pk_pool.specs.Unready.{unready}
+use Rattle.pk_pool.{specs.Blocks.Blocks, specs.Unready.unready}
 use Rattle.pk_model.specs.Found.{Found}
-use Rattle.pk_gc.specs.declared.course.Course.{Course}
-use Rattle.pk_gc.specs.declared.course.Phase.{Phase}
+use Rattle.pk_gc.{specs.declared.course.Course.Course, specs.declared.course.Phase.Phase, specs.declared.moves.Move.Move, specs.declared.reclaimed.Reclaimed.Reclaimed, proofs.Lowering.step_lowers}
 use Rattle.pk_gc.specs.declared.course.Phase.TheVariants.{Idle, Copies, Commits, GivesBack}
-use Rattle.pk_gc.specs.declared.moves.Move.{Move}
-use Rattle.pk_gc.specs.declared.reclaimed.Reclaimed.{Reclaimed}
 use Rattle.pk_gc.specs.declared.reclaimed.Reclaimed.TheVariants.{Worked, NeedsFreeze, Ended}
 use Rattle.pk_gc.specs.State.{JobState, left_in}
 use Rattle.pk_gc.specs.Stepping.{Hands, CanStep, StepsIn, Tries, ReclaimGoesOn, ProgramsHeld, ReadsNext, BeginsValue, runs_in}
-use Rattle.pk_gc.proofs.Lowering.{step_lowers}
 use Rattle.pk_values.specs.State.{ValuesState}
-use Rattle.pk_reclaim.specs.Hands.{hands_of}
-use Rattle.pk_log.specs.State.{LogState}
-use Rattle.pk_reclaim.specs.Space.{ReclaimParts, MayReclaim, Falls, left_before, reclaim_parts}
+use Rattle.pk_reclaim.{specs.Hands.hands_of, specs.Space.ReclaimParts, specs.Space.MayReclaim, specs.Space.Falls, specs.Space.left_before, specs.Space.reclaim_parts, proofs.Room.tight_known}
 use Rattle.pk_reclaim.specs.Steps.{SpaceMoves, Works, Does, LogIn, RoomIn, RoomBehind}
-use Rattle.pk_reclaim.proofs.Ready.{job_in, space_in, can_step_in}
-use Rattle.pk_reclaim.proofs.Begun.{starts_moves, dead_moves, dead_given, dead_room}
-use Rattle.pk_reclaim.proofs.Copies.{read_moves, begin_moves, begin_phase, program_moves}
-use Rattle.pk_reclaim.proofs.Committed.{committed_moves, committed_room}
+use Rattle.pk_reclaim.{proofs.Ready.job_in, proofs.Ready.space_in, proofs.Ready.can_step_in, proofs.Begun.starts_moves, proofs.Begun.dead_moves, proofs.Begun.dead_given, proofs.Begun.dead_room}
+use Rattle.pk_reclaim.{proofs.Copies.read_moves, proofs.Copies.begin_moves, proofs.Copies.begin_phase, proofs.Copies.program_moves, proofs.Committed.committed_moves, proofs.Committed.committed_room}
 use Rattle.pk_reclaim.proofs.Repeated.{repeat_moves, repeat_room, repeat_whole}
 use Rattle.pk_reclaim.proofs.Given.{same_parts, end_moves, end_given, end_room, given_moves, given_one, given_values}
-use Rattle.pk_reclaim.proofs.Room.{tight_known}
+use Rattle.pk_log.specs.State.{LogState}
 
 -- a space that may reclaim, for some root and map
 pub record Somewhere (x : ReclaimParts) (board : BoardState) : Type 0 where

@@ -1,19 +1,13 @@
 -- A board on which no page differs: map, log and blocks are unchanged.
 use Rattle.std.proofs.Common.{◌≡◌, ℕ, refl, sym, ap, [], append-nil}
-use Rattle.pk_base.specs.Page.{Flash, page_at}
-use Rattle.pk_base.specs.Map.{Map}
-use Rattle.pk_nand.specs.BoardState.{BoardState}
-use Rattle.pk_nand.proofs.Reaching.{Reached-start}
+use Rattle.pk_base.{specs.Page.Flash, specs.Page.page_at, specs.Map.Map}
+use Rattle.pk_nand.{specs.BoardState.BoardState, proofs.Reaching.Reached-start}
 use Rattle.pk_rootfmt.specs.Root.{Root}
-use Rattle.pk_model.specs.Found.{Found}
-use Rattle.pk_model.specs.Crashes.{CrashFinds, background}
+use Rattle.pk_model.{specs.Found.Found, specs.Crashes.CrashFinds, specs.Crashes.background}
 use Rattle.pk_law_steps.proofs.Untouched.{under_reads}
-use Rattle.pk_reclaim.specs.Space.{ReclaimParts, SpaceOnFlash}
+use Rattle.pk_reclaim.{specs.Space.ReclaimParts, specs.Space.SpaceOnFlash, specs.Steps.SpaceMoves, specs.Steps.StillIn, proofs.Owners.SameOwners, proofs.Owners.others_kept, proofs.Quiet.NamesOwned}
 use Rattle.pk_gc.specs.declared.course.Phase.{Phase}
 use Rattle.pk_gc.specs.declared.course.Phase.TheVariants.{Idle, Copies, Commits, GivesBack}
-use Rattle.pk_reclaim.specs.Steps.{SpaceMoves, StillIn}
-use Rattle.pk_reclaim.proofs.Owners.{SameOwners, others_kept}
-use Rattle.pk_reclaim.proofs.Quiet.{NamesOwned}
 
 -- no page differs, nothing was posted, and no mark was made
 pub record IsStill (old new : BoardState) : Type 0 where

@@ -1,29 +1,18 @@
 -- A step, whatever it answered, for the reclaim as it is.
 use Rattle.std.proofs.Common.{◌≡◌, refl, sym, ap, subst, ◌∙◌, Some, Result, Ok, Err}
 use Rattle.std.specs.Prelude.{IfOk, IfErr, OnOk, OnErr}
-use Rattle.pk_base.specs.Shape.{Shape}
-use Rattle.pk_base.specs.Page.{page_at}
-use Rattle.pk_nand.specs.declared.types.Fault.{Fault}
-use Rattle.pk_nand.specs.declared.types.Fault.TheVariants.{Reading, Stopped}
-use Rattle.pk_nand.specs.BoardState.{BoardState}
-use Rattle.pk_nand.specs.Calls.{IsReady}
+use Rattle.pk_base.{specs.Shape.Shape, specs.Page.page_at}
+use Rattle.pk_nand.{specs.declared.types.Fault.Fault, specs.declared.types.Fault.TheVariants.Reading, specs.declared.types.Fault.TheVariants.Stopped, specs.BoardState.BoardState, specs.Calls.IsReady}
 use Rattle.pk_nand.specs.Effects.{AtMostOneCall, NoFault, OnlyFlash, Stops}
 use Rattle.pk_rootfmt.specs.Newest.{newest_root}
 use Rattle.pk_pool.specs.Blocks.{Blocks, IsShared}
-use Rattle.pk_gc.specs.declared.reclaimed.Reclaimed.{Reclaimed}
+use Rattle.pk_gc.{specs.declared.reclaimed.Reclaimed.Reclaimed, specs.State.JobState, specs.Stepping.Hands, specs.Stepping.CanStep, specs.Stepping.Steps, specs.Breaking.JobBroken}
 use Rattle.pk_gc.specs.declared.reclaimed.Reclaimed.TheVariants.{Worked, NeedsFreeze, Ended}
-use Rattle.pk_gc.specs.State.{JobState}
-use Rattle.pk_gc.specs.Stepping.{Hands, CanStep, Steps}
-use Rattle.pk_gc.specs.Breaking.{JobBroken}
 use Rattle.pk_values.specs.State.{ValuesState}
-use Rattle.pk_reclaim.specs.Hands.{hands_of}
-use Rattle.pk_log.specs.State.{LogState}
-use Rattle.pk_reclaim.specs.Space.{ReclaimParts, reclaim_parts}
-use Rattle.pk_reclaim.specs.Steps.{ReclaimMoves, Does, Unread, ReclaimBroken, KeepsLog}
-use Rattle.pk_reclaim.proofs.Boards.{SameRoots, roots_stay}
-use Rattle.pk_reclaim.proofs.Ready.{job_in, can_step_in}
-use Rattle.pk_reclaim.proofs.Stepping.{Somewhere, does_in}
+use Rattle.pk_reclaim.{specs.Hands.hands_of, specs.Space.ReclaimParts, specs.Space.reclaim_parts, proofs.Boards.SameRoots, proofs.Boards.roots_stay, proofs.Ready.job_in, proofs.Ready.can_step_in}
+use Rattle.pk_reclaim.{specs.Steps.ReclaimMoves, specs.Steps.Does, specs.Steps.Unread, specs.Steps.ReclaimBroken, specs.Steps.KeepsLog, proofs.Stepping.Somewhere, proofs.Stepping.does_in}
 use Rattle.pk_reclaim.proofs.Sounding.{keeps_log, sound_in, failed_in, roots_in, broken_in, unread_in}
+use Rattle.pk_log.specs.State.{LogState}
 
 -- a job of this shape, part by part
 job_is : (log : LogState) (job : JobState) → job.shape ≡ log.shape → job ≡ job_in log job.moves job.entries job.page job.phase

@@ -1,32 +1,19 @@
 -- The space of a drive: its journal, the places of its values, its blocks, and the reclaim that makes room for values.
 use Rattle.std.specs.Prelude.{◌≡◌, ◌⊎◌, ℕ, ◌-◌, ◌≤◌, List, [], ◌++◌, slice_get, true, false, Some, unwrap_or}
 use Rattle.std.specs.List.{concat}
-use Rattle.pk_base.specs.Shape.{data_blocks, most_pages}
-use Rattle.pk_base.specs.Page.{Flash}
-use Rattle.pk_base.specs.Key.{Key}
-use Rattle.pk_base.specs.Entry.{Place}
-use Rattle.pk_base.specs.Map.{Map}
+use Rattle.pk_base.{specs.Shape.data_blocks, specs.Shape.most_pages, specs.Page.Flash, specs.Key.Key, specs.Entry.Place, specs.Map.Map}
 use Rattle.pk_law_work.specs.Rest.{whole_reclaim, left_of, Lowers}
 use Rattle.pk_plan.specs.declared.owner.Owner.TheVariants.{Journal, Meta, Values}
-use Rattle.pk_pool.specs.declared.state.BlockState.TheVariants.{Owned}
-use Rattle.pk_pool.specs.Blocks.{Blocks, NoneLeaves, used_by}
-use Rattle.pk_pool.specs.Unready.{unready}
+use Rattle.pk_pool.{specs.declared.state.BlockState.TheVariants.Owned, specs.Blocks.Blocks, specs.Blocks.NoneLeaves, specs.Blocks.used_by, specs.Unready.unready}
 use Rattle.pk_rootfmt.specs.Root.{Root}
-use Rattle.pk_model.specs.Found.{Found}
-use Rattle.pk_model.specs.Laws.{AnyByRecursion}
-use Rattle.pk_law_steps.specs.Under.{IsUnder, places}
-use Rattle.pk_law_steps.specs.Roots.{committed}
+use Rattle.pk_model.{specs.Found.Found, specs.Laws.AnyByRecursion}
+use Rattle.pk_law_steps.{specs.Under.IsUnder, specs.Under.places, specs.Roots.committed}
 use Rattle.pk_law_moves.specs.Moves.{entries_of}
-use Rattle.pk_gc.specs.declared.course.Phase.{Phase}
+use Rattle.pk_gc.{specs.declared.course.Phase.Phase, specs.Cuts.IsHalfMoved, specs.State.JobState, specs.State.left_in, specs.Stepping.runs_in, specs.Stepping.IsHalfCommitted}
 use Rattle.pk_gc.specs.declared.course.Phase.TheVariants.{Idle, Copies, Commits, GivesBack}
-use Rattle.pk_gc.specs.Cuts.{IsHalfMoved}
-use Rattle.pk_gc.specs.State.{JobState, left_in}
-use Rattle.pk_gc.specs.Stepping.{runs_in, IsHalfCommitted}
 use Rattle.pk_gc.specs.Standing.{held_blocks, ReclaimOnFlash}
-use Rattle.pk_values.specs.State.{ValuesState, needs_reclaim}
-use Rattle.pk_values.specs.Placed.{ValuesOnFlash}
-use Rattle.pk_log.specs.State.{LogState}
-use Rattle.pk_log.specs.Logs.{LogOnFlash}
+use Rattle.pk_values.{specs.State.ValuesState, specs.State.needs_reclaim, specs.Placed.ValuesOnFlash}
+use Rattle.pk_log.{specs.State.LogState, specs.Logs.LogOnFlash}
 
 -- the log, where values lie, the blocks, and the reclaim
 pub record ReclaimParts : Type 0 where

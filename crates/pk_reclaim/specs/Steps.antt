@@ -1,33 +1,19 @@
 -- What a step of a reclaim does to the space of a drive, and what it leaves of the flash.
 use Rattle.std.specs.Prelude.{◌≡◌, ◌≢◌, ℕ, ◌+◌, ◌/◌, ◌<◌, List, [], ◌++◌, length, slice_get, true, false, Some, Result, Err}
-use Rattle.pk_base.specs.Key.{Key}
-use Rattle.pk_base.specs.Shape.{Shape, root_pages}
-use Rattle.pk_base.specs.Page.{Flash, page_at}
-use Rattle.pk_base.specs.Entry.{Entry, Place}
-use Rattle.pk_base.specs.Map.{Map}
+use Rattle.pk_base.{specs.Key.Key, specs.Shape.Shape, specs.Shape.root_pages, specs.Page.Flash, specs.Page.page_at, specs.Entry.Entry, specs.Entry.Place, specs.Map.Map}
 use Rattle.pk_law_work.specs.Backlog.{is_tight}
-use Rattle.pk_nand.specs.BoardState.{BoardState}
-use Rattle.pk_nand.specs.Calls.{Rose}
-use Rattle.pk_nand.specs.Effects.{OneProgram, OnlyReading}
-use Rattle.pk_nand.specs.declared.types.Fault.{Fault}
+use Rattle.pk_nand.{specs.BoardState.BoardState, specs.Calls.Rose, specs.Effects.OneProgram, specs.Effects.OnlyReading, specs.declared.types.Fault.Fault}
 use Rattle.pk_nand.specs.declared.types.Fault.TheVariants.{Reading}
 use Rattle.pk_plan.specs.declared.owner.Owner.TheVariants.{Journal, Meta, Values}
-use Rattle.pk_pool.specs.declared.state.BlockState.TheVariants.{Owned}
-use Rattle.pk_pool.specs.Blocks.{Blocks, used_by}
+use Rattle.pk_pool.{specs.declared.state.BlockState.TheVariants.Owned, specs.Blocks.Blocks, specs.Blocks.used_by}
 use Rattle.pk_rootfmt.specs.Root.{Root}
 use Rattle.pk_jrn.specs.Epochs.{left_of}
-use Rattle.pk_model.specs.Found.{Found}
-use Rattle.pk_model.specs.Laws.{AnyByRecursion}
-use Rattle.pk_model.specs.Growth.{Reaches, Goes}
-use Rattle.pk_model.specs.Crashes.{CrashFinds, background}
+use Rattle.pk_model.{specs.Found.Found, specs.Laws.AnyByRecursion, specs.Growth.Reaches, specs.Growth.Goes, specs.Crashes.CrashFinds, specs.Crashes.background}
 use Rattle.pk_law_steps.specs.Under.{places}
 use Rattle.pk_law_moves.specs.Moves.{entries_of, moved}
-use Rattle.pk_gc.specs.declared.course.Course.{Course}
-use Rattle.pk_gc.specs.declared.course.Phase.{Phase}
+use Rattle.pk_gc.{specs.declared.course.Course.Course, specs.declared.course.Phase.Phase, specs.declared.reclaimed.Reclaimed.Reclaimed, specs.Stepping.runs_in}
 use Rattle.pk_gc.specs.declared.course.Phase.TheVariants.{Idle, Copies, Commits, GivesBack}
-use Rattle.pk_gc.specs.declared.reclaimed.Reclaimed.{Reclaimed}
 use Rattle.pk_gc.specs.declared.reclaimed.Reclaimed.TheVariants.{Worked, NeedsFreeze, Ended}
-use Rattle.pk_gc.specs.Stepping.{runs_in}
 use Rattle.pk_gc.specs.Committing.{HasRoom as MovesHaveRoom, entries_left}
 use Rattle.pk_reclaim.specs.Space.{ReclaimParts, SpaceOnFlash, MayReclaim, Falls, HasRoom}
 

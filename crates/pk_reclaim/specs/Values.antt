@@ -1,25 +1,15 @@
 -- What the steps of a reclaim make of placed values: the statements. How the steps change live map, open block and pool is stated by pk_gc.
 use Rattle.std.specs.Prelude.{◌≡◌, ℕ, ◌+◌, ◌/◌, List, [], ◌∷◌, Some, slice_get}
-use Rattle.pk_base.specs.Key.{Key}
-use Rattle.pk_base.specs.Shape.{Shape}
-use Rattle.pk_base.specs.Page.{Flash}
-use Rattle.pk_base.specs.Entry.{Place}
-use Rattle.pk_base.specs.Mark.{program, after}
+use Rattle.pk_base.{specs.Key.Key, specs.Shape.Shape, specs.Page.Flash, specs.Entry.Place, specs.Mark.program, specs.Mark.after}
 use Rattle.pk_plan.specs.declared.owner.Owner.TheVariants.{Journal, Values as for_values}
 use Rattle.pk_nand.specs.BoardState.{BoardState}
-use Rattle.pk_pool.specs.declared.state.BlockState.TheVariants.{Owned}
-use Rattle.pk_pool.specs.Blocks.{Blocks, used_by}
+use Rattle.pk_pool.{specs.declared.state.BlockState.TheVariants.Owned, specs.Blocks.Blocks, specs.Blocks.used_by}
 use Rattle.pk_buf.specs.Table.{Table}
 use Rattle.pk_jrn.specs.Epochs.{JournalEpoch, next_page}
 use Rattle.pk_law_moves.specs.Moves.{moved}
-use Rattle.pk_gc.specs.declared.course.Course.{Course}
-use Rattle.pk_gc.specs.declared.reclaimed.Reclaimed.{Reclaimed}
-use Rattle.pk_gc.specs.State.{JobState, placed_at, left_of}
-use Rattle.pk_gc.specs.Beginning.{Starts, GivesBack}
-use Rattle.pk_gc.specs.Ending.{CanGive}
-use Rattle.pk_gc.specs.Stepping.{CommitsMoves, EndsWithout, GivesVictim}
-use Rattle.pk_values.specs.State.{ValuesState}
-use Rattle.pk_values.specs.Placed.{ValuesOnFlash}
+use Rattle.pk_gc.{specs.declared.course.Course.Course, specs.declared.reclaimed.Reclaimed.Reclaimed, specs.State.JobState, specs.State.placed_at, specs.State.left_of, specs.Ending.CanGive}
+use Rattle.pk_gc.{specs.Beginning.Starts, specs.Beginning.GivesBack, specs.Stepping.CommitsMoves, specs.Stepping.EndsWithout, specs.Stepping.GivesVictim}
+use Rattle.pk_values.{specs.State.ValuesState, specs.Placed.ValuesOnFlash}
 use Rattle.pk_reclaim.specs.Hands.{hands_of}
 
 -- An Erased block was taken for the copies, and the open one may have been closed.

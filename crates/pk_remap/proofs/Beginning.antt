@@ -1,25 +1,15 @@
 -- A call of the outer flash, as it is made on the inner flash.
 use Rattle.std.proofs.Common.{◌≡◌, inl, ℕ, ◌+◌, ◌/◌, ◌<◌, ◌≤◌, List, [], length, refl, sym, ap, ◌∙◌, arith, Some}
-use Rattle.pk_base.specs.Shape.{Shape, page_count}
-use Rattle.pk_base.specs.Page.{Flash, page_at, whole, IsPage, IsFlash}
+use Rattle.std.{specs.Prelude.nat_lt, specs.Prelude.Bool, specs.Prelude.true, specs.Prelude.false, proofs.lemmas.Bool.Decides.nat_tests}
+use Rattle.pk_base.{specs.Shape.Shape, specs.Shape.page_count, specs.Page.Flash, specs.Page.page_at, specs.Page.whole, specs.Page.IsPage, specs.Page.IsFlash}
 use Rattle.pk_base.specs.Mark.{Mark, program, erase, post, after}
-use Rattle.pk_nand.specs.BoardState.{BoardState}
-use Rattle.pk_nand.specs.Cut.{Interrupted, touched_block}
-use Rattle.pk_nand.specs.Calls.{IsReady}
+use Rattle.pk_nand.{specs.BoardState.BoardState, specs.Cut.Interrupted, specs.Cut.touched_block, specs.Calls.IsReady, proofs.Touching.elsewhere}
 use Rattle.pk_nand.proofs.Leaving.{IsFlash-interrupted, full_program, full_erase, interrupted_done}
-use Rattle.pk_nand.proofs.Touching.{elsewhere}
-use Rattle.pk_remap.specs.Places.{inner_shape, place, placed_page}
-use Rattle.pk_remap.specs.Newest.{IsTablePage}
-use Rattle.pk_remap.specs.Through.{MayShow, mark_below, IsMarkWithin}
-use Rattle.pk_remap.specs.Relocating.{Relocation, IsCall, IsTop}
-use Rattle.pk_remap.specs.Beginning.{above_of, CanRelocate, CallsBelow, DoneBelow, FailsBelow}
+use Rattle.pk_remap.{specs.Places.inner_shape, specs.Places.place, specs.Places.placed_page, specs.Newest.IsTablePage, specs.Through.MayShow, specs.Through.mark_below, specs.Through.IsMarkWithin}
+use Rattle.pk_remap.{specs.Relocating.Relocation, specs.Relocating.IsCall, specs.Relocating.IsTop, proofs.Finding.newest-kept, proofs.Lifting.lifts, proofs.Lifting.lift-done}
+use Rattle.pk_remap.{specs.Beginning.above_of, specs.Beginning.CanRelocate, specs.Beginning.CallsBelow, specs.Beginning.DoneBelow, specs.Beginning.FailsBelow, proofs.Calls.left_interrupted}
 use Rattle.pk_remap.proofs.Placing.{placed_page-div, place-below, block_of as page_block, length-through, page-through, past-through}
-use Rattle.pk_remap.proofs.Finding.{newest-kept}
-use Rattle.pk_remap.proofs.Lifting.{lifts, lift-done}
 use Rattle.pk_remap.proofs.Standing.{shows, may_show, table_block}
-use Rattle.pk_remap.proofs.Calls.{left_interrupted}
-use Rattle.std.specs.Prelude.{nat_lt, Bool, true, false}
-use Rattle.std.proofs.lemmas.Bool.Decides.{nat_tests}
 
 module _ (r : Relocation) (old : BoardState) (can : CanRelocate r old) where
   abbrev shape : Shape

@@ -1,17 +1,9 @@
 -- One call of a board of a known shape: each cut of its mark, if it is done or failed.
 use Rattle.std.proofs.Common.{◌≡◌, inl, inr, ℕ, List, [], ◌∷◌, sym, subst}
-use Rattle.pk_base.specs.Shape.{Shape}
-use Rattle.pk_base.specs.Page.{Flash}
-use Rattle.pk_base.specs.Mark.{Mark, program, erase, after}
-use Rattle.pk_nand.specs.BoardState.{BoardState, shape_of}
-use Rattle.pk_nand.specs.Cut.{Interrupted}
-use Rattle.pk_nand.specs.Calls.{IsReady, after_program, ProgramFailed, LeftBy}
-use Rattle.pk_nand.specs.Operations.{after_erase, EraseFailed}
-use Rattle.pk_nand.specs.Crash.{Reached, Went}
-use Rattle.pk_nand.proofs.CutLemmas.{interrupted_none}
-use Rattle.pk_nand.proofs.Leaving.{interrupted_done}
-use Rattle.pk_nand.proofs.Reaching.{Reached-program, Reached-erase, Went-program_failed, Went-erase_failed}
-use Rattle.pk_nand.proofs.Writing.{shape_is}
+use Rattle.pk_base.{specs.Shape.Shape, specs.Page.Flash, specs.Mark.Mark, specs.Mark.program, specs.Mark.erase, specs.Mark.after}
+use Rattle.pk_nand.{specs.BoardState.BoardState, specs.BoardState.shape_of, specs.Cut.Interrupted, specs.Calls.IsReady, specs.Calls.after_program, specs.Calls.ProgramFailed, specs.Calls.LeftBy}
+use Rattle.pk_nand.{specs.Operations.after_erase, specs.Operations.EraseFailed, specs.Crash.Reached, specs.Crash.Went, proofs.CutLemmas.interrupted_none, proofs.Leaving.interrupted_done}
+use Rattle.pk_nand.{proofs.Reaching.Reached-program, proofs.Reaching.Reached-erase, proofs.Reaching.Went-program_failed, proofs.Reaching.Went-erase_failed, proofs.Writing.shape_is}
 
 module _ (old : BoardState) (shape : Shape) (ready : IsReady old shape) (P : Flash → Type 0) where
   abbrev own : (flash : Flash) (mark : Mark) → Interrupted (shape_of old) mark old.pages flash [] → Interrupted shape mark old.pages flash []

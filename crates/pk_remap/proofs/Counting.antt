@@ -1,19 +1,10 @@
 -- What the calls of a relocation do besides: only the flash differs, and spares are taken only for faults.
 use Rattle.std.proofs.Common.{◌≡◌, ◌≢◌, ◌⊎◌, inl, inr, ℕ, ◌+◌, ◌<◌, ◌≤◌, Bool, true, false, length, refl, sym, ap, subst, ◌∙◌, arith, Option, Some, None}
-use Rattle.std.specs.Prelude.{nat_lt, Result, Ok, Err}
-use Rattle.std.proofs.lemmas.Bool.Decides.{nat_tests}
-use Rattle.pk_base.specs.Shape.{Shape}
-use Rattle.pk_base.specs.Page.{Flash, page_at}
-use Rattle.pk_nand.specs.BoardState.{BoardState}
-use Rattle.pk_nand.specs.Calls.{IsReady, Rose, last_count}
-use Rattle.pk_nand.specs.Operations.{after_read, ReadFailed}
-use Rattle.pk_nand.specs.Effects.{OnlyFlash}
-use Rattle.pk_nand.proofs.Effects.{only_then}
-use Rattle.pk_nand.specs.declared.types.NandFault.{NandFault}
-use Rattle.pk_remap.specs.declared.relocation.Relocation.{Relocation as InMemory}
-use Rattle.pk_remap.specs.Table.{SpareTable}
-use Rattle.pk_remap.specs.Newest.{newest_table, IsNewest}
-use Rattle.pk_remap.specs.Places.{inner_shape}
+use Rattle.std.{specs.Prelude.nat_lt, specs.Prelude.Result, specs.Prelude.Ok, specs.Prelude.Err, proofs.lemmas.Bool.Decides.nat_tests}
+use Rattle.pk_base.{specs.Shape.Shape, specs.Page.Flash, specs.Page.page_at}
+use Rattle.pk_nand.{specs.BoardState.BoardState, specs.Calls.IsReady, specs.Calls.Rose, specs.Calls.last_count, specs.Operations.after_read, specs.Operations.ReadFailed, specs.Effects.OnlyFlash}
+use Rattle.pk_nand.{proofs.Effects.only_then, specs.declared.types.NandFault.NandFault}
+use Rattle.pk_remap.{specs.declared.relocation.Relocation.Relocation as InMemory, specs.Table.SpareTable, specs.Newest.newest_table, specs.Newest.IsNewest, specs.Places.inner_shape}
 use Rattle.pk_remap.specs.Counting.{SparesCounted, HasTable, ServeCounts, OuterFailed, OuterCounts}
 use Rattle.pk_remap.proofs.Finding.{newest-found, found-newest}
 

@@ -1,33 +1,19 @@
 -- Wherever a step of a relocation is cut, the outer flash is what the call that it serves may leave.
-use Rattle.std.proofs.Common.{◌≡◌, ◌≢◌, ◌⊎◌, inl, inr, ℕ, zero, suc, ◌+◌, ◌-◌, ◌*◌, ◌/◌, ◌%◌, ◌<◌, ◌≤◌, Bool, true, false, List, [], ◌∷◌, ◌++◌, length, refl}
-use Rattle.std.proofs.Common.{sym, ap, subst, ◌∙◌, arith, Some, length-append}
-use Rattle.std.specs.Prelude.{nat_eq, nat_lt, nat_le, ◌||◌, ◌&&◌, replicate}
-use Rattle.std.specs.List.{list_all}
-use Rattle.std.proofs.Math.Nat.{mod-lt}
-use Rattle.std.proofs.lemmas.Bool.Decides.{nat_tests}
-use Rattle.std.proofs.lemmas.List.{length-replicate}
-use Rattle.std.proofs.lemmas.Nat.{div-add-mod'}
-use Rattle.std.proofs.lemmas.Option.{same_Some}
-use Rattle.pk_base.specs.Shape.{Shape, page_count}
-use Rattle.pk_base.specs.Page.{Flash, page_at, torn}
+use Rattle.std.proofs.Common.{◌≡◌, ◌≢◌, ◌⊎◌, inl, inr, ℕ, zero, suc, ◌+◌, ◌-◌, ◌*◌, ◌/◌, ◌%◌, ◌<◌, ◌≤◌, Bool, true, false, List, [], ◌∷◌, ◌++◌, length, refl, sym, ap, subst, ◌∙◌, arith, Some}
+use Rattle.std.proofs.Common.{length-append}
+use Rattle.std.{specs.Prelude.nat_eq, specs.Prelude.nat_lt, specs.Prelude.nat_le, specs.Prelude.◌||◌, specs.Prelude.◌&&◌, specs.Prelude.replicate, specs.List.list_all, proofs.Math.Nat.mod-lt}
+use Rattle.std.{proofs.lemmas.Bool.Decides.nat_tests, proofs.lemmas.List.length-replicate, proofs.lemmas.Nat.div-add-mod', proofs.lemmas.Option.same_Some}
+use Rattle.pk_base.{specs.Shape.Shape, specs.Shape.page_count, specs.Page.Flash, specs.Page.page_at, specs.Page.torn}
 use Rattle.pk_base.specs.Mark.{Mark, program, erase, post, after}
-use Rattle.pk_nand.specs.Cut.{Interrupted, touched_block}
-use Rattle.pk_nand.proofs.Leaving.{same_pages, length-after, interrupted_done}
+use Rattle.pk_nand.{specs.Cut.Interrupted, specs.Cut.touched_block, proofs.Leaving.same_pages, proofs.Leaving.length-after, proofs.Leaving.interrupted_done}
 use Rattle.pk_nand.proofs.Touching.{elsewhere, untouched_after, touches_one_block}
-use Rattle.pk_remap.specs.declared.layout.TheConstants.{FAILED}
-use Rattle.pk_remap.specs.Table.{SpareTable, table_bytes, table_page, is_table, is_served}
-use Rattle.pk_remap.specs.Places.{inner_shape, place, placed_page, through_by}
-use Rattle.pk_remap.specs.Newest.{first_table_page, IsTablePage, IsNewest, IsNewestBeside}
-use Rattle.pk_remap.specs.Through.{MayShow, IsMarkWithin}
-use Rattle.pk_remap.specs.Relocating.{Relocation, block_of, block, spare_block, spare_page, next_table, IsSpareFull, IsRelocating, IsTop, SameTables}
-use Rattle.pk_remap.specs.Relocating.{IsTablePair}
+use Rattle.pk_remap.{specs.declared.layout.TheConstants.FAILED, specs.Table.SpareTable, specs.Table.table_bytes, specs.Table.table_page, specs.Table.is_table, specs.Table.is_served}
+use Rattle.pk_remap.{specs.Places.inner_shape, specs.Places.place, specs.Places.placed_page, specs.Places.through_by, specs.Through.MayShow, specs.Through.IsMarkWithin, proofs.Lifting.times_le}
+use Rattle.pk_remap.{specs.Newest.first_table_page, specs.Newest.IsTablePage, specs.Newest.IsNewest, specs.Newest.IsNewestBeside, proofs.Finding.beside-kept, proofs.Finding.pair-newest}
+use Rattle.pk_remap.specs.Relocating.{Relocation, block_of, block, spare_block, spare_page, next_table, IsSpareFull, IsRelocating, IsTop, SameTables, IsTablePair}
 use Rattle.pk_remap.proofs.TableLemmas.{table_parts, parts_table, page_again}
 use Rattle.pk_remap.proofs.Placing.{block_of as page_block, length-through, page-through, past-through, more_here, more_other}
-use Rattle.pk_remap.proofs.Finding.{beside-kept, pair-newest}
-use Rattle.pk_remap.proofs.Lifting.{times_le}
-use Rattle.pk_remap.proofs.Standing.{may_show, apart_through, table_page_kept, spare-newest, spare-through, turn-newest, turn-through, table_block, NoneOr}
-use Rattle.pk_remap.proofs.Standing.{pair-none_or}
-use Rattle.pk_remap.proofs.Standing.{pair-others}
+use Rattle.pk_remap.proofs.Standing.{may_show, apart_through, table_page_kept, spare-newest, spare-through, turn-newest, turn-through, table_block, NoneOr, pair-none_or, pair-others}
 
 -- a page after the last is Torn
 pub page-past_end : (flash : Flash) (k : ℕ) → length flash ≤ k → page_at flash k ≡ torn

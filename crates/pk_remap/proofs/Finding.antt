@@ -1,10 +1,7 @@
 -- The newest table: its search, and which changes of pages leave it the newest.
-use Rattle.std.proofs.Common.{◌≡◌, ◌≢◌, ◌⊎◌, inl, inr, ℕ, zero, suc, ◌+◌, ◌*◌, ◌<◌, ◌≤◌, Bool, true, false, refl, sym, ap, subst, ◌∙◌, arith, Option, Some}
-use Rattle.std.proofs.Common.{None}
-use Rattle.std.specs.Prelude.{nat_le, nat_eq, if◌then◌else◌}
-use Rattle.std.proofs.lemmas.Bool.Decides.{nat_tests}
-use Rattle.pk_base.specs.Shape.{Shape}
-use Rattle.pk_base.specs.Page.{Page}
+use Rattle.std.proofs.Common.{◌≡◌, ◌≢◌, ◌⊎◌, inl, inr, ℕ, zero, suc, ◌+◌, ◌*◌, ◌<◌, ◌≤◌, Bool, true, false, refl, sym, ap, subst, ◌∙◌, arith, Option, Some, None}
+use Rattle.std.{specs.Prelude.nat_le, specs.Prelude.nat_eq, specs.Prelude.if◌then◌else◌, proofs.lemmas.Bool.Decides.nat_tests}
+use Rattle.pk_base.{specs.Shape.Shape, specs.Page.Page}
 use Rattle.pk_remap.specs.Table.{SpareTable}
 use Rattle.pk_remap.specs.Newest.{table_in, newer_table, newest_from, newest_table, first_table_page, IsTablePage, IsNewer, IsNewest, IsNewestBeside}
 

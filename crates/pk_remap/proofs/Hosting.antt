@@ -1,21 +1,11 @@
 -- The host of a flash with spare blocks is that of its inner board.
 use Rattle.std.proofs.Common.{◌≡◌, inl, inr, ℕ, List, [], ◌∷◌, take, refl, sym, ap, subst, ◌∙◌, arith, Option, Some, None}
-use Rattle.std.specs.Prelude.{Result, Ok, Err, IfOk, OnOk, OnErr}
-use Rattle.std.proofs.lemmas.List.{append-nil}
-use Rattle.pk_base.specs.Mark.{post}
-use Rattle.pk_nand.specs.BoardState.{BoardState}
-use Rattle.pk_nand.specs.Calls.{counted, longer}
+use Rattle.std.{specs.Prelude.Result, specs.Prelude.Ok, specs.Prelude.Err, specs.Prelude.IfOk, specs.Prelude.OnOk, specs.Prelude.OnErr, proofs.lemmas.List.append-nil}
+use Rattle.pk_base.{specs.Mark.post, specs.Page.Flash, specs.Page.page_at}
+use Rattle.pk_nand.{specs.BoardState.BoardState, specs.Calls.counted, specs.Calls.longer, proofs.Posting.sent_left}
 use Rattle.pk_nand.specs.Operations.{Fetched, FetchFailed, PostFailed, SentFront, after_post}
-use Rattle.pk_nand.proofs.Posting.{sent_left}
-use Rattle.pk_remap.specs.declared.counts.BoardCounts.{BoardCounts}
-use Rattle.pk_remap.specs.declared.image.Image.{Image}
-use Rattle.pk_remap.specs.declared.mark_log.MarkLog.{MarkLog}
-use Rattle.pk_remap.specs.declared.relocation.Relocation.{Relocation as InMemory}
-use Rattle.pk_remap.specs.Logged.{told}
-use Rattle.pk_base.specs.Page.{Flash, page_at}
-use Rattle.pk_remap.specs.Newest.{newest_table}
-use Rattle.pk_remap.specs.Running.{relocation_of, HasTurn}
-use Rattle.pk_remap.specs.Remapped.{remap_board, RemapHolds}
+use Rattle.pk_remap.{specs.declared.counts.BoardCounts.BoardCounts, specs.declared.image.Image.Image, specs.declared.mark_log.MarkLog.MarkLog, specs.Logged.told, specs.Newest.newest_table}
+use Rattle.pk_remap.{specs.declared.relocation.Relocation.Relocation as InMemory, specs.Running.relocation_of, specs.Running.HasTurn, specs.Remapped.remap_board, specs.Remapped.RemapHolds}
 use Rattle.pk_remap.proofs.Remapping.{table_again}
 
 -- nothing more is posted

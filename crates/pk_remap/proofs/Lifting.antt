@@ -1,21 +1,12 @@
 -- A mark of the inner flash, on the inner page or block, is the same mark of the outer flash.
-use Rattle.std.proofs.Common.{◌≡◌, ◌≢◌, inl, inr, ℕ, zero, suc, ◌+◌, ◌*◌, ◌/◌, ◌%◌, ◌<◌, ◌≤◌, Bool, true, false, List, [], length, refl, sym, ap, subst, ◌∙◌}
-use Rattle.std.proofs.Common.{arith, zero-add}
-use Rattle.std.specs.Prelude.{nat_eq, nat_lt, slice_set}
-use Rattle.std.proofs.Math.Nat.{mod-lt}
-use Rattle.std.proofs.lemmas.Bool.Decides.{nat_tests}
-use Rattle.std.proofs.lemmas.Nat.{div-add-mod'}
-use Rattle.pk_base.specs.Shape.{Shape, page_count}
-use Rattle.pk_base.specs.Page.{Page, Flash, page_at, whole, torn}
+use Rattle.std.proofs.Common.{◌≡◌, ◌≢◌, inl, inr, ℕ, zero, suc, ◌+◌, ◌*◌, ◌/◌, ◌%◌, ◌<◌, ◌≤◌, Bool, true, false, List, [], length, refl, sym, ap, subst, ◌∙◌, arith, zero-add}
+use Rattle.std.{specs.Prelude.nat_eq, specs.Prelude.nat_lt, specs.Prelude.slice_set, proofs.Math.Nat.mod-lt, proofs.lemmas.Bool.Decides.nat_tests, proofs.lemmas.Nat.div-add-mod'}
+use Rattle.pk_base.{specs.Shape.Shape, specs.Shape.page_count, specs.Page.Page, specs.Page.Flash, specs.Page.page_at, specs.Page.whole, specs.Page.torn}
 use Rattle.pk_base.specs.Mark.{Mark, program, erase, post, after, posted_by, erased_from}
-use Rattle.pk_nand.specs.Cut.{Interrupted, MayLeave, IsPartner}
+use Rattle.pk_nand.{specs.Cut.Interrupted, specs.Cut.MayLeave, specs.Cut.IsPartner, proofs.Touching.partner_block}
 use Rattle.pk_nand.proofs.Leaving.{same_pages, length-after, page_at-slice_set, page_at-slice_set_same, page_at-erased_from, page-erased_in}
-use Rattle.pk_nand.proofs.Touching.{partner_block}
-use Rattle.pk_remap.specs.Table.{SpareTable}
-use Rattle.pk_remap.specs.Places.{inner_shape, place, placed_page, through_by}
-use Rattle.pk_remap.specs.Through.{mark_below, IsMarkWithin}
-use Rattle.pk_remap.proofs.Placing.{place-below, place-apart, placed_page-div, placed_page-mod, placed_page-apart, block_of, length-through, page-through}
-use Rattle.pk_remap.proofs.Placing.{past-through}
+use Rattle.pk_remap.{specs.Table.SpareTable, specs.Places.inner_shape, specs.Places.place, specs.Places.placed_page, specs.Places.through_by, specs.Through.mark_below, specs.Through.IsMarkWithin}
+use Rattle.pk_remap.proofs.Placing.{place-below, place-apart, placed_page-div, placed_page-mod, placed_page-apart, block_of, length-through, page-through, past-through}
 
 pub less_times : (m q n : ℕ) → q * n < m * n → q < m
 less_times zero q n h = absurd (omega (arith, h))

@@ -1,18 +1,12 @@
 -- Marks that are noted in a log.
-use Rattle.std.proofs.Common.{◌≡◌, inl, inr, ℕ, zero, suc, ◌+◌, ◌*◌, ◌<◌, ◌≤◌, List, [], ◌∷◌, ◌++◌, length, take, drop, refl, ap, ◌∙◌, arith}
+use Rattle.std.proofs.Common.{◌≡◌, inl, inr, ℕ, zero, suc, ◌+◌, ◌*◌, ◌<◌, ◌≤◌, List, [], ◌∷◌, ◌++◌, length, take, drop, refl, ap, ◌∙◌, arith, length-drop}
 use Rattle.std.specs.Prelude.{OnOk, max, nat_lt, Bool, true, false, Result, Ok, Err, IsOk, is_ok, if◌then◌else◌}
-use Rattle.std.proofs.lemmas.Bool.Decides.{nat_tests}
-use Rattle.std.proofs.lemmas.Grind.{div_ceil_times}
-use Rattle.std.specs.Int.{div_ceil}
-use Rattle.std.proofs.Common.{length-drop}
+use Rattle.std.{proofs.lemmas.Bool.Decides.nat_tests, proofs.lemmas.Grind.div_ceil_times, specs.Int.div_ceil}
 use Rattle.std.proofs.lemmas.List.{take-append-le, drop-append-le, take_all}
 use Rattle.pk_base.specs.Mark.{Mark}
 use Rattle.pk_nand.specs.Calls.{longer}
-use Rattle.pk_remap.specs.declared.mark_log.NotedMark.{NotedMark}
-use Rattle.pk_remap.specs.declared.mark_log.MarkLog.{MarkLog}
+use Rattle.pk_remap.{specs.declared.mark_log.NotedMark.NotedMark, specs.declared.mark_log.MarkLog.MarkLog, specs.Logged.told, specs.Logged.HasLogRoom, proofs.Lifting.times_le}
 use Rattle.pk_remap.specs.Noted.{bytes_of_mark, mark_with, noted_bytes, noted_marks, told_of, marks_for}
-use Rattle.pk_remap.specs.Logged.{told, HasLogRoom}
-use Rattle.pk_remap.proofs.Lifting.{times_le}
 
 -- one more mark, with its bytes
 pub noted_more : (marks : List NotedMark) (bytes : List ℕ) (mark : NotedMark) (more : List ℕ) → noted_bytes marks ≡ length bytes → bytes_of_mark mark ≡ length more

@@ -1,36 +1,18 @@
 -- The first table of a flash that was just made.
 use Rattle.std.proofs.Common.{◌≡◌, ◌≢◌, inr, ℕ, zero, suc, ◌+◌, ◌*◌, ◌%◌, ◌<◌, ◌≤◌, Bool, true, false, List, [], length, replicate, refl, sym, ap, subst, ◌∙◌, arith, Option, Some}
 use Rattle.std.specs.Prelude.{nat_le, nat_lt, nat_eq, slice_set, unwrap_or, Vec, Result, Ok, Err}
-use Rattle.std.specs.declared.alloc.Global.{Global}
-use Rattle.std.proofs.lemmas.Bool.Decides.{nat_tests}
-use Rattle.std.proofs.lemmas.List.{length-replicate}
-use Rattle.std.proofs.lemmas.Nat.{div-add-mod'}
-use Rattle.pk_base.specs.Shape.{Shape, IsShape, page_count}
+use Rattle.std.{specs.declared.alloc.Global.Global, proofs.lemmas.Bool.Decides.nat_tests, proofs.lemmas.List.length-replicate, proofs.lemmas.Nat.div-add-mod'}
+use Rattle.pk_base.{specs.Shape.Shape, specs.Shape.IsShape, specs.Shape.page_count, specs.Mark.program}
 use Rattle.pk_base.specs.Page.{Flash, page_at, erased, whole, torn, IsPage, IsFlash}
-use Rattle.pk_base.specs.Mark.{program}
-use Rattle.pk_nand.specs.BoardState.{BoardState}
-use Rattle.pk_nand.specs.Calls.{IsReady, Rose, after_program, ProgramFailed}
-use Rattle.pk_nand.specs.Operations.{InOrder}
-use Rattle.pk_nand.specs.Effects.{OnlyFlash}
-use Rattle.pk_nand.specs.declared.types.NandFault.{NandFault}
-use Rattle.pk_nand.proofs.Effects.{works_program, stops_program, only_then}
+use Rattle.pk_nand.{specs.BoardState.BoardState, specs.Calls.IsReady, specs.Calls.Rose, specs.Calls.after_program, specs.Calls.ProgramFailed, specs.Operations.InOrder, specs.Effects.OnlyFlash}
+use Rattle.pk_nand.{specs.declared.types.NandFault.NandFault, proofs.Effects.works_program, proofs.Effects.stops_program, proofs.Effects.only_then}
 use Rattle.pk_nand.proofs.Leaving.{same_pages, page_at-slice_set, page_at-slice_set_same, IsFlash-after, full_program}
-use Rattle.pk_remap.specs.declared.layout.TheConstants.{MOST_SPARES}
-use Rattle.pk_remap.specs.declared.relocation.Relocation.{Relocation as InMemory}
-use Rattle.pk_remap.specs.Table.{SpareTable, is_table}
-use Rattle.pk_remap.specs.Newest.{table_in, first_table_page, IsTablePage, IsNewer, IsNewest}
-use Rattle.pk_remap.specs.Places.{inner_shape, through_by}
-use Rattle.pk_remap.specs.Relocating.{IsNextPair}
-use Rattle.pk_remap.specs.Running.{HasPageBuffers, IsAtRest}
-use Rattle.pk_remap.specs.Remapped.{outer_pages}
+use Rattle.pk_remap.{specs.declared.layout.TheConstants.MOST_SPARES, specs.declared.relocation.Relocation.Relocation as InMemory, specs.Table.SpareTable, specs.Table.is_table, proofs.Lifting.times_le}
+use Rattle.pk_remap.{specs.Newest.table_in, specs.Newest.first_table_page, specs.Newest.IsTablePage, specs.Newest.IsNewer, specs.Newest.IsNewest, specs.Places.inner_shape, specs.Places.through_by}
+use Rattle.pk_remap.{specs.Relocating.IsNextPair, specs.Running.HasPageBuffers, specs.Running.IsAtRest, specs.Remapped.outer_pages, proofs.TableLemmas.table_parts, proofs.TableLemmas.page_again}
 use Rattle.pk_remap.specs.FirstTable.{first_table, first_table_bytes, IsMade, FirstTableWritten, FirstTableFailed, FirstTableOutcome}
-use Rattle.pk_remap.proofs.TableLemmas.{table_parts, page_again}
-use Rattle.pk_remap.proofs.Placing.{mod-of, length-through, page-through, past-through}
-use Rattle.pk_remap.proofs.Finding.{same_table, none_some}
-use Rattle.pk_remap.proofs.Lifting.{times_le}
-use Rattle.pk_remap.proofs.Cutting.{page-past_end}
-use Rattle.pk_remap.proofs.Standing.{shows}
-use Rattle.pk_remap.proofs.Turning.{second_order, following_pair}
+use Rattle.pk_remap.{proofs.Placing.mod-of, proofs.Placing.length-through, proofs.Placing.page-through, proofs.Placing.past-through, proofs.Finding.same_table, proofs.Finding.none_some}
+use Rattle.pk_remap.{proofs.Cutting.page-past_end, proofs.Standing.shows, proofs.Turning.second_order, proofs.Turning.following_pair}
 
 erased_at : (n k : ℕ) → k < n → page_at (replicate n erased) k ≡ erased
 erased_at zero k small = absurd (omega (arith, small))

@@ -1,33 +1,19 @@
 -- How a flash with spare blocks opens its image, and makes one.
 use Rattle.std.proofs.Common.{◌≡◌, ◌≢◌, ℕ, ◌+◌, ◌-◌, ◌<◌, ◌≤◌, Bool, true, false, List, [], replicate, refl, sym, ap, subst, ◌∙◌, arith, Option, Some, None}
-use Rattle.std.specs.Prelude.{Result, Ok, Err, IsOk, IsErr, OnOk, OnErr, IfOk, IsSome}
-use Rattle.pk_base.specs.declared.shape.ShapeError.{ShapeError}
+use Rattle.std.specs.Prelude.{Result, Ok, Err, IsOk, IsErr, OnOk, OnErr, IfOk, IsSome, if◌then◌else◌, nat_lt, unwrap_or}
+use Rattle.std.proofs.lemmas.Bool.Decides.{nat_tests}
+use Rattle.pk_base.{specs.declared.shape.ShapeError.ShapeError, specs.Page.Flash, specs.Page.page_at, specs.Page.erased, specs.Page.whole, specs.Page.IsPage, specs.Page.IsFlash, specs.Mark.Mark}
 use Rattle.pk_base.specs.declared.shape.ShapeError.TheVariants.{BadPage, BadBlock, TooLarge, TooSmall}
 use Rattle.pk_base.specs.Shape.{Shape, IsShape, page_count, checked, deepest, meta_blocks, has_bad_page, has_bad_block, is_too_large, is_too_small}
-use Rattle.std.specs.Prelude.{if◌then◌else◌, nat_lt, unwrap_or}
-use Rattle.std.proofs.lemmas.Bool.Decides.{nat_tests}
-use Rattle.pk_base.specs.Page.{Flash, page_at, erased, whole, IsPage, IsFlash}
-use Rattle.pk_base.specs.Mark.{Mark}
-use Rattle.pk_nand.specs.BoardState.{BoardState}
-use Rattle.pk_nand.specs.Calls.{IsReady, Rose, Loaded, LoadFailed, Made, MakeFailed}
+use Rattle.pk_nand.{specs.BoardState.BoardState, specs.Calls.IsReady, specs.Calls.Rose, specs.Calls.Loaded, specs.Calls.LoadFailed, specs.Calls.Made, specs.Calls.MakeFailed}
 use Rattle.pk_nand.specs.declared.types.LoadFault.{LoadFault}
 use Rattle.pk_nand.specs.declared.types.LoadFault.TheVariants.{Fault, BadImage, Memory}
-use Rattle.pk_remap.specs.declared.counts.BoardCounts.{BoardCounts}
-use Rattle.pk_remap.specs.declared.relocation.Relocation.{Relocation as InMemory}
-use Rattle.pk_remap.specs.Places.{inner_shape}
-use Rattle.pk_remap.specs.Places.{placed_page, through_by}
-use Rattle.pk_remap.specs.Table.{SpareTable}
-use Rattle.pk_remap.specs.Counting.{HasTable}
-use Rattle.pk_remap.specs.Causes.{LoadCause, inner_is_bad, MakeCause, inner_fault, not_allowed}
-use Rattle.pk_remap.specs.declared.image.Image.{Image}
+use Rattle.pk_remap.{specs.declared.counts.BoardCounts.BoardCounts, specs.declared.relocation.Relocation.Relocation as InMemory, specs.Table.SpareTable, specs.Counting.HasTable, specs.Logged.told}
+use Rattle.pk_remap.{specs.Places.inner_shape, specs.Places.placed_page, specs.Places.through_by, specs.declared.image.Image.Image, specs.declared.mark_log.MarkLog.MarkLog, proofs.Standing.shows}
+use Rattle.pk_remap.{specs.Causes.LoadCause, specs.Causes.inner_is_bad, specs.Causes.MakeCause, specs.Causes.inner_fault, specs.Causes.not_allowed, proofs.Counting.newest_is}
 use Rattle.pk_remap.specs.declared.image.Image.TheVariants.{Unknown, Missing, Unsure, Sure}
-use Rattle.pk_remap.specs.declared.mark_log.MarkLog.{MarkLog}
-use Rattle.pk_remap.specs.Logged.{told}
 use Rattle.pk_remap.specs.Remapped.{outer_pages, with_refusal, without_spares, remap_board, is_open, open_shape}
-use Rattle.pk_remap.specs.Answers.{LoadAnswers, MakeAnswers}
-use Rattle.pk_remap.proofs.Placing.{length-through, page-through, past-through}
-use Rattle.pk_remap.proofs.Standing.{shows}
-use Rattle.pk_remap.proofs.Counting.{newest_is}
+use Rattle.pk_remap.{specs.Answers.LoadAnswers, specs.Answers.MakeAnswers, proofs.Placing.length-through, proofs.Placing.page-through, proofs.Placing.past-through}
 use Rattle.pk_remap.proofs.Remapping.{opened, board_is, no_bool}
 
 -- ---- shapes

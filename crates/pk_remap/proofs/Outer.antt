@@ -1,57 +1,28 @@
 -- Calls of the outer flash over a relocation at rest.
-use Rattle.std.proofs.Common.{◌≡◌, ◌≢◌, ◌⊎◌, inl, inr, ℕ, zero, suc, ◌+◌, ◌-◌, ◌*◌, ◌/◌, ◌%◌, ◌<◌, ◌≤◌, Bool, true, false, List, [], length, take, refl, sym}
-use Rattle.std.proofs.Common.{ap}
-use Rattle.std.proofs.Common.{subst, ◌∙◌, arith, Some, None}
-use Rattle.std.specs.Prelude.{max, Result, Ok, Err, Vec, ◌==◌, ◌&&◌}
-use Rattle.std.proofs.Math.Nat.{mod-lt}
-use Rattle.std.proofs.lemmas.Bool.Decides.{nat_tests}
-use Rattle.std.proofs.lemmas.Nat.{div-add-mod'}
-use Rattle.std.specs.declared.alloc.Global.{Global}
-use Rattle.pk_base.specs.declared.sizes.TheConstants.{MOST_PAGE_BYTES}
-use Rattle.pk_base.specs.Shape.{Shape, page_count}
+use Rattle.std.proofs.Common.{◌≡◌, ◌≢◌, ◌⊎◌, inl, inr, ℕ, zero, suc, ◌+◌, ◌-◌, ◌*◌, ◌/◌, ◌%◌, ◌<◌, ◌≤◌, Bool, true, false, List, [], length, take, refl, sym, ap, subst, ◌∙◌, arith, Some, None}
+use Rattle.std.{specs.Prelude.max, specs.Prelude.Result, specs.Prelude.Ok, specs.Prelude.Err, specs.Prelude.Vec, specs.Prelude.◌==◌, specs.Prelude.◌&&◌, proofs.Math.Nat.mod-lt}
+use Rattle.std.{proofs.lemmas.Bool.Decides.nat_tests, proofs.lemmas.Nat.div-add-mod', specs.declared.alloc.Global.Global, proofs.lemmas.List.length-take-le}
+use Rattle.pk_base.{specs.declared.sizes.TheConstants.MOST_PAGE_BYTES, specs.Shape.Shape, specs.Shape.page_count, specs.Mark.Mark, specs.Mark.program, specs.Mark.erase, specs.Mark.after}
 use Rattle.pk_base.specs.Page.{Page, Flash, page_at, erased, whole, torn, IsPage, IsFlash}
-use Rattle.pk_base.specs.Mark.{Mark, program, erase, after}
-use Rattle.pk_nand.specs.BoardState.{BoardState}
-use Rattle.pk_nand.specs.Cut.{Interrupted}
+use Rattle.pk_nand.{specs.BoardState.BoardState, specs.Cut.Interrupted, proofs.Writing.shape_is, specs.Counts.after_reads, specs.Crash.Went, proofs.CutLemmas.interrupted_none, specs.Effects.OnlyFlash}
 use Rattle.pk_nand.proofs.Leaving.{interrupted_done, page_at-slice_set, IsFlash-interrupted, full_program, full_erase}
-use Rattle.pk_nand.proofs.Writing.{shape_is}
-use Rattle.pk_remap.proofs.Placing.{place-below, block_of as page_block, page-through, div-of, mod-of}
-use Rattle.pk_remap.proofs.Lifting.{times_le, placed_page-inside}
-use Rattle.pk_remap.proofs.Running.{went, none_pair}
-use Rattle.std.proofs.lemmas.List.{length-take-le}
-use Rattle.pk_nand.specs.Counts.{after_reads}
-use Rattle.pk_remap.specs.declared.layout.TheConstants.{MOST_SPARES}
-use Rattle.pk_remap.specs.declared.top.Top.{Top}
-use Rattle.pk_remap.specs.Table.{SpareTable, table_of, is_table}
-use Rattle.pk_remap.specs.Newest.{table_in, newest_table, IsNewest}
-use Rattle.pk_remap.specs.Searched.{table_found, UsesAtMost}
-use Rattle.pk_remap.proofs.TableLemmas.{page_spells}
-use Rattle.pk_remap.proofs.Finding.{found-newest}
-use Rattle.pk_nand.specs.Calls.{Rose, IsReady, after_program, ProgramFailed, LeftBy}
+use Rattle.pk_nand.{specs.Calls.Rose, specs.Calls.IsReady, specs.Calls.after_program, specs.Calls.ProgramFailed, specs.Calls.LeftBy, proofs.Reaching.Reached-start, proofs.Reaching.Went-reached}
 use Rattle.pk_nand.specs.Operations.{InOrder, after_read, after_erase, ReadFailed, EraseFailed}
-use Rattle.pk_nand.specs.Crash.{Went}
-use Rattle.pk_nand.proofs.Reaching.{Reached-start, Went-reached}
-use Rattle.pk_nand.proofs.CutLemmas.{interrupted_none}
-use Rattle.pk_remap.proofs.Standing.{may_show}
 use Rattle.pk_nand.specs.declared.types.NandFault.{NandFault}
-use Rattle.pk_remap.specs.declared.phase.Phase.TheVariants.{EraseSpare}
-use Rattle.pk_remap.specs.declared.relocation.Call.{Call}
-use Rattle.pk_remap.specs.declared.relocation.Call.TheVariants.{Program, Erase}
-use Rattle.pk_remap.specs.declared.relocation.Relocation.{Relocation as InMemory}
-use Rattle.pk_remap.specs.Places.{inner_shape, place, placed_page}
-use Rattle.pk_remap.specs.Through.{through, MayShow, mark_below}
+use Rattle.pk_remap.{proofs.Placing.place-below, proofs.Placing.block_of as page_block, proofs.Placing.page-through, proofs.Placing.div-of, proofs.Placing.mod-of, specs.declared.top.Top.Top}
+use Rattle.pk_remap.{proofs.Lifting.times_le, proofs.Lifting.placed_page-inside, proofs.Running.went, proofs.Running.none_pair, specs.declared.layout.TheConstants.MOST_SPARES}
+use Rattle.pk_remap.{specs.Table.SpareTable, specs.Table.table_of, specs.Table.is_table, specs.Newest.table_in, specs.Newest.newest_table, specs.Newest.IsNewest, proofs.TableLemmas.page_spells}
+use Rattle.pk_remap.{specs.Searched.table_found, specs.Searched.UsesAtMost, proofs.Finding.found-newest, proofs.Standing.may_show, specs.declared.phase.Phase.TheVariants.EraseSpare}
+use Rattle.pk_remap.{specs.declared.relocation.Call.Call, specs.declared.relocation.Call.TheVariants.Program, specs.declared.relocation.Call.TheVariants.Erase, specs.Stepping.RelocationGoesOn}
+use Rattle.pk_remap.{specs.declared.relocation.Relocation.Relocation as InMemory, specs.Places.inner_shape, specs.Places.place, specs.Places.placed_page, proofs.Turning.next_kept}
+use Rattle.pk_remap.{specs.Through.through, specs.Through.MayShow, specs.Through.mark_below, specs.Beginning.CanRelocate, specs.Beginning.CallHasFailed, proofs.Stepping.ready_again}
 use Rattle.pk_remap.specs.Relocating.{Relocation, block_of, copies_of, IsTop, SameTables}
-use Rattle.pk_remap.specs.Stepping.{RelocationGoesOn}
-use Rattle.pk_remap.specs.Beginning.{CanRelocate, CallHasFailed}
 use Rattle.pk_remap.specs.Running.{relocation_of, mark_of, HasPageBuffers, HasTurn, RelocationRuns, IsAtRest, SameCall}
-use Rattle.pk_remap.specs.Serving.{PassesCount, PassesCalls, ServingStops, ServingOutcome, read_failed, table_failed, spares_failed, page_is_torn, for_mark, outer_of}
-use Rattle.pk_remap.specs.Serving.{SameSpares, OuterCall, OuterOutcome, HasPartner, PartnerKept, PartnerOutcome, CanFind, FindOutcome, found_top, RelocationServes}
+use Rattle.pk_remap.specs.Serving.{PassesCount, PassesCalls, ServingStops, ServingOutcome, read_failed, table_failed, spares_failed, page_is_torn, for_mark, outer_of, SameSpares, OuterCall}
+use Rattle.pk_remap.specs.Serving.{OuterOutcome, HasPartner, PartnerKept, PartnerOutcome, CanFind, FindOutcome, found_top, RelocationServes}
 use Rattle.pk_remap.proofs.Calls.{erase_reached, erase_went, program_reached, program_went, left_interrupted}
 use Rattle.pk_remap.proofs.Beginning.{table_kept, calls_below, done_below, fails_below}
-use Rattle.pk_remap.proofs.Turning.{next_kept}
-use Rattle.pk_nand.specs.Effects.{OnlyFlash}
 use Rattle.pk_remap.specs.Counting.{SparesCounted, UsesOnlyTaken, HasTable, OuterFailed}
-use Rattle.pk_remap.proofs.Stepping.{ready_again}
 use Rattle.pk_remap.proofs.Counting.{only_same, only_read as only_after_read, only_read_failed, counted_done, has_table}
 
 -- a call before others

@@ -1,14 +1,10 @@
 -- Which inner blocks and pages have the outer ones: no inner block has two, and no unused spare and no table block has one.
-use Rattle.std.proofs.Common.{◌≡◌, ◌≢◌, ◌⊎◌, inl, inr, ℕ, zero, suc, ◌+◌, ◌*◌, ◌/◌, ◌%◌, ◌<◌, ◌≤◌, Bool, true, false, List, [], ◌∷◌, ◌++◌, length, refl, sym}
-use Rattle.std.proofs.Common.{ap, subst, ◌∙◌, arith, Some, zero-add, add-zero}
-use Rattle.std.specs.Prelude.{nat_eq, ◌==◌, if◌then◌else◌, slice_get, replicate}
-use Rattle.std.proofs.Math.Nat.{mod-lt}
-use Rattle.std.proofs.lemmas.Bool.Decides.{nat_tests}
+use Rattle.std.proofs.Common.{◌≡◌, ◌≢◌, ◌⊎◌, inl, inr, ℕ, zero, suc, ◌+◌, ◌*◌, ◌/◌, ◌%◌, ◌<◌, ◌≤◌, Bool, true, false, List, [], ◌∷◌, ◌++◌, length, refl, sym, ap, subst, ◌∙◌, arith, Some, zero-add}
+use Rattle.std.proofs.Common.{add-zero}
+use Rattle.std.{specs.Prelude.nat_eq, specs.Prelude.◌==◌, specs.Prelude.if◌then◌else◌, specs.Prelude.slice_get, specs.Prelude.replicate, proofs.Math.Nat.mod-lt, proofs.lemmas.Bool.Decides.nat_tests}
 use Rattle.std.proofs.lemmas.Nat.{div-mul-add, div-add-mod'}
-use Rattle.pk_base.specs.Shape.{Shape, page_count}
-use Rattle.pk_base.specs.Page.{Page, page_at, torn}
-use Rattle.pk_remap.specs.declared.layout.TheConstants.{FAILED}
-use Rattle.pk_remap.specs.Table.{SpareTable}
+use Rattle.pk_base.{specs.Shape.Shape, specs.Shape.page_count, specs.Page.Page, specs.Page.page_at, specs.Page.torn}
+use Rattle.pk_remap.{specs.declared.layout.TheConstants.FAILED, specs.Table.SpareTable}
 use Rattle.pk_remap.specs.Places.{serving, place, placed_page, pages_from, through_by, with_one_more}
 
 -- ---- the spare that serves a block

@@ -1,44 +1,22 @@
 -- A flash with spare blocks, as a board.
 use Rattle.std.proofs.Common.{◌≡◌, ◌≢◌, ◌⊎◌, inl, inr, ℕ, zero, suc, ◌+◌, ◌-◌, ◌*◌, ◌/◌, ◌<◌, ◌≤◌, Bool, true, false, List, [], ◌∷◌, length, refl, sym, ap, subst, ◌∙◌, arith, Option, Some, None}
 use Rattle.std.specs.Prelude.{unwrap_or, Result, Ok, Err, OnOk, OnErr}
-use Rattle.pk_base.specs.Shape.{Shape, IsShape, page_count}
-use Rattle.pk_base.specs.Page.{Flash, page_at, torn, IsFlash}
+use Rattle.pk_base.{specs.Shape.Shape, specs.Shape.IsShape, specs.Shape.page_count, specs.Page.Flash, specs.Page.page_at, specs.Page.torn, specs.Page.IsFlash}
 use Rattle.pk_base.specs.Mark.{Mark, program, erase, after}
-use Rattle.pk_nand.specs.BoardState.{BoardState, shape_of}
-use Rattle.pk_nand.specs.Cut.{Interrupted}
-use Rattle.pk_nand.specs.Calls.{IsReady, Rose, counted, longer, after_program, ProgramFailed}
-use Rattle.pk_nand.specs.Operations.{after_read, after_erase, EraseFailed, ReadFailed}
-use Rattle.pk_nand.specs.Effects.{OnlyFlash, OnlyReading}
-use Rattle.pk_nand.specs.Crash.{Went}
-use Rattle.pk_nand.specs.declared.types.NandFault.{NandFault}
-use Rattle.pk_nand.proofs.Effects.{only_then}
-use Rattle.pk_nand.proofs.CutLemmas.{interrupted_none}
+use Rattle.pk_nand.{specs.BoardState.BoardState, specs.BoardState.shape_of, specs.Cut.Interrupted, specs.Effects.OnlyFlash, specs.Effects.OnlyReading, specs.Crash.Went, proofs.Effects.only_then}
+use Rattle.pk_nand.{specs.Calls.IsReady, specs.Calls.Rose, specs.Calls.counted, specs.Calls.longer, specs.Calls.after_program, specs.Calls.ProgramFailed, specs.declared.types.NandFault.NandFault}
+use Rattle.pk_nand.{specs.Operations.after_read, specs.Operations.after_erase, specs.Operations.EraseFailed, specs.Operations.ReadFailed, proofs.CutLemmas.interrupted_none, specs.Counts.after_reads}
 use Rattle.pk_nand.proofs.Reaching.{Reached-start, Went-reached}
-use Rattle.pk_remap.specs.declared.layout.TheConstants.{MOST_SPARES}
-use Rattle.pk_remap.specs.declared.counts.BoardCounts.{BoardCounts}
-use Rattle.pk_remap.specs.declared.image.Image.{Image}
+use Rattle.pk_remap.{specs.declared.layout.TheConstants.MOST_SPARES, specs.declared.counts.BoardCounts.BoardCounts, specs.declared.image.Image.Image, specs.declared.mark_log.MarkLog.MarkLog}
 use Rattle.pk_remap.specs.declared.image.Image.TheVariants.{Unknown, Missing, Unsure, Sure}
-use Rattle.pk_remap.specs.declared.mark_log.MarkLog.{MarkLog}
-use Rattle.pk_remap.specs.declared.relocation.Relocation.{Relocation as InMemory}
-use Rattle.pk_remap.specs.Table.{SpareTable}
-use Rattle.pk_remap.specs.Newest.{newest_table, IsNewest}
-use Rattle.pk_remap.specs.Places.{inner_shape, placed_page, through_by}
-use Rattle.pk_remap.specs.Through.{through, MayShow}
-use Rattle.pk_remap.specs.Relocating.{block_of, copies_of}
-use Rattle.pk_remap.specs.Stepping.{IsTableBlock}
-use Rattle.pk_remap.specs.Running.{relocation_of, HasPageBuffers, IsAtRest}
+use Rattle.pk_remap.{specs.declared.relocation.Relocation.Relocation as InMemory, specs.Table.SpareTable, specs.Newest.newest_table, specs.Newest.IsNewest, specs.Stepping.IsTableBlock}
+use Rattle.pk_remap.{specs.Places.inner_shape, specs.Places.placed_page, specs.Places.through_by, specs.Through.through, specs.Through.MayShow, specs.Relocating.block_of, specs.Relocating.copies_of}
+use Rattle.pk_remap.{specs.Running.relocation_of, specs.Running.HasPageBuffers, specs.Running.IsAtRest, specs.Counting.SparesCounted, specs.Counting.HasTable, specs.Counting.OuterCounts}
 use Rattle.pk_remap.specs.Serving.{PassesCount, PassesCalls, ServingStops, read_failed, table_failed, spares_failed, page_is_torn, for_mark, outer_of, OuterOutcome, SameSpares}
-use Rattle.pk_remap.specs.Counting.{SparesCounted, HasTable, OuterCounts}
-use Rattle.pk_remap.specs.Logged.{told}
-use Rattle.pk_remap.specs.Remapped.{outer_pages, is_open, is_missing, is_sure, open_spares_left, spares_left, with_stop, remap_board, RemapHolds, HasLog}
-use Rattle.pk_remap.specs.Remapped.{SameTaken, TableIsFound, TableNotFound}
-use Rattle.pk_nand.specs.Counts.{after_reads}
+use Rattle.pk_remap.{specs.Logged.told, proofs.Placing.length-through, proofs.Finding.newest-found, proofs.Finding.found-newest, proofs.Standing.shows, proofs.Standing.may_show}
+use Rattle.pk_remap.specs.Remapped.{outer_pages, is_open, is_missing, is_sure, open_spares_left, spares_left, with_stop, remap_board, RemapHolds, HasLog, SameTaken, TableIsFound, TableNotFound}
 use Rattle.pk_remap.specs.Causes.{SparesFallBy, IsRefused, StopCause, read_fault, table_fault, no_spare_left, torn_page, MarkMade}
-use Rattle.pk_remap.proofs.Placing.{length-through}
-use Rattle.pk_remap.proofs.Finding.{newest-found, found-newest}
-use Rattle.pk_remap.proofs.Standing.{shows, may_show}
-use Rattle.pk_remap.proofs.Outer.{passes_before}
-use Rattle.pk_remap.proofs.Counting.{newest_is, has_table}
+use Rattle.pk_remap.{proofs.Outer.passes_before, proofs.Counting.newest_is, proofs.Counting.has_table}
 
 -- ---- what is known between calls
 

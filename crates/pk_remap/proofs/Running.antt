@@ -1,50 +1,27 @@
 -- The steps of a relocation in memory.
-use Rattle.std.proofs.Common.{◌≡◌, ◌≢◌, ℕ, suc, ◌+◌, ◌-◌, ◌*◌, ◌/◌, ◌%◌, ◌<◌, ◌≤◌, Bool, true, false, List, [], length, take, refl, sym, ap, subst, ◌∙◌, arith}
-use Rattle.std.proofs.Common.{Some, None, inl, inr}
+use Rattle.std.proofs.Common.{◌≡◌, ◌≢◌, ℕ, suc, ◌+◌, ◌-◌, ◌*◌, ◌/◌, ◌%◌, ◌<◌, ◌≤◌, Bool, true, false, List, [], length, take, refl, sym, ap, subst, ◌∙◌, arith, Some, None, inl, inr}
 use Rattle.std.specs.Prelude.{nat_lt, nat_eq, slice_set, ◌==◌, ◌&&◌, if◌then◌else◌, Option, Result, Ok, Err, IfOk, IsErr, OnErr, Vec}
-use Rattle.std.specs.declared.alloc.Global.{Global}
-use Rattle.std.proofs.lemmas.Bool.Decides.{nat_tests}
-use Rattle.std.proofs.lemmas.Nat.{div-add-mod'}
-use Rattle.std.proofs.lemmas.List.{length-take-le}
-use Rattle.pk_base.specs.declared.sizes.TheConstants.{MOST_PAGE_BYTES}
-use Rattle.pk_remap.specs.declared.layout.TheConstants.{MOST_SPARES}
-use Rattle.pk_base.specs.Shape.{Shape, page_count}
+use Rattle.std.{specs.declared.alloc.Global.Global, proofs.lemmas.Bool.Decides.nat_tests, proofs.lemmas.Nat.div-add-mod', proofs.lemmas.List.length-take-le}
+use Rattle.pk_base.{specs.declared.sizes.TheConstants.MOST_PAGE_BYTES, specs.Shape.Shape, specs.Shape.page_count}
 use Rattle.pk_base.specs.Page.{Page, Flash, page_at, erased, whole, torn as torn_page, IsPage}
 use Rattle.pk_base.specs.Mark.{Mark, program, erase, post, after}
-use Rattle.pk_nand.specs.BoardState.{BoardState}
-use Rattle.pk_nand.specs.Calls.{Rose, after_program, ProgramFailed}
-use Rattle.pk_nand.specs.Operations.{InOrder, filled, after_read, after_erase, ReadFailed, EraseFailed}
-use Rattle.pk_nand.specs.Crash.{Reached, Went}
-use Rattle.pk_nand.specs.declared.types.NandFault.{NandFault}
-use Rattle.pk_nand.proofs.Reaching.{Reached-start, Went-reached}
-use Rattle.pk_nand.proofs.Leaving.{page_at-slice_set_same}
-use Rattle.pk_remap.specs.declared.phase.Phase.{Phase}
+use Rattle.pk_remap.{specs.declared.layout.TheConstants.MOST_SPARES, specs.declared.phase.Phase.Phase, specs.declared.relocation.Call.Call, specs.declared.relocation.Relocation.Relocation as InMemory}
 use Rattle.pk_remap.specs.declared.phase.Phase.TheVariants.{EraseSpare, Read, Write, EraseTable, First, Second}
-use Rattle.pk_remap.specs.declared.relocation.Call.{Call}
-use Rattle.pk_remap.specs.declared.relocation.Call.TheVariants.{Program, Erase}
-use Rattle.pk_remap.specs.declared.relocation.Relocation.{Relocation as InMemory}
-use Rattle.pk_remap.specs.Table.{SpareTable, table_bytes, is_table}
-use Rattle.pk_remap.specs.Places.{inner_shape, place, placed_page}
-use Rattle.pk_remap.specs.Newest.{IsTablePage, IsNewest}
-use Rattle.pk_remap.specs.Through.{MayShow, IsMarkWithin}
-use Rattle.pk_nand.proofs.Writing.{shape_is, mod-next}
-use Rattle.pk_remap.proofs.Placing.{div-of, mod-of, place-below}
-use Rattle.pk_remap.proofs.Lifting.{placed_page-inside}
-use Rattle.pk_nand.specs.Seen.{answer}
-use Rattle.pk_nand.specs.declared.types.PageRead.TheVariants.{Whole, Erased as ReadErased, Torn as ReadTorn}
-use Rattle.pk_remap.specs.Relocating.{Relocation, block, copies_of, fill_of, spare_block, spare_page, next_table, IsSpareFilled, IsSpareFull, IsRelocating}
-use Rattle.pk_remap.specs.Relocating.{IsTop, SameTables, IsNextPair}
+use Rattle.pk_remap.{specs.declared.relocation.Call.TheVariants.Program, specs.declared.relocation.Call.TheVariants.Erase, specs.Table.SpareTable, specs.Table.table_bytes, specs.Table.is_table}
+use Rattle.pk_remap.{specs.Places.inner_shape, specs.Places.place, specs.Places.placed_page, specs.Newest.IsTablePage, specs.Newest.IsNewest, specs.Through.MayShow, specs.Through.IsMarkWithin}
+use Rattle.pk_remap.{proofs.Placing.div-of, proofs.Placing.mod-of, proofs.Placing.place-below, proofs.Lifting.placed_page-inside, proofs.TableLemmas.table_parts}
+use Rattle.pk_remap.specs.Relocating.{Relocation, block, copies_of, fill_of, spare_block, spare_page, next_table, IsSpareFilled, IsSpareFull, IsRelocating, IsTop, SameTables, IsNextPair}
 use Rattle.pk_remap.specs.Stepping.{WentSafely, RelocationGoesOn, IsSource, IsOtherTable, SpareFailed}
-use Rattle.pk_remap.specs.Running.{mark_of, is_program, relocation_of, copies, is_kept, bytes_for, next_after, with_table, table_phase, phase_after, phase_rank}
-use Rattle.pk_remap.specs.Running.{relocation_steps_left}
-use Rattle.pk_remap.specs.Running.{IsTableHalf, AtPhase, HasPageBuffers, HasTurn, RelocationRuns, SameCall, NoReadFailed}
-use Rattle.pk_remap.specs.Running.{RelocationStops, StepOutcome, reading, in_table, no_spare, torn}
-use Rattle.pk_remap.proofs.TableLemmas.{table_parts}
+use Rattle.pk_remap.specs.Running.{mark_of, is_program, relocation_of, copies, is_kept, bytes_for, next_after, with_table, table_phase, phase_after, phase_rank, relocation_steps_left, IsTableHalf}
+use Rattle.pk_remap.specs.Running.{AtPhase, HasPageBuffers, HasTurn, RelocationRuns, SameCall, NoReadFailed, RelocationStops, StepOutcome, reading, in_table, no_spare, torn}
 use Rattle.pk_remap.proofs.Cutting.{none_cut, block_inside, next_grammar}
 use Rattle.pk_remap.proofs.Turning.{block_of_table, next_kept, next_pair, erased_pair, second_order, following_pair}
-use Rattle.pk_remap.proofs.Stepping.{copies_written, copies_less, low_inside, writes_in_order, erases_spare, fails_to_erase_spare, reads_source, writes_page}
-use Rattle.pk_remap.proofs.Stepping.{fails_to_write, fills, erases_table, fails_to_erase_table, writes_first, fails_to_write_first, writes_second}
-use Rattle.pk_remap.proofs.Stepping.{fails_to_write_second}
+use Rattle.pk_remap.proofs.Stepping.{copies_written, copies_less, low_inside, writes_in_order, erases_spare, fails_to_erase_spare, reads_source, writes_page, fails_to_write, fills, erases_table}
+use Rattle.pk_remap.proofs.Stepping.{fails_to_erase_table, writes_first, fails_to_write_first, writes_second, fails_to_write_second}
+use Rattle.pk_nand.{specs.BoardState.BoardState, specs.Calls.Rose, specs.Calls.after_program, specs.Calls.ProgramFailed, specs.Crash.Reached, specs.Crash.Went, proofs.Leaving.page_at-slice_set_same}
+use Rattle.pk_nand.specs.Operations.{InOrder, filled, after_read, after_erase, ReadFailed, EraseFailed}
+use Rattle.pk_nand.{specs.declared.types.NandFault.NandFault, proofs.Reaching.Reached-start, proofs.Reaching.Went-reached, proofs.Writing.shape_is, proofs.Writing.mod-next, specs.Seen.answer}
+use Rattle.pk_nand.specs.declared.types.PageRead.TheVariants.{Whole, Erased as ReadErased, Torn as ReadTorn}
 
 -- ---- numbers of a call
 

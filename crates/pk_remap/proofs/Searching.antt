@@ -1,18 +1,9 @@
 -- A search through table pages from the lowest on finds the newest table.
 use Rattle.std.proofs.Common.{◌≡◌, ◌≢◌, inl, inr, ℕ, suc, ◌+◌, ◌*◌, ◌<◌, ◌≤◌, Bool, true, false, List, refl, sym, ap, subst, ◌∙◌, arith, Option, Some, None}
-use Rattle.std.specs.Prelude.{nat_lt, nat_eq, if◌then◌else◌}
-use Rattle.std.proofs.lemmas.Bool.Decides.{nat_tests}
-use Rattle.pk_base.specs.Shape.{Shape}
-use Rattle.pk_base.specs.Page.{Page, erased, whole, torn}
-use Rattle.pk_nand.specs.BoardState.{BoardState}
-use Rattle.pk_nand.specs.Calls.{Rose}
-use Rattle.pk_nand.specs.Counts.{after_reads}
-use Rattle.pk_nand.specs.Effects.{OnlyReading}
-use Rattle.pk_nand.specs.Operations.{filled, ReadFailed}
-use Rattle.pk_nand.specs.Seen.{answer}
-use Rattle.pk_remap.specs.Table.{SpareTable}
-use Rattle.pk_remap.specs.Newest.{table_in, newest_table, first_table_page, IsNewer}
-use Rattle.pk_remap.specs.Counting.{SearchFailed}
+use Rattle.std.{specs.Prelude.nat_lt, specs.Prelude.nat_eq, specs.Prelude.if◌then◌else◌, proofs.lemmas.Bool.Decides.nat_tests}
+use Rattle.pk_base.{specs.Shape.Shape, specs.Page.Page, specs.Page.erased, specs.Page.whole, specs.Page.torn}
+use Rattle.pk_nand.{specs.BoardState.BoardState, specs.Calls.Rose, specs.Counts.after_reads, specs.Effects.OnlyReading, specs.Operations.filled, specs.Operations.ReadFailed, specs.Seen.answer}
+use Rattle.pk_remap.{specs.Table.SpareTable, specs.Newest.table_in, specs.Newest.newest_table, specs.Newest.first_table_page, specs.Newest.IsNewer, specs.Counting.SearchFailed}
 use Rattle.pk_remap.specs.Searched.{newer_at, table_read}
 use Rattle.pk_remap.proofs.Finding.{Found, newest-found, found-newest, same_table, none_some}
 

@@ -1,19 +1,11 @@
 -- The steps of a relocation one after another.
 use Rattle.std.proofs.Common.{◌≡◌, inl, inr, ℕ, suc, ◌+◌, ◌*◌, ◌<◌, true, false, refl, sym, ap, subst, ◌∙◌, arith, Some}
 use Rattle.std.specs.Prelude.{Ok, Err}
-use Rattle.pk_base.specs.Page.{Flash, page_at, torn as torn_page}
-use Rattle.pk_base.specs.Mark.{after}
-use Rattle.pk_nand.specs.BoardState.{BoardState}
-use Rattle.pk_nand.specs.Calls.{Rose}
-use Rattle.pk_nand.specs.Crash.{Went}
-use Rattle.pk_nand.specs.declared.types.NandFault.{NandFault}
-use Rattle.pk_remap.specs.declared.relocation.Relocation.{Relocation as InMemory}
-use Rattle.pk_remap.specs.Places.{placed_page}
-use Rattle.pk_remap.specs.Through.{through, MayShow}
+use Rattle.pk_base.{specs.Page.Flash, specs.Page.page_at, specs.Page.torn as torn_page, specs.Mark.after}
+use Rattle.pk_nand.{specs.BoardState.BoardState, specs.Calls.Rose, specs.Crash.Went, specs.declared.types.NandFault.NandFault}
+use Rattle.pk_remap.{specs.declared.relocation.Relocation.Relocation as InMemory, specs.Places.placed_page, specs.Through.through, specs.Through.MayShow, specs.Stepping.IsTableBlock}
 use Rattle.pk_remap.specs.Relocating.{Relocation, block, copies_of}
-use Rattle.pk_remap.specs.Stepping.{IsTableBlock}
-use Rattle.pk_remap.specs.Running.{relocation_of, AtPhase, RelocationRuns, SameCall, NoReadFailed, RelocationStops, StepOutcome, reading}
-use Rattle.pk_remap.specs.Running.{in_table, no_spare, torn}
+use Rattle.pk_remap.specs.Running.{relocation_of, AtPhase, RelocationRuns, SameCall, NoReadFailed, RelocationStops, StepOutcome, reading, in_table, no_spare, torn}
 use Rattle.pk_remap.specs.Serving.{PassesSafely, ServingStops, ServingOutcome, read_failed, table_failed, spares_failed, page_is_torn}
 
 -- after some steps that go on

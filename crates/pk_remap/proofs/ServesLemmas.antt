@@ -1,17 +1,10 @@
 -- The blocks of used spares in a table page: steps of the loops over them, and their check.
 use Rattle.std.proofs.Common.{◌≡◌, ℕ, suc, ◌+◌, ◌-◌, ◌*◌, ◌<◌, Bool, true, false, List, [], ◌∷◌, drop, refl, sym, ap, ◌∙◌, arith, Option, Some, None}
-use Rattle.std.specs.Prelude.{nat_lt, nat_eq, ◌&&◌, ◌||◌}
-use Rattle.std.specs.List.{list_all}
-use Rattle.std.proofs.lemmas.Bool.Decides.{nat_tests}
-use Rattle.std.proofs.lemmas.List.{drop-drop}
-use Rattle.pk_base.specs.Fields.{u16_at}
-use Rattle.pk_base.specs.FieldFaults.{unless, first_fault}
-use Rattle.pk_base.specs.Shape.{Shape, IsShape}
+use Rattle.std.{specs.Prelude.nat_lt, specs.Prelude.nat_eq, specs.Prelude.◌&&◌, specs.Prelude.◌||◌, specs.List.list_all, proofs.lemmas.Bool.Decides.nat_tests, proofs.lemmas.List.drop-drop}
+use Rattle.pk_base.{specs.Fields.u16_at, specs.FieldFaults.unless, specs.FieldFaults.first_fault, specs.Shape.Shape, specs.Shape.IsShape, proofs.Logic.both_true}
 use Rattle.pk_base.proofs.Tables.{all_none, first_none, unless_true, true_unless}
 use Rattle.pk_rootfmt.specs.Root.{u16s_at}
-use Rattle.pk_base.proofs.Logic.{both_true}
-use Rattle.pk_remap.specs.Table.{is_served}
-use Rattle.pk_remap.specs.Fault.{serves_fault}
+use Rattle.pk_remap.{specs.Table.is_served, specs.Fault.serves_fault}
 
 -- the numbers that remain begin with the one here
 pub left_more : (page : List ℕ) (i count : ℕ) → i < count

@@ -1,23 +1,11 @@
 -- What inner calls that are no outer calls leave of the outer flash: on an unused spare, on the other table block, and on a pair of table pages.
-use Rattle.std.proofs.Common.{◌≡◌, ◌≢◌, ◌⊎◌, inl, inr, ℕ, suc, ◌+◌, ◌*◌, ◌/◌, ◌%◌, ◌<◌, ◌≤◌, Bool, true, false, List, [], length, refl, sym, ap, ◌∙◌}
-use Rattle.std.proofs.Common.{arith, Option, Some, None}
-use Rattle.std.specs.Prelude.{nat_lt, option_map}
-use Rattle.std.proofs.Math.Nat.{mod-lt}
-use Rattle.std.proofs.lemmas.Bool.Decides.{nat_tests}
-use Rattle.std.proofs.lemmas.Nat.{div-add-mod'}
-use Rattle.pk_base.specs.Shape.{Shape, page_count}
-use Rattle.pk_base.specs.Page.{Page, Flash, page_at}
-use Rattle.pk_base.specs.Mark.{Mark, program, erase}
-use Rattle.pk_nand.specs.Cut.{Interrupted, MayLeave, IsPartner, touched_block}
-use Rattle.pk_nand.proofs.Leaving.{same_pages}
-use Rattle.pk_nand.proofs.Touching.{elsewhere}
-use Rattle.pk_remap.specs.Table.{SpareTable, table_bytes, table_page}
-use Rattle.pk_remap.specs.Places.{inner_shape, placed_page, through_by}
-use Rattle.pk_remap.specs.Newest.{table_in, IsTablePage, IsNewest}
-use Rattle.pk_remap.specs.Through.{through, MayShow}
+use Rattle.std.proofs.Common.{◌≡◌, ◌≢◌, ◌⊎◌, inl, inr, ℕ, suc, ◌+◌, ◌*◌, ◌/◌, ◌%◌, ◌<◌, ◌≤◌, Bool, true, false, List, [], length, refl, sym, ap, ◌∙◌, arith, Option, Some, None}
+use Rattle.std.{specs.Prelude.nat_lt, specs.Prelude.option_map, proofs.Math.Nat.mod-lt, proofs.lemmas.Bool.Decides.nat_tests, proofs.lemmas.Nat.div-add-mod'}
+use Rattle.pk_base.{specs.Shape.Shape, specs.Shape.page_count, specs.Page.Page, specs.Page.Flash, specs.Page.page_at, specs.Mark.Mark, specs.Mark.program, specs.Mark.erase}
+use Rattle.pk_nand.{specs.Cut.Interrupted, specs.Cut.MayLeave, specs.Cut.IsPartner, specs.Cut.touched_block, proofs.Leaving.same_pages, proofs.Touching.elsewhere}
+use Rattle.pk_remap.{specs.Table.SpareTable, specs.Table.table_bytes, specs.Table.table_page, specs.Places.inner_shape, specs.Places.placed_page, specs.Places.through_by, proofs.Lifting.less_times}
+use Rattle.pk_remap.{specs.Newest.table_in, specs.Newest.IsTablePage, specs.Newest.IsNewest, specs.Through.through, specs.Through.MayShow, proofs.Finding.newest-found, proofs.Finding.newest-kept}
 use Rattle.pk_remap.proofs.Placing.{place-below, placed_page-div, block_of, length-through, page-through, past-through}
-use Rattle.pk_remap.proofs.Finding.{newest-found, newest-kept}
-use Rattle.pk_remap.proofs.Lifting.{less_times}
 
 -- the newest table determines the outer flash
 pub shows : (shape : Shape) (spares : ℕ) (flash : Flash) (page : ℕ) (table : SpareTable) → IsNewest shape spares (page_at flash) page table

@@ -1,36 +1,19 @@
 -- The steps of a relocation, call by call.
-use Rattle.std.proofs.Common.{◌≡◌, ◌≢◌, ◌⊎◌, inl, inr, ℕ, suc, ◌+◌, ◌-◌, ◌*◌, ◌/◌, ◌%◌, ◌<◌, ◌≤◌, Bool, true, false, List, [], length, refl, sym, ap, subst}
-use Rattle.std.proofs.Common.{◌∙◌, arith, Some, zero-add}
-use Rattle.std.specs.Prelude.{nat_eq, nat_lt}
-use Rattle.std.proofs.Math.Nat.{mod-lt}
-use Rattle.std.proofs.lemmas.Bool.Decides.{nat_tests}
-use Rattle.std.proofs.lemmas.Nat.{div-add-mod'}
-use Rattle.pk_base.specs.Shape.{Shape, page_count}
+use Rattle.std.proofs.Common.{◌≡◌, ◌≢◌, ◌⊎◌, inl, inr, ℕ, suc, ◌+◌, ◌-◌, ◌*◌, ◌/◌, ◌%◌, ◌<◌, ◌≤◌, Bool, true, false, List, [], length, refl, sym, ap, subst, ◌∙◌, arith, Some, zero-add}
+use Rattle.std.{specs.Prelude.nat_eq, specs.Prelude.nat_lt, proofs.Math.Nat.mod-lt, proofs.lemmas.Bool.Decides.nat_tests, proofs.lemmas.Nat.div-add-mod'}
+use Rattle.pk_base.{specs.Shape.Shape, specs.Shape.page_count, specs.Mark.Mark, specs.Mark.program, specs.Mark.erase, specs.Mark.post, specs.Mark.after}
 use Rattle.pk_base.specs.Page.{Page, Flash, page_at, erased, whole, torn, IsPage, IsFlash}
-use Rattle.pk_base.specs.Mark.{Mark, program, erase, post, after}
-use Rattle.pk_nand.specs.BoardState.{BoardState, shape_of}
-use Rattle.pk_nand.specs.Cut.{Interrupted, MayLeave, touched_block}
-use Rattle.pk_nand.specs.Calls.{IsReady, after_program, ProgramFailed, LeftBy, Rose}
-use Rattle.pk_nand.specs.Operations.{after_erase, EraseFailed}
-use Rattle.pk_nand.proofs.Leaving.{IsFlash-interrupted, IsFlash-after, full_program, full_erase, page_at-slice_set, page_at-slice_set_same, page_at-erased_from}
-use Rattle.pk_nand.proofs.Leaving.{page-erased_in}
-use Rattle.pk_nand.proofs.Writing.{shape_is}
-use Rattle.pk_remap.specs.Table.{table_bytes}
-use Rattle.pk_remap.specs.Places.{inner_shape, placed_page, through_by}
-use Rattle.pk_remap.specs.Newest.{table_in, IsTablePage, IsNewest, IsNewestBeside}
-use Rattle.pk_remap.specs.Through.{MayShow, IsMarkWithin}
-use Rattle.pk_remap.specs.Relocating.{Relocation, block_of, block, copies_of, fill_of, spare_block, spare_page, next_table, IsSpareFilled, IsSpareFull, IsCall}
-use Rattle.pk_remap.specs.Relocating.{IsRelocating, IsTop, IsTablePair}
-use Rattle.pk_remap.specs.Stepping.{with_next_spare, ReachedSafely, WentSafely, RelocationGoesOn, SpareErased, PageWritten, SpareFailed, TableErased}
-use Rattle.pk_remap.specs.Stepping.{FirstWritten, SecondWritten, IsOtherTable, IsSource, ErasesSpare, FailsToEraseSpare, ReadsSource, WritesInOrder}
-use Rattle.pk_remap.specs.Stepping.{WritesSpare, FailsToWriteSpare, Fills, ErasesTable, FailsToEraseTable, WritesFirst, FailsToWriteFirst, WritesSecond}
-use Rattle.pk_remap.specs.Stepping.{FailsToWriteSecond}
-use Rattle.pk_remap.proofs.Placing.{page-through, div-of, mod-of}
-use Rattle.pk_remap.proofs.Finding.{pair-first}
-use Rattle.pk_remap.proofs.Lifting.{times_le}
-use Rattle.pk_remap.proofs.Standing.{shows, NoneOr}
-use Rattle.pk_remap.proofs.Cutting.{some, spare_before_tables, spare_top, spare_tables, spare_above, spare_cut, turn_top, turn_above, turn_cut, next_again, pair_table, OneOfTables}
-use Rattle.pk_remap.proofs.Cutting.{exchange}
+use Rattle.pk_nand.{specs.BoardState.BoardState, specs.BoardState.shape_of, specs.Cut.Interrupted, specs.Cut.MayLeave, specs.Cut.touched_block, proofs.Writing.shape_is}
+use Rattle.pk_nand.{specs.Calls.IsReady, specs.Calls.after_program, specs.Calls.ProgramFailed, specs.Calls.LeftBy, specs.Calls.Rose, specs.Operations.after_erase, specs.Operations.EraseFailed}
+use Rattle.pk_nand.proofs.Leaving.{IsFlash-interrupted, IsFlash-after, full_program, full_erase, page_at-slice_set, page_at-slice_set_same, page_at-erased_from, page-erased_in}
+use Rattle.pk_remap.{specs.Table.table_bytes, specs.Places.inner_shape, specs.Places.placed_page, specs.Places.through_by, specs.Through.MayShow, specs.Through.IsMarkWithin, proofs.Finding.pair-first}
+use Rattle.pk_remap.{specs.Newest.table_in, specs.Newest.IsTablePage, specs.Newest.IsNewest, specs.Newest.IsNewestBeside, proofs.Placing.page-through, proofs.Placing.div-of, proofs.Placing.mod-of}
+use Rattle.pk_remap.specs.Relocating.{Relocation, block_of, block, copies_of, fill_of, spare_block, spare_page, next_table, IsSpareFilled, IsSpareFull, IsCall, IsRelocating, IsTop, IsTablePair}
+use Rattle.pk_remap.specs.Stepping.{with_next_spare, ReachedSafely, WentSafely, RelocationGoesOn, SpareErased, PageWritten, SpareFailed, TableErased, FirstWritten, SecondWritten, IsOtherTable}
+use Rattle.pk_remap.specs.Stepping.{IsSource, ErasesSpare, FailsToEraseSpare, ReadsSource, WritesInOrder, WritesSpare, FailsToWriteSpare, Fills, ErasesTable, FailsToEraseTable, WritesFirst}
+use Rattle.pk_remap.specs.Stepping.{FailsToWriteFirst, WritesSecond, FailsToWriteSecond}
+use Rattle.pk_remap.{proofs.Lifting.times_le, proofs.Standing.shows, proofs.Standing.NoneOr}
+use Rattle.pk_remap.proofs.Cutting.{some, spare_before_tables, spare_top, spare_tables, spare_above, spare_cut, turn_top, turn_above, turn_cut, next_again, pair_table, OneOfTables, exchange}
 use Rattle.pk_remap.proofs.Cutting.{spare_page_before, pair_full, pair_above, pair_beside, pair_cut}
 use Rattle.pk_remap.proofs.Calls.{program_reached, program_went, erase_reached, erase_went, left_interrupted, done_interrupted}
 

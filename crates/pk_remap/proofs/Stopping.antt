@@ -3,25 +3,13 @@ use Rattle.std.proofs.Common.{◌≡◌, ℕ, suc, ◌+◌, ◌<◌, ◌≤◌, 
 use Rattle.std.specs.Prelude.{Result, Ok, Err, IsErr, IfOk, Vec, Option, None}
 use Rattle.std.specs.declared.alloc.Global.{Global}
 use Rattle.pk_base.specs.Page.{Flash, IsPage, IsFlash}
-use Rattle.pk_nand.specs.BoardState.{BoardState}
-use Rattle.pk_nand.specs.Calls.{IsReady, Rose, ProgramFailed}
-use Rattle.pk_nand.specs.Operations.{EraseFailed}
-use Rattle.pk_nand.specs.Effects.{OnlyFlash}
-use Rattle.pk_nand.proofs.Effects.{stops_erase, stops_program}
-use Rattle.pk_nand.specs.declared.types.NandFault.{NandFault}
-use Rattle.pk_remap.specs.declared.phase.Phase.{Phase}
+use Rattle.pk_nand.{specs.BoardState.BoardState, specs.Calls.IsReady, specs.Calls.Rose, specs.Calls.ProgramFailed, specs.Operations.EraseFailed, specs.Effects.OnlyFlash}
+use Rattle.pk_nand.{proofs.Effects.stops_erase, proofs.Effects.stops_program, specs.declared.types.NandFault.NandFault}
+use Rattle.pk_remap.{specs.declared.phase.Phase.Phase, specs.declared.relocation.Relocation.Relocation as InMemory, specs.Table.table_bytes, specs.Places.inner_shape, proofs.Cutting.OneOfTables}
 use Rattle.pk_remap.specs.declared.phase.Phase.TheVariants.{EraseSpare, Read, EraseTable, First, Second}
-use Rattle.pk_remap.specs.declared.relocation.Relocation.{Relocation as InMemory}
-use Rattle.pk_remap.specs.Table.{table_bytes}
-use Rattle.pk_remap.specs.Places.{inner_shape}
-use Rattle.pk_remap.specs.Relocating.{next_table, IsTop}
-use Rattle.pk_remap.specs.Stepping.{IsOtherTable, SpareFailed}
-use Rattle.pk_remap.specs.Counting.{SparesCounted, HasTable, StepCounts}
-use Rattle.pk_remap.specs.Running.{relocation_of, AtPhase, RelocationRuns, IsTableHalf}
-use Rattle.pk_remap.proofs.Turning.{next_pair, erased_pair}
-use Rattle.pk_remap.proofs.Cutting.{OneOfTables}
-use Rattle.pk_remap.proofs.Stepping.{table_erase_top, first_left, second_left}
-use Rattle.pk_remap.proofs.Running.{half_erased}
+use Rattle.pk_remap.{specs.Relocating.next_table, specs.Relocating.IsTop, specs.Stepping.IsOtherTable, specs.Stepping.SpareFailed, proofs.Turning.next_pair, proofs.Turning.erased_pair}
+use Rattle.pk_remap.{specs.Counting.SparesCounted, specs.Counting.HasTable, specs.Counting.StepCounts, proofs.Stepping.table_erase_top, proofs.Stepping.first_left, proofs.Stepping.second_left}
+use Rattle.pk_remap.{specs.Running.relocation_of, specs.Running.AtPhase, specs.Running.RelocationRuns, specs.Running.IsTableHalf, proofs.Running.half_erased}
 use Rattle.pk_remap.proofs.Counting.{counted_done, counted_failed, has_table}
 
 module _ (r : InMemory) (before : Flash) (old : BoardState) (runs : RelocationRuns r before old) where

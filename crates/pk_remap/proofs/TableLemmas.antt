@@ -1,18 +1,13 @@
 -- The check of a page passes exactly the pages of tables.
-use Rattle.std.proofs.Common.{◌≡◌, ℕ, ◌+◌, ◌-◌, ◌*◌, ◌<◌, ◌≤◌, Bool, true, false, List, [], ◌∷◌, ◌++◌, length, take, drop, get_or, refl, sym, ap, subst, ◌∙◌}
-use Rattle.std.proofs.Common.{arith, length-drop, get_or-drop, Option, Some, None}
-use Rattle.std.specs.Prelude.{nat_eq, nat_le, ◌&&◌, if◌then◌else◌, bytes_eq}
-use Rattle.std.specs.List.{flat_map, list_all}
-use Rattle.std.proofs.lemmas.Bool.Decides.{nat_tests}
-use Rattle.std.proofs.lemmas.List.{drop_all, drop-drop, length-replicate, append-nil}
-use Rattle.pk_base.specs.Fields.{u16, u32, u64, u16_at, u32_at, spelled, zeros}
-use Rattle.pk_base.specs.FieldFaults.{u64_at, unless}
-use Rattle.pk_base.specs.Shape.{Shape, IsShape}
-use Rattle.pk_base.proofs.Tables.{◌⊕◌, fields_of, AllNone, all_none, first_none, unless_true, true_unless, unlike_stands, stands_unlike, number_stands}
-use Rattle.pk_base.proofs.Tables.{stands_number, Stand, AreSized, stand_spelled, spelled_stand}
-use Rattle.pk_rootfmt.specs.Root.{u16s_at}
-use Rattle.pk_base.proofs.Logic.{both_true}
-use Rattle.pk_rootfmt.proofs.BlockLemmas.{length-u16s, length-numbers, numbers_stand, numbers_again}
+use Rattle.std.proofs.Common.{◌≡◌, ℕ, ◌+◌, ◌-◌, ◌*◌, ◌<◌, ◌≤◌, Bool, true, false, List, [], ◌∷◌, ◌++◌, length, take, drop, get_or, refl, sym, ap, subst, ◌∙◌, arith, length-drop, get_or-drop, Option}
+use Rattle.std.proofs.Common.{Some, None}
+use Rattle.std.{specs.Prelude.nat_eq, specs.Prelude.nat_le, specs.Prelude.◌&&◌, specs.Prelude.if◌then◌else◌, specs.Prelude.bytes_eq, specs.List.flat_map, specs.List.list_all}
+use Rattle.std.{proofs.lemmas.Bool.Decides.nat_tests, proofs.lemmas.List.drop_all, proofs.lemmas.List.drop-drop, proofs.lemmas.List.length-replicate, proofs.lemmas.List.append-nil}
+use Rattle.pk_base.{specs.Fields.u16, specs.Fields.u32, specs.Fields.u64, specs.Fields.u16_at, specs.Fields.u32_at, specs.Fields.spelled, specs.Fields.zeros, specs.Shape.Shape, specs.Shape.IsShape}
+use Rattle.pk_base.{specs.FieldFaults.u64_at, specs.FieldFaults.unless, proofs.Logic.both_true}
+use Rattle.pk_base.proofs.Tables.{◌⊕◌, fields_of, AllNone, all_none, first_none, unless_true, true_unless, unlike_stands, stands_unlike, number_stands, stands_number, Stand, AreSized, stand_spelled}
+use Rattle.pk_base.proofs.Tables.{spelled_stand}
+use Rattle.pk_rootfmt.{specs.Root.u16s_at, proofs.BlockLemmas.length-u16s, proofs.BlockLemmas.length-numbers, proofs.BlockLemmas.numbers_stand, proofs.BlockLemmas.numbers_again}
 use Rattle.pk_rootfmt.proofs.PageLemmas.{bytes_same, same_bytes}
 use Rattle.pk_remap.specs.Table.{SpareTable, table_bytes, table_at, table_page, table_of, is_table, is_served}
 use Rattle.pk_remap.specs.Fault.{table_magic, used, table_head_checks, serves_checks, table_head_fault, serves_list_fault, table_fault}

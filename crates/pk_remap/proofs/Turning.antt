@@ -1,20 +1,10 @@
 -- The pair for the next table: which pages it has, and that it can be programmed.
 use Rattle.std.proofs.Common.{◌≡◌, ◌≢◌, ℕ, suc, ◌+◌, ◌-◌, ◌*◌, ◌/◌, ◌%◌, ◌<◌, ◌≤◌, Bool, true, false, List, length, sym, ap, subst, ◌∙◌, refl, arith}
-use Rattle.std.specs.Prelude.{nat_lt, slice_set}
-use Rattle.std.proofs.lemmas.Bool.Decides.{nat_tests}
-use Rattle.std.proofs.lemmas.Nat.{div-add-mod'}
-use Rattle.pk_base.specs.Shape.{Shape}
-use Rattle.pk_base.specs.Page.{Flash, page_at, erased, whole}
-use Rattle.pk_nand.specs.Operations.{InOrder}
-use Rattle.pk_nand.proofs.Writing.{mod-next, mod-add, InOrder-next}
-use Rattle.pk_remap.specs.Places.{inner_shape}
-use Rattle.pk_remap.specs.Newest.{IsTablePage}
-use Rattle.pk_remap.specs.Relocating.{Relocation, IsTop, IsNextPair, IsTablePair}
-use Rattle.pk_remap.specs.Stepping.{IsTableBlock}
-use Rattle.pk_remap.proofs.Placing.{mod-of}
-use Rattle.pk_remap.proofs.Finding.{newest-beside}
-use Rattle.pk_remap.proofs.Lifting.{less_times, times_le}
-use Rattle.pk_remap.proofs.Standing.{table_block}
+use Rattle.std.{specs.Prelude.nat_lt, specs.Prelude.slice_set, proofs.lemmas.Bool.Decides.nat_tests, proofs.lemmas.Nat.div-add-mod'}
+use Rattle.pk_base.{specs.Shape.Shape, specs.Page.Flash, specs.Page.page_at, specs.Page.erased, specs.Page.whole}
+use Rattle.pk_nand.{specs.Operations.InOrder, proofs.Writing.mod-next, proofs.Writing.mod-add, proofs.Writing.InOrder-next}
+use Rattle.pk_remap.{specs.Places.inner_shape, specs.Newest.IsTablePage, specs.Relocating.Relocation, specs.Relocating.IsTop, specs.Relocating.IsNextPair, specs.Relocating.IsTablePair}
+use Rattle.pk_remap.{specs.Stepping.IsTableBlock, proofs.Placing.mod-of, proofs.Finding.newest-beside, proofs.Lifting.less_times, proofs.Lifting.times_le, proofs.Standing.table_block}
 
 two_more : (m n : ℕ) → (m + 2) * n ≡ m * n + 2 * n
 two_more m n = omega arith

@@ -1,10 +1,8 @@
 -- What a load and a make of a flash with spare blocks answer, and what they do to its board.
 use Rattle.std.specs.Prelude.{◌≡◌, ◌≢◌, ℕ, Option, Some, Result, Err, IfOk, OnOk, OnErr}
 use Rattle.pk_base.specs.Shape.{Shape}
-use Rattle.pk_nand.specs.BoardState.{BoardState}
-use Rattle.pk_nand.specs.Calls.{IsReady, Rose, Loaded, LoadFailed, Made, MakeFailed}
-use Rattle.pk_nand.specs.declared.types.LoadFault.{LoadFault}
-use Rattle.pk_nand.specs.declared.types.LoadFault.TheVariants.{Fault, BadImage}
+use Rattle.pk_nand.{specs.BoardState.BoardState, specs.Calls.IsReady, specs.Calls.Rose, specs.Calls.Loaded, specs.Calls.LoadFailed, specs.Calls.Made, specs.Calls.MakeFailed}
+use Rattle.pk_nand.{specs.declared.types.LoadFault.LoadFault, specs.declared.types.LoadFault.TheVariants.Fault, specs.declared.types.LoadFault.TheVariants.BadImage}
 
 pub record LoadAnswers (old : BoardState) (result : Result (Option Shape) LoadFault) (new : BoardState) : Type 0 where
   pub ok : IfOk result (λ found. Loaded old new found)

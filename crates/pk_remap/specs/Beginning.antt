@@ -1,17 +1,9 @@
 -- A call of the outer flash, as it is made on the inner flash: what it leaves if it is done, cut or failed.
 use Rattle.std.specs.Prelude.{◌≡◌, ◌<◌, ◌≤◌, length, [], Some, true}
-use Rattle.pk_base.specs.Shape.{IsShape}
-use Rattle.pk_base.specs.Page.{Flash, page_at}
-use Rattle.pk_base.specs.Mark.{after}
-use Rattle.pk_nand.specs.BoardState.{BoardState}
-use Rattle.pk_nand.specs.Cut.{Interrupted}
-use Rattle.pk_nand.specs.Calls.{IsReady, LeftBy}
-use Rattle.pk_remap.specs.declared.layout.TheConstants.{MOST_SPARES}
-use Rattle.pk_remap.specs.Table.{is_table}
-use Rattle.pk_remap.specs.Places.{inner_shape, through_by}
-use Rattle.pk_remap.specs.Through.{through, MayShow, mark_below, IsMarkWithin}
-use Rattle.pk_remap.specs.Relocating.{Relocation, IsCall, IsTop}
-use Rattle.pk_remap.specs.Stepping.{RelocationGoesOn}
+use Rattle.pk_base.{specs.Shape.IsShape, specs.Page.Flash, specs.Page.page_at, specs.Mark.after}
+use Rattle.pk_nand.{specs.BoardState.BoardState, specs.Cut.Interrupted, specs.Calls.IsReady, specs.Calls.LeftBy}
+use Rattle.pk_remap.{specs.declared.layout.TheConstants.MOST_SPARES, specs.Table.is_table, specs.Places.inner_shape, specs.Places.through_by, specs.Stepping.RelocationGoesOn}
+use Rattle.pk_remap.{specs.Through.through, specs.Through.MayShow, specs.Through.mark_below, specs.Through.IsMarkWithin, specs.Relocating.Relocation, specs.Relocating.IsCall, specs.Relocating.IsTop}
 
 -- the outer flash, by the newest table
 abbrev pub above_of : Relocation → Flash → Flash

@@ -1,25 +1,11 @@
 -- What a flash with spare blocks does by calls of its inner flash, and why it refuses a call.
 use Rattle.std.specs.Prelude.{◌≡◌, ◌⊎◌, ℕ, ◌+◌, ◌-◌, ◌*◌, ◌<◌, ◌≤◌, length, Option, Some, None, Result, Ok, Err, IsOk, IsErr, OnOk, OnErr, ⊤}
-use Rattle.pk_base.specs.Shape.{Shape, checked}
-use Rattle.pk_base.specs.Page.{page_at, torn}
-use Rattle.pk_base.specs.Mark.{Mark, after}
-use Rattle.pk_nand.specs.BoardState.{BoardState}
-use Rattle.pk_nand.specs.Calls.{Rose, last_count}
-use Rattle.pk_nand.specs.Effects.{OnlyFlash}
-use Rattle.pk_nand.specs.declared.types.LoadFault.{LoadFault}
+use Rattle.pk_base.{specs.Shape.Shape, specs.Shape.checked, specs.Page.page_at, specs.Page.torn, specs.Mark.Mark, specs.Mark.after}
+use Rattle.pk_nand.{specs.BoardState.BoardState, specs.Calls.Rose, specs.Calls.last_count, specs.Effects.OnlyFlash, specs.declared.types.LoadFault.LoadFault, specs.declared.types.NandFault.NandFault}
 use Rattle.pk_nand.specs.declared.types.LoadFault.TheVariants.{Fault, BadImage, Memory}
-use Rattle.pk_nand.specs.declared.types.NandFault.{NandFault}
-use Rattle.pk_remap.specs.declared.relocation.Relocation.{Relocation as InMemory}
-use Rattle.pk_remap.specs.declared.mark_log.MarkLog.{MarkLog}
-use Rattle.pk_remap.specs.Logged.{HasLogRoom}
-use Rattle.pk_remap.specs.Table.{SpareTable}
-use Rattle.pk_remap.specs.Newest.{newest_table, IsNewest}
-use Rattle.pk_remap.specs.Places.{inner_shape, placed_page}
-use Rattle.pk_remap.specs.Through.{through, MayShow}
-use Rattle.pk_remap.specs.Relocating.{block_of, copies_of}
-use Rattle.pk_remap.specs.Stepping.{IsTableBlock}
-use Rattle.pk_remap.specs.Serving.{PassesCalls}
-use Rattle.pk_remap.specs.Remapped.{outer_pages, without_spares}
+use Rattle.pk_remap.{specs.declared.relocation.Relocation.Relocation as InMemory, specs.declared.mark_log.MarkLog.MarkLog, specs.Logged.HasLogRoom, specs.Table.SpareTable, specs.Stepping.IsTableBlock}
+use Rattle.pk_remap.{specs.Newest.newest_table, specs.Newest.IsNewest, specs.Places.inner_shape, specs.Places.placed_page, specs.Through.through, specs.Through.MayShow, specs.Serving.PassesCalls}
+use Rattle.pk_remap.{specs.Relocating.block_of, specs.Relocating.copies_of, specs.Remapped.outer_pages, specs.Remapped.without_spares}
 
 -- ---- spares
 

@@ -1,14 +1,9 @@
 -- What the calls of a relocation do besides: only the flash differs, and spares are taken only for faults and for the block that moved.
 use Rattle.std.specs.Prelude.{◌≡◌, ◌≢◌, ◌⊎◌, ℕ, ◌+◌, ◌≤◌, Bool, true, false, length, None, Result, Ok, Err}
 use Rattle.pk_base.specs.Page.{Flash, page_at}
-use Rattle.pk_nand.specs.BoardState.{BoardState}
-use Rattle.pk_nand.specs.Calls.{IsReady, Rose, last_count}
-use Rattle.pk_nand.specs.Effects.{OnlyFlash, OnlyReading}
+use Rattle.pk_nand.{specs.BoardState.BoardState, specs.Calls.IsReady, specs.Calls.Rose, specs.Calls.last_count, specs.Effects.OnlyFlash, specs.Effects.OnlyReading}
 use Rattle.pk_nand.specs.declared.types.NandFault.{NandFault}
-use Rattle.pk_remap.specs.declared.relocation.Relocation.{Relocation as InMemory}
-use Rattle.pk_remap.specs.Table.{SpareTable}
-use Rattle.pk_remap.specs.Newest.{newest_table, IsNewest}
-use Rattle.pk_remap.specs.Places.{inner_shape}
+use Rattle.pk_remap.{specs.declared.relocation.Relocation.Relocation as InMemory, specs.Table.SpareTable, specs.Newest.newest_table, specs.Newest.IsNewest, specs.Places.inner_shape}
 
 -- At most this many more spares are taken than programs and erases failed, unless their count is at its last value.
 pub record SparesCounted (more : ℕ) (r : InMemory) (old : BoardState) (r' : InMemory) (new : BoardState) : Type 0 where

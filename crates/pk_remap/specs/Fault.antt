@@ -1,11 +1,9 @@
 -- The first wrong field of a table page.
 use Rattle.std.specs.Prelude.{ℕ, ◌+◌, ◌-◌, ◌*◌, List, [], ◌∷◌, drop, ◌&&◌, ◌==◌, nat_le, Option, None}
-use Rattle.pk_base.specs.Shape.{Shape}
-use Rattle.pk_base.specs.Fields.{u16_at, u32_at, zeros}
+use Rattle.pk_base.{specs.Shape.Shape, specs.Fields.u16_at, specs.Fields.u32_at, specs.Fields.zeros}
 use Rattle.pk_base.specs.FieldFaults.{u64_at, unlike, unless, first_fault}
 use Rattle.pk_rootfmt.specs.Root.{u16s_at}
-use Rattle.pk_remap.specs.declared.layout.TheConstants.{LIST_FROM}
-use Rattle.pk_remap.specs.Table.{is_served}
+use Rattle.pk_remap.{specs.declared.layout.TheConstants.LIST_FROM, specs.Table.is_served}
 
 -- PINKSPAR
 abbrev pub table_magic : List ℕ

@@ -1,17 +1,9 @@
 -- The first table of a flash that was just made.
 use Rattle.std.specs.Prelude.{◌≡◌, ℕ, List, [], Some, Result, Ok, Err, replicate}
-use Rattle.pk_base.specs.Shape.{Shape, page_count}
-use Rattle.pk_base.specs.Page.{erased, IsPage}
-use Rattle.pk_nand.specs.BoardState.{BoardState}
-use Rattle.pk_nand.specs.Calls.{Rose, after_program}
-use Rattle.pk_nand.specs.Effects.{OnlyFlash}
-use Rattle.pk_nand.specs.declared.types.NandFault.{NandFault}
-use Rattle.pk_remap.specs.declared.relocation.Relocation.{Relocation as InMemory}
-use Rattle.pk_remap.specs.Table.{SpareTable, table_bytes}
-use Rattle.pk_remap.specs.Newest.{first_table_page}
-use Rattle.pk_remap.specs.Places.{inner_shape}
-use Rattle.pk_remap.specs.Remapped.{outer_pages}
-use Rattle.pk_remap.specs.Running.{HasPageBuffers, IsAtRest}
+use Rattle.pk_base.{specs.Shape.Shape, specs.Shape.page_count, specs.Page.erased, specs.Page.IsPage}
+use Rattle.pk_nand.{specs.BoardState.BoardState, specs.Calls.Rose, specs.Calls.after_program, specs.Effects.OnlyFlash, specs.declared.types.NandFault.NandFault}
+use Rattle.pk_remap.{specs.declared.relocation.Relocation.Relocation as InMemory, specs.Table.SpareTable, specs.Table.table_bytes, specs.Newest.first_table_page, specs.Places.inner_shape}
+use Rattle.pk_remap.{specs.Remapped.outer_pages, specs.Running.HasPageBuffers, specs.Running.IsAtRest}
 
 -- by it no spare is used
 abbrev pub first_table : SpareTable

@@ -1,8 +1,7 @@
 -- What a log reports, and for which marks it has room.
 use Rattle.std.specs.Prelude.{◌≡◌, ◌⊎◌, ℕ, ◌+◌, ◌≤◌, List, Option}
 use Rattle.pk_base.specs.Mark.{Mark}
-use Rattle.pk_remap.specs.declared.mark_log.MarkLog.{MarkLog}
-use Rattle.pk_remap.specs.Noted.{noted_marks, told_of, marks_for}
+use Rattle.pk_remap.{specs.declared.mark_log.MarkLog.MarkLog, specs.Noted.noted_marks, specs.Noted.told_of, specs.Noted.marks_for}
 
 -- the marks that are reported
 abbrev pub told : MarkLog → Option (List Mark)

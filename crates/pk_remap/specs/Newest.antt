@@ -1,7 +1,6 @@
 -- The newest table of a flash.
 use Rattle.std.specs.Prelude.{◌≡◌, ◌≢◌, ◌⊎◌, ℕ, zero, suc, ◌+◌, ◌*◌, ◌<◌, ◌≤◌, nat_le, if◌then◌else◌, Option, Some, None}
-use Rattle.pk_base.specs.Shape.{Shape}
-use Rattle.pk_base.specs.Page.{Page, erased, whole, torn}
+use Rattle.pk_base.{specs.Shape.Shape, specs.Page.Page, specs.Page.erased, specs.Page.whole, specs.Page.torn}
 use Rattle.pk_remap.specs.Table.{SpareTable, table_page}
 
 -- the table of a page, if it is a table page

@@ -1,9 +1,7 @@
 -- Which inner block has a block of the outer flash.
 use Rattle.std.specs.Prelude.{ℕ, zero, suc, ◌+◌, ◌*◌, ◌/◌, ◌%◌, ◌==◌, if◌then◌else◌, List, [], ◌∷◌, ◌++◌, replicate}
-use Rattle.pk_base.specs.Shape.{Shape, page_count}
-use Rattle.pk_base.specs.Page.{Page, Flash}
-use Rattle.pk_remap.specs.declared.layout.TheConstants.{FAILED}
-use Rattle.pk_remap.specs.Table.{SpareTable}
+use Rattle.pk_base.{specs.Shape.Shape, specs.Shape.page_count, specs.Page.Page, specs.Page.Flash}
+use Rattle.pk_remap.{specs.declared.layout.TheConstants.FAILED, specs.Table.SpareTable}
 
 -- the inner flash: after the blocks of the outer flash it has the spares, and after them the two table blocks
 abbrev pub inner_shape : Shape → ℕ → Shape

@@ -1,15 +1,10 @@
 -- A relocation: the call of the outer flash that it serves, the spare that it fills, and what is known while it goes on.
 use Rattle.std.specs.Prelude.{◌≡◌, ◌≢◌, ℕ, suc, ◌+◌, ◌-◌, ◌*◌, ◌/◌, ◌%◌, ◌<◌, ◌≤◌, [], length, true, ⊤}
-use Rattle.pk_base.specs.Shape.{Shape, IsShape}
-use Rattle.pk_base.specs.Page.{Flash, page_at, erased, IsPage, IsFlash}
+use Rattle.pk_base.{specs.Shape.Shape, specs.Shape.IsShape, specs.Page.Flash, specs.Page.page_at, specs.Page.erased, specs.Page.IsPage, specs.Page.IsFlash}
 use Rattle.pk_base.specs.Mark.{Mark, program, erase, post, after}
-use Rattle.pk_nand.specs.Cut.{Interrupted}
-use Rattle.pk_nand.specs.Operations.{InOrder}
-use Rattle.pk_remap.specs.declared.layout.TheConstants.{MOST_SPARES}
-use Rattle.pk_remap.specs.Table.{SpareTable, is_table}
-use Rattle.pk_remap.specs.Places.{inner_shape, through_by, with_one_more}
-use Rattle.pk_remap.specs.Newest.{IsTablePage, IsNewest, IsNewestBeside}
-use Rattle.pk_remap.specs.Through.{IsMarkWithin}
+use Rattle.pk_nand.{specs.Cut.Interrupted, specs.Operations.InOrder}
+use Rattle.pk_remap.{specs.declared.layout.TheConstants.MOST_SPARES, specs.Table.SpareTable, specs.Table.is_table, specs.Places.inner_shape, specs.Places.through_by, specs.Places.with_one_more}
+use Rattle.pk_remap.{specs.Newest.IsTablePage, specs.Newest.IsNewest, specs.Newest.IsNewestBeside, specs.Through.IsMarkWithin}
 
 pub record Relocation : Type 0 where
   pub shape : Shape

@@ -1,26 +1,13 @@
 -- A flash with spare blocks, as a board: its pages are those of the outer flash, its counts are its own.
 use Rattle.std.specs.Prelude.{◌≡◌, ℕ, ◌+◌, ◌-◌, ◌≤◌, Bool, true, false, [], length, unwrap_or, Option, Some, None, Result, Ok, Err}
-use Rattle.pk_base.specs.Shape.{Shape, IsShape}
-use Rattle.pk_base.specs.Page.{Flash, page_at}
-use Rattle.pk_nand.specs.BoardState.{BoardState}
-use Rattle.pk_nand.specs.Calls.{counted}
-use Rattle.pk_nand.specs.Effects.{OnlyReading, NoFault}
-use Rattle.pk_nand.specs.declared.types.LoadFault.{LoadFault}
+use Rattle.pk_base.{specs.Shape.Shape, specs.Shape.IsShape, specs.Page.Flash, specs.Page.page_at}
+use Rattle.pk_nand.{specs.BoardState.BoardState, specs.Calls.counted, specs.Effects.OnlyReading, specs.Effects.NoFault, specs.declared.types.LoadFault.LoadFault}
 use Rattle.pk_nand.specs.declared.types.LoadFault.TheVariants.{Fault, BadImage, Memory}
 use Rattle.pk_nand.specs.declared.types.NandFault.{NandFault}
-use Rattle.pk_remap.specs.declared.layout.TheConstants.{MOST_SPARES}
-use Rattle.pk_remap.specs.declared.counts.BoardCounts.{BoardCounts}
-use Rattle.pk_remap.specs.declared.image.Image.{Image}
+use Rattle.pk_remap.{specs.declared.layout.TheConstants.MOST_SPARES, specs.declared.counts.BoardCounts.BoardCounts, specs.declared.image.Image.Image, specs.declared.mark_log.MarkLog.MarkLog}
 use Rattle.pk_remap.specs.declared.image.Image.TheVariants.{Unknown, Missing, Unsure, Sure}
-use Rattle.pk_remap.specs.declared.mark_log.MarkLog.{MarkLog}
-use Rattle.pk_remap.specs.declared.relocation.Relocation.{Relocation as InMemory}
-use Rattle.pk_remap.specs.Through.{through}
-use Rattle.pk_remap.specs.Newest.{newest_table}
-use Rattle.pk_remap.specs.Table.{is_table}
-use Rattle.pk_remap.specs.Running.{relocation_of, HasPageBuffers, HasTurn}
-use Rattle.pk_remap.specs.Counting.{HasTable, SearchFailed}
-use Rattle.pk_remap.specs.Noted.{no_marks}
-use Rattle.pk_remap.specs.Logged.{told}
+use Rattle.pk_remap.{specs.declared.relocation.Relocation.Relocation as InMemory, specs.Through.through, specs.Newest.newest_table, specs.Table.is_table, specs.Noted.no_marks, specs.Logged.told}
+use Rattle.pk_remap.{specs.Running.relocation_of, specs.Running.HasPageBuffers, specs.Running.HasTurn, specs.Counting.HasTable, specs.Counting.SearchFailed}
 
 -- ---- its counts
 

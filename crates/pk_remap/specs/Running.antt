@@ -1,22 +1,12 @@
 -- A relocation in memory, over a board: what is known before each step, and what a step does.
 use Rattle.std.specs.Prelude.{◌≡◌, ◌⊎◌, ℕ, suc, ◌+◌, ◌-◌, ◌*◌, ◌%◌, ◌<◌, ◌≤◌, ◌==◌, ◌&&◌, nat_lt, if◌then◌else◌, Bool, true, false, List, length, take, Option, Some, None, Result, Ok, Err}
-use Rattle.pk_base.specs.declared.sizes.TheConstants.{MOST_PAGE_BYTES}
-use Rattle.pk_base.specs.Shape.{Shape, IsShape}
-use Rattle.pk_base.specs.Page.{Flash, page_at, whole, torn as torn_page}
+use Rattle.pk_base.{specs.declared.sizes.TheConstants.MOST_PAGE_BYTES, specs.Shape.Shape, specs.Shape.IsShape, specs.Page.Flash, specs.Page.page_at, specs.Page.whole, specs.Page.torn as torn_page}
 use Rattle.pk_base.specs.Mark.{Mark, program, erase, after}
-use Rattle.pk_nand.specs.BoardState.{BoardState}
-use Rattle.pk_nand.specs.Calls.{IsReady, Rose}
-use Rattle.pk_nand.specs.Operations.{InOrder}
-use Rattle.pk_nand.specs.declared.types.NandFault.{NandFault}
-use Rattle.pk_remap.specs.declared.layout.TheConstants.{MOST_SPARES}
-use Rattle.pk_remap.specs.declared.phase.Phase.{Phase}
+use Rattle.pk_nand.{specs.BoardState.BoardState, specs.Calls.IsReady, specs.Calls.Rose, specs.Operations.InOrder, specs.declared.types.NandFault.NandFault}
+use Rattle.pk_remap.{specs.declared.layout.TheConstants.MOST_SPARES, specs.declared.phase.Phase.Phase, specs.declared.relocation.Call.Call, specs.declared.relocation.Relocation.Relocation as InMemory}
 use Rattle.pk_remap.specs.declared.phase.Phase.TheVariants.{EraseSpare, Read, Write, EraseTable, First, Second}
-use Rattle.pk_remap.specs.declared.relocation.Call.{Call}
-use Rattle.pk_remap.specs.declared.relocation.Call.TheVariants.{Program, Erase}
-use Rattle.pk_remap.specs.declared.relocation.Relocation.{Relocation as InMemory}
-use Rattle.pk_remap.specs.Table.{table_of, table_bytes, is_table}
-use Rattle.pk_remap.specs.Places.{inner_shape, placed_page}
-use Rattle.pk_remap.specs.Through.{through}
+use Rattle.pk_remap.{specs.declared.relocation.Call.TheVariants.Program, specs.declared.relocation.Call.TheVariants.Erase, specs.Table.table_of, specs.Table.table_bytes, specs.Table.is_table}
+use Rattle.pk_remap.{specs.Places.inner_shape, specs.Places.placed_page, specs.Through.through}
 use Rattle.pk_remap.specs.Relocating.{Relocation, block, copies_of, fill_of, next_table, IsSpareFilled, IsSpareFull, IsTop, IsNextPair, IsTablePair}
 use Rattle.pk_remap.specs.Stepping.{RelocationGoesOn, WentSafely, IsSource, IsTableBlock}
 

@@ -3,8 +3,7 @@ use Rattle.std.specs.Prelude.{ℕ, ◌≤◌, ⊤, List, nat_lt, if◌then◌els
 use Rattle.pk_base.specs.Shape.{Shape}
 use Rattle.pk_nand.specs.declared.types.PageRead.{PageRead}
 use Rattle.pk_nand.specs.declared.types.PageRead.TheVariants.{Erased, Whole, Torn}
-use Rattle.pk_remap.specs.declared.top.Top.{Top}
-use Rattle.pk_remap.specs.Table.{SpareTable, table_of, table_page}
+use Rattle.pk_remap.{specs.declared.top.Top.Top, specs.Table.SpareTable, specs.Table.table_of, specs.Table.table_page}
 
 -- the table in memory, if one was found
 abbrev pub table_found : Option Top → List ℕ → Option (ℕ × SpareTable)

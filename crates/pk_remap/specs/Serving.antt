@@ -1,23 +1,11 @@
 -- A call of the outer flash that a relocation serves, from its first step to its last.
 use Rattle.std.specs.Prelude.{◌≡◌, ◌⊎◌, ℕ, zero, suc, max, ◌+◌, ◌-◌, ◌*◌, ◌%◌, ◌<◌, ◌≤◌, Bool, true, false, take, Some, None, Result, Ok, Err}
-use Rattle.pk_base.specs.Page.{Flash, page_at, whole, torn as torn_page}
-use Rattle.pk_base.specs.Mark.{Mark, after}
-use Rattle.pk_nand.specs.BoardState.{BoardState}
-use Rattle.pk_nand.specs.Calls.{Rose, IsReady}
-use Rattle.pk_nand.specs.Operations.{after_read, ReadFailed}
-use Rattle.pk_nand.specs.Counts.{after_reads}
-use Rattle.pk_base.specs.Shape.{IsShape}
-use Rattle.pk_remap.specs.declared.layout.TheConstants.{MOST_SPARES}
-use Rattle.pk_remap.specs.Newest.{newest_table}
-use Rattle.pk_nand.specs.Crash.{Went}
+use Rattle.pk_base.{specs.Page.Flash, specs.Page.page_at, specs.Page.whole, specs.Page.torn as torn_page, specs.Mark.Mark, specs.Mark.after, specs.Shape.IsShape}
+use Rattle.pk_nand.{specs.BoardState.BoardState, specs.Calls.Rose, specs.Calls.IsReady, specs.Operations.after_read, specs.Operations.ReadFailed, specs.Counts.after_reads, specs.Crash.Went}
 use Rattle.pk_nand.specs.declared.types.NandFault.{NandFault}
-use Rattle.pk_remap.specs.declared.top.Top.{Top}
-use Rattle.pk_remap.specs.declared.relocation.Relocation.{Relocation as InMemory}
-use Rattle.pk_remap.specs.Places.{inner_shape, placed_page, through_by}
-use Rattle.pk_remap.specs.Through.{through, MayShow, IsMarkWithin}
-use Rattle.pk_remap.specs.Relocating.{Relocation, block, copies_of, IsCall}
-use Rattle.pk_remap.specs.Stepping.{IsTableBlock}
-use Rattle.pk_remap.specs.Counting.{SearchFailed}
+use Rattle.pk_remap.{specs.declared.layout.TheConstants.MOST_SPARES, specs.Newest.newest_table, specs.declared.top.Top.Top, specs.declared.relocation.Relocation.Relocation as InMemory}
+use Rattle.pk_remap.{specs.Places.inner_shape, specs.Places.placed_page, specs.Places.through_by, specs.Through.through, specs.Through.MayShow, specs.Through.IsMarkWithin, specs.Stepping.IsTableBlock}
+use Rattle.pk_remap.{specs.Relocating.Relocation, specs.Relocating.block, specs.Relocating.copies_of, specs.Relocating.IsCall, specs.Counting.SearchFailed}
 use Rattle.pk_remap.specs.Running.{relocation_of, RelocationRuns, HasPageBuffers, IsAtRest, SameCall}
 
 -- n calls, of which each cut, and the flash after each, have P

@@ -1,16 +1,9 @@
 -- What the steps of a relocation do, call by call: each cut of the one call, and what is known after it.
 use Rattle.std.specs.Prelude.{◌≡◌, ◌≢◌, ℕ, suc, ◌+◌, ◌*◌, ◌/◌, ◌<◌, ◌≤◌, List, length, Some}
-use Rattle.pk_base.specs.Shape.{Shape}
-use Rattle.pk_base.specs.Page.{Flash, page_at, erased, whole, IsPage}
-use Rattle.pk_base.specs.Mark.{after}
-use Rattle.pk_nand.specs.BoardState.{BoardState}
-use Rattle.pk_nand.specs.Calls.{IsReady, Rose, after_program, ProgramFailed}
+use Rattle.pk_base.{specs.Shape.Shape, specs.Page.Flash, specs.Page.page_at, specs.Page.erased, specs.Page.whole, specs.Page.IsPage, specs.Mark.after}
+use Rattle.pk_nand.{specs.BoardState.BoardState, specs.Calls.IsReady, specs.Calls.Rose, specs.Calls.after_program, specs.Calls.ProgramFailed, specs.Crash.Reached, specs.Crash.Went}
 use Rattle.pk_nand.specs.Operations.{InOrder, after_erase, EraseFailed}
-use Rattle.pk_nand.specs.Crash.{Reached, Went}
-use Rattle.pk_remap.specs.Table.{table_bytes}
-use Rattle.pk_remap.specs.Places.{inner_shape, placed_page}
-use Rattle.pk_remap.specs.Newest.{IsNewest}
-use Rattle.pk_remap.specs.Through.{through, MayShow}
+use Rattle.pk_remap.{specs.Table.table_bytes, specs.Places.inner_shape, specs.Places.placed_page, specs.Newest.IsNewest, specs.Through.through, specs.Through.MayShow}
 use Rattle.pk_remap.specs.Relocating.{Relocation, block, copies_of, fill_of, spare_block, spare_page, next_table, IsSpareFilled, IsSpareFull, IsRelocating, IsTop, SameTables, IsNextPair, IsTablePair}
 
 -- the same with the next spare

@@ -1,9 +1,7 @@
 -- Table pages: which block each used spare serves.
 use Rattle.std.specs.Prelude.{ℕ, ◌+◌, List, ◌++◌, length, take, drop, flat_map, Bool, ◌&&◌, ◌||◌, ◌==◌, nat_lt, nat_le, if◌then◌else◌, Option, Some, None, codes, bytes_eq}
 use Rattle.std.specs.List.{list_all}
-use Rattle.pk_base.specs.Shape.{Shape}
-use Rattle.pk_base.specs.Fields.{u16_at, u16, u32, u64, padded}
-use Rattle.pk_base.specs.FieldFaults.{u64_at}
+use Rattle.pk_base.{specs.Shape.Shape, specs.Fields.u16_at, specs.Fields.u16, specs.Fields.u32, specs.Fields.u64, specs.Fields.padded, specs.FieldFaults.u64_at}
 use Rattle.pk_rootfmt.specs.Root.{u16s_at}
 use Rattle.pk_remap.specs.declared.layout.TheConstants.{FAILED, LIST_FROM}
 

@@ -1,12 +1,8 @@
 -- The outer flash, by the pages of the inner flash.
 use Rattle.std.specs.Prelude.{◌≡◌, ◌<◌, ◌*◌, ℕ, [], Option, Some, option_map}
-use Rattle.pk_base.specs.Shape.{Shape}
-use Rattle.pk_base.specs.Page.{Flash, page_at}
-use Rattle.pk_base.specs.Mark.{Mark, program, erase, post}
+use Rattle.pk_base.{specs.Shape.Shape, specs.Page.Flash, specs.Page.page_at, specs.Mark.Mark, specs.Mark.program, specs.Mark.erase, specs.Mark.post}
 use Rattle.pk_nand.specs.Cut.{Interrupted}
-use Rattle.pk_remap.specs.Table.{SpareTable}
-use Rattle.pk_remap.specs.Places.{place, placed_page, through_by}
-use Rattle.pk_remap.specs.Newest.{newest_table}
+use Rattle.pk_remap.{specs.Table.SpareTable, specs.Places.place, specs.Places.placed_page, specs.Places.through_by, specs.Newest.newest_table}
 
 -- the outer flash, by the newest table of the inner flash; none if there is no table
 abbrev pub through : Shape → ℕ → Flash → Option Flash

@@ -1,30 +1,18 @@
 -- Erases and programs of root blocks.
 use Rattle.std.proofs.Common.{◌≡◌, inl, inr, ℕ, ◌+◌, ◌*◌, ◌/◌, ◌%◌, ◌<◌, ◌≤◌, Bool, true, false, List, [], ◌∷◌, length, Some, nat_lt, if◌then◌else◌, refl, sym, ap, ◌∙◌, subst, arith, le_refl, mod-lt}
 use Rattle.std.proofs.Common.{length-set}
-use Rattle.std.proofs.Math.ListN.{set}
-use Rattle.std.proofs.Math.Nat.{mul-le-mul_right, mul-mod_left}
-use Rattle.std.proofs.lemmas.Nat.{div-add-mod'}
-use Rattle.std.proofs.lemmas.Bool.{ltb-true}
-use Rattle.pk_base.specs.Shape.{Shape, IsShape}
-use Rattle.pk_base.specs.Page.{Page, Flash, page_at, erased, whole, SameBehind}
+use Rattle.std.{proofs.Math.ListN.set, proofs.Math.Nat.mul-le-mul_right, proofs.Math.Nat.mul-mod_left, proofs.lemmas.Nat.div-add-mod', proofs.lemmas.Bool.ltb-true}
+use Rattle.pk_base.{specs.Shape.Shape, specs.Shape.IsShape, specs.Page.Page, specs.Page.Flash, specs.Page.page_at, specs.Page.erased, specs.Page.whole, specs.Page.SameBehind}
 use Rattle.pk_base.specs.Mark.{Mark, erase, after}
-use Rattle.pk_nand.specs.BoardState.{BoardState, shape_of}
-use Rattle.pk_nand.specs.Cut.{Interrupted, MayLeave, touched_block}
-use Rattle.pk_nand.specs.Calls.{IsReady, LeftBehind, after_program}
-use Rattle.pk_nand.specs.Operations.{InOrder, after_erase, EraseFailed}
-use Rattle.pk_nand.specs.Crash.{Reached, Went}
-use Rattle.pk_nand.specs.Pairs.{IsPairCut}
-use Rattle.pk_nand.proofs.Leaving.{interrupted_done, IsFlash-left, full_erase, page_at-slice_set}
-use Rattle.pk_nand.proofs.Reaching.{Reached-erase, Went-erase_failed}
-use Rattle.pk_nand.proofs.Touching.{elsewhere}
-use Rattle.pk_nand.proofs.Writing.{shape_is, InOrder-next, mod-add}
+use Rattle.pk_nand.{specs.BoardState.BoardState, specs.BoardState.shape_of, specs.Cut.Interrupted, specs.Cut.MayLeave, specs.Cut.touched_block, specs.Crash.Reached, specs.Crash.Went}
+use Rattle.pk_nand.{specs.Calls.IsReady, specs.Calls.LeftBehind, specs.Calls.after_program, specs.Operations.InOrder, specs.Operations.after_erase, specs.Operations.EraseFailed, specs.Pairs.IsPairCut}
+use Rattle.pk_nand.{proofs.Leaving.interrupted_done, proofs.Leaving.IsFlash-left, proofs.Leaving.full_erase, proofs.Leaving.page_at-slice_set, proofs.Touching.elsewhere}
+use Rattle.pk_nand.{proofs.Reaching.Reached-erase, proofs.Reaching.Went-erase_failed, proofs.Writing.shape_is, proofs.Writing.InOrder-next, proofs.Writing.mod-add}
 use Rattle.pk_rootfmt.specs.Root.{Root, root_page, root_bytes}
-use Rattle.pk_model.specs.Laws.{IsInstall, RootErase, RootPair}
-use Rattle.pk_model.proofs.Roots.{first_stands}
+use Rattle.pk_model.{specs.Laws.IsInstall, specs.Laws.RootErase, specs.Laws.RootPair, proofs.Roots.first_stands}
 use Rattle.pk_seg.proofs.ErasedBlocks.{order_erased}
-use Rattle.pk_root.specs.declared.next.Next.TheVariants.{Erase, Program, Again}
+use Rattle.pk_root.{specs.declared.next.Next.TheVariants.Erase, specs.declared.next.Next.TheVariants.Program, specs.declared.next.Next.TheVariants.Again, proofs.Scanning.root_page_exists}
 use Rattle.pk_root.specs.Installing.{other_block, next_behind, before_pair, IsPossible, InstallerOnFlash, KeepsRoot, MayInstall}
-use Rattle.pk_root.proofs.Scanning.{root_page_exists}
 use Rattle.pk_root.proofs.Places.{block_below, page_below, not_other, set_back}
 
 -- ---- pages after the root blocks

@@ -1,19 +1,11 @@
 -- Where the pages of the root blocks are, and what changes after them leave.
 use Rattle.std.proofs.Common.{◌≡◌, ◌≢◌, ℕ, zero, suc, ◌+◌, ◌-◌, ◌*◌, ◌/◌, ◌%◌, ◌<◌, ◌≤◌, refl, sym, ap, ◌∙◌, arith, inl, inr, List, [], ◌∷◌, length, slice_set, mod-lt, Some}
-use Rattle.std.proofs.Math.Nat.{mul-le-mul_right, div-lt_iff_lt-mul}
-use Rattle.std.proofs.lemmas.Nat.{div-add-mod'}
-use Rattle.pk_base.specs.Shape.{Shape}
-use Rattle.std.proofs.lemmas.Bool.Decides.{eqb_tells}
-use Rattle.pk_base.specs.Page.{Page, Flash, page_at, erased, whole}
-use Rattle.pk_nand.specs.Operations.{InOrder}
-use Rattle.pk_nand.proofs.Leaving.{page_at-slice_set, page_at-slice_set_same}
-use Rattle.pk_rootfmt.specs.Root.{Root, root_bytes}
-use Rattle.pk_rootfmt.specs.Newest.{newest_root}
-use Rattle.pk_root.specs.declared.next.Next.{Next}
-use Rattle.pk_root.specs.declared.next.Next.TheVariants.{Erase, Program, Again}
-use Rattle.pk_root.specs.Installing.{before_pair, IsPossible, InstallerOnFlash}
-use Rattle.pk_root.specs.Laws.{SameFront}
-use Rattle.pk_root.proofs.Scanning.{newest_among, newest_root_same}
+use Rattle.std.{proofs.Math.Nat.mul-le-mul_right, proofs.Math.Nat.div-lt_iff_lt-mul, proofs.lemmas.Nat.div-add-mod', proofs.lemmas.Bool.Decides.eqb_tells}
+use Rattle.pk_base.{specs.Shape.Shape, specs.Page.Page, specs.Page.Flash, specs.Page.page_at, specs.Page.erased, specs.Page.whole}
+use Rattle.pk_nand.{specs.Operations.InOrder, proofs.Leaving.page_at-slice_set, proofs.Leaving.page_at-slice_set_same}
+use Rattle.pk_rootfmt.{specs.Root.Root, specs.Root.root_bytes, specs.Newest.newest_root}
+use Rattle.pk_root.{specs.declared.next.Next.Next, specs.declared.next.Next.TheVariants.Erase, specs.declared.next.Next.TheVariants.Program, specs.declared.next.Next.TheVariants.Again}
+use Rattle.pk_root.{specs.Installing.before_pair, specs.Installing.IsPossible, specs.Installing.InstallerOnFlash, specs.Laws.SameFront, proofs.Scanning.newest_among, proofs.Scanning.newest_root_same}
 use Rattle.pk_seg.proofs.Readings.{whole_exists}
 
 -- ---- two blocks of n pages

@@ -1,22 +1,12 @@
 -- The newest root of pages that are read one after another.
 use Rattle.std.proofs.Common.{◌≡◌, ℕ, zero, suc, ◌+◌, ◌*◌, ◌<◌, ◌≤◌, List, Bool, true, false, ◌&&◌, nat_le, if◌then◌else◌, length, Option, Some, None, refl, sym, ap, ◌∙◌, subst, arith, T, leb→le}
 use Rattle.std.proofs.Common.{leb-false, le_refl, add-zero}
-use Rattle.std.proofs.Math.Nat.{mul-le-mul_left}
-use Rattle.std.specs.Prelude.{bytes_eq, MatchOption, IfSome}
-use Rattle.std.specs.List.{range_with_len}
-use Rattle.pk_base.specs.FieldFaults.{u64_at}
-use Rattle.pk_base.specs.Shape.{Shape, IsShape}
-use Rattle.pk_base.specs.Page.{Page, Flash, page_at, erased, whole, torn}
-use Rattle.pk_nand.specs.BoardState.{BoardState}
-use Rattle.pk_nand.specs.Calls.{IsReady}
-use Rattle.pk_nand.specs.Operations.{filled, after_read, ReadFailed}
-use Rattle.pk_nand.specs.Counts.{after_reads}
-use Rattle.pk_nand.specs.Seen.{answer}
+use Rattle.std.{proofs.Math.Nat.mul-le-mul_left, specs.Prelude.bytes_eq, specs.Prelude.MatchOption, specs.Prelude.IfSome, specs.List.range_with_len}
+use Rattle.pk_base.{specs.FieldFaults.u64_at, specs.Shape.Shape, specs.Shape.IsShape, specs.Page.Page, specs.Page.Flash, specs.Page.page_at, specs.Page.erased, specs.Page.whole, specs.Page.torn}
+use Rattle.pk_nand.{specs.BoardState.BoardState, specs.Calls.IsReady, specs.Operations.filled, specs.Operations.after_read, specs.Operations.ReadFailed, specs.Counts.after_reads, specs.Seen.answer}
 use Rattle.pk_nand.specs.declared.types.PageRead.{PageRead}
-use Rattle.pk_rootfmt.specs.Held.{Held}
-use Rattle.pk_rootfmt.specs.Root.{Root, root_at, root_bytes, root_page, is_root}
+use Rattle.pk_rootfmt.{specs.Held.Held, specs.Root.Root, specs.Root.root_at, specs.Root.root_bytes, specs.Root.root_page, specs.Root.is_root, proofs.RunLemmas.page_is_root}
 use Rattle.pk_rootfmt.specs.Newest.{root_of, newer_of, newest_of, newest_root}
-use Rattle.pk_rootfmt.proofs.RunLemmas.{page_is_root}
 use Rattle.pk_seg.specs.Counts.{ReadsFailed}
 use Rattle.pk_root.specs.Scanned.{at_page, found_at, newer, is_older, root_in}
 

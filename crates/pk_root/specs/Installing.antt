@@ -1,16 +1,11 @@
 -- Installs of roots: what is next, when it can be done, and what it does to a board.
 use Rattle.std.specs.Prelude.{◌≡◌, ◌≢◌, ◌⊎◌, ℕ, ◌+◌, ◌-◌, ◌*◌, ◌/◌, ◌%◌, ◌<◌, ◌≤◌, nat_lt, if◌then◌else◌, Bool, true, false, length, slice_set, Some}
-use Rattle.pk_base.specs.Shape.{Shape, root_pages}
-use Rattle.pk_base.specs.Page.{Flash, page_at, erased, whole, SameBehind}
-use Rattle.pk_nand.specs.BoardState.{BoardState}
-use Rattle.pk_nand.specs.Calls.{after_program, ProgramFailed}
-use Rattle.pk_nand.specs.Operations.{InOrder, after_erase, EraseFailed}
+use Rattle.pk_base.{specs.Shape.Shape, specs.Shape.root_pages, specs.Page.Flash, specs.Page.page_at, specs.Page.erased, specs.Page.whole, specs.Page.SameBehind}
+use Rattle.pk_nand.{specs.BoardState.BoardState, specs.Calls.after_program, specs.Calls.ProgramFailed, specs.Operations.InOrder, specs.Operations.after_erase, specs.Operations.EraseFailed}
 use Rattle.pk_nand.specs.Crash.{Reached, Went}
-use Rattle.pk_rootfmt.specs.Root.{Root, root_bytes}
-use Rattle.pk_rootfmt.specs.Newest.{newest_root}
-use Rattle.pk_root.specs.declared.next.Next.{Next}
+use Rattle.pk_rootfmt.{specs.Root.Root, specs.Root.root_bytes, specs.Newest.newest_root}
+use Rattle.pk_root.{specs.declared.next.Next.Next, specs.declared.next.Next.TheVariants.Erase, specs.declared.next.Next.TheVariants.Program, specs.declared.next.Next.TheVariants.Again}
 use Rattle.pk_model.specs.Laws.{IsInstall}
-use Rattle.pk_root.specs.declared.next.Next.TheVariants.{Erase, Program, Again}
 
 -- whether an erase is next, and not a program
 abbrev pub erases_next : Next → Bool

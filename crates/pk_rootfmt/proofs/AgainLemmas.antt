@@ -1,19 +1,14 @@
 -- The page of a root passes the check, and is read as the root.
 use Rattle.std.proofs.Common.{◌≡◌, ℕ, ◌+◌, ◌-◌, ◌*◌, ◌^◌, ◌<◌, ◌≤◌, Bool, true, false, List, [], ◌∷◌, ◌++◌, length, drop, map, refl, sym, ap, subst, ◌∙◌, arith, length-append, Some, None, lit<}
 use Rattle.std.specs.Prelude.{nat_eq, nat_le, nat_lt, ◌&&◌, ◌||◌, if◌then◌else◌, bytes_eq, sum, zip}
-use Rattle.std.specs.List.{list_all, concat}
-use Rattle.std.proofs.lemmas.Bool.Decides.{nat_tests}
-use Rattle.std.proofs.lemmas.List.{append_assoc, length-replicate}
-use Rattle.pk_base.specs.Fields.{u16_at, u32_at, zeros}
-use Rattle.pk_base.specs.FieldFaults.{u64_at, unlike, unless}
+use Rattle.std.{specs.List.list_all, specs.List.concat, proofs.lemmas.Bool.Decides.nat_tests, proofs.lemmas.List.append_assoc, proofs.lemmas.List.length-replicate}
+use Rattle.pk_base.{specs.Fields.u16_at, specs.Fields.u32_at, specs.Fields.zeros, specs.FieldFaults.u64_at, specs.FieldFaults.unlike, specs.FieldFaults.unless, proofs.Logic.both_true}
 use Rattle.pk_base.specs.Shape.{Shape, IsShape, page_entries, cap, caps, run_blocks, limit}
 use Rattle.pk_base.proofs.Tables.{◌⊕◌, first_none, true_unless, stands_unlike, stands_number, Stand, AreSized, spelled_stand}
 use Rattle.pk_rootfmt.specs.Root.{Root, root_bytes, root_at, root_page, is_root, u16s_at, parts, version_of, limit_bytes, are_limits, fit_in, has_limits_room, list_from}
 use Rattle.pk_rootfmt.specs.Fault.{root_magic, is_epoch, is_run_count, shape_checks, number_checks, list_checks, listed, blocks_fault, shape_fault, number_fault, space_fault, list_fault, root_fault}
-use Rattle.pk_rootfmt.specs.Held.{total}
+use Rattle.pk_rootfmt.{specs.Held.total, proofs.RoomLemmas.runs_most, proofs.RoomLemmas.entries_small}
 use Rattle.pk_rootfmt.proofs.BlockLemmas.{length-numbers, numbers_again, parts_again, are_blocks, are_other, check_from_others}
-use Rattle.pk_base.proofs.Logic.{both_true}
-use Rattle.pk_rootfmt.proofs.RoomLemmas.{runs_most, entries_small}
 use Rattle.pk_rootfmt.proofs.LimitLemmas.{by_test, Passes, passes, limits_room}
 use Rattle.pk_rootfmt.proofs.PageLemmas.{Parts, root_parts, bytes_same, same_bytes, rows, rows_root, journal_is, older_at, sum_four}
 

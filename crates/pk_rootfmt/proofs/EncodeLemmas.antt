@@ -2,13 +2,9 @@
 use Rattle.std.proofs.Common.{◌≡◌, ℕ, ◌+◌, ◌-◌, ◌*◌, ◌≤◌, true, List, [], ◌∷◌, ◌++◌, length, take, drop, refl, sym, ap, subst, ◌∙◌, arith, length-append}
 use Rattle.std.specs.List.{flat_map, concat}
 use Rattle.std.proofs.lemmas.List.{append_assoc, append-nil, take_all, take-append-drop, length-take-le}
-use Rattle.pk_base.specs.Fields.{u16, u32, u64, spelled, zeros}
-use Rattle.pk_base.specs.Shape.{Shape, IsShape}
-use Rattle.pk_rootfmt.specs.Root.{Root, root_bytes, is_root, parts, version_of, limit_bytes}
-use Rattle.pk_rootfmt.specs.Fault.{root_magic}
-use Rattle.pk_rootfmt.specs.Held.{total}
-use Rattle.pk_rootfmt.proofs.BlockLemmas.{parts_same, parts_joined}
-use Rattle.pk_rootfmt.proofs.PageLemmas.{before_blocks, rows_root}
+use Rattle.pk_base.{specs.Fields.u16, specs.Fields.u32, specs.Fields.u64, specs.Fields.spelled, specs.Fields.zeros, specs.Shape.Shape, specs.Shape.IsShape}
+use Rattle.pk_rootfmt.{specs.Root.Root, specs.Root.root_bytes, specs.Root.is_root, specs.Root.parts, specs.Root.version_of, specs.Root.limit_bytes, specs.Fault.root_magic, specs.Held.total}
+use Rattle.pk_rootfmt.{proofs.BlockLemmas.parts_same, proofs.BlockLemmas.parts_joined, proofs.PageLemmas.before_blocks, proofs.PageLemmas.rows_root}
 use Rattle.pk_rootfmt.proofs.AgainLemmas.{four, root_room}
 
 flat_append : (xs ys : List ℕ) → flat_map u16 (xs ++ ys) ≡ flat_map u16 xs ++ flat_map u16 ys

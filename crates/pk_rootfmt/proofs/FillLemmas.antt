@@ -1,17 +1,11 @@
 -- What is read of a page that passes is its root.
 use Rattle.std.proofs.Common.{◌≡◌, ℕ, ◌+◌, ◌*◌, ◌<◌, ◌≤◌, List, [], ◌∷◌, length, take, drop, get_or, map, sym, ap, ◌∙◌, arith, Some, None}
-use Rattle.std.specs.Prelude.{sum}
-use Rattle.std.proofs.lemmas.List.{take_all, length-take}
-use Rattle.pk_rootfmt.proofs.LimitLemmas.{Limited, length-u32s}
-use Rattle.pk_base.specs.Fields.{u16_at, u32_at}
-use Rattle.pk_base.specs.FieldFaults.{u64_at}
-use Rattle.pk_base.specs.Shape.{Shape, IsShape, run_blocks, meta_blocks}
-use Rattle.pk_base.proofs.Tables.{all_none}
+use Rattle.std.{specs.Prelude.sum, proofs.lemmas.List.take_all, proofs.lemmas.List.length-take}
+use Rattle.pk_rootfmt.{proofs.LimitLemmas.Limited, proofs.LimitLemmas.length-u32s, specs.Held.total, proofs.BlockLemmas.length-u16s, proofs.BlockLemmas.parts_same}
 use Rattle.pk_rootfmt.specs.Root.{root_page, u16s_at, u32s_at, parts, page_limits, list_from}
 use Rattle.pk_rootfmt.specs.Fault.{shape_fault, number_fault, space_fault, list_fault, root_fault}
-use Rattle.pk_rootfmt.specs.Held.{total}
-use Rattle.pk_rootfmt.proofs.BlockLemmas.{length-u16s, parts_same}
 use Rattle.pk_rootfmt.proofs.PageLemmas.{Journal, limited_own, journal_own, runs_fit, listed_is, room, page_taken, sum_four}
+use Rattle.pk_base.{specs.Fields.u16_at, specs.Fields.u32_at, specs.FieldFaults.u64_at, specs.Shape.Shape, specs.Shape.IsShape, specs.Shape.run_blocks, specs.Shape.meta_blocks, proofs.Tables.all_none}
 
 -- the blocks of each run, by the entries that the page gives
 abbrev pub sizes_at : Shape → List ℕ → List ℕ

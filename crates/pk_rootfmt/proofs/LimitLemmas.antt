@@ -1,20 +1,14 @@
 -- Limits in a page: what is read of them, and what passes.
 use Rattle.std.proofs.Common.{◌≡◌, ℕ, zero, suc, ◌+◌, ◌-◌, ◌*◌, ◌/◌, ◌^◌, ◌<◌, ◌≤◌, Bool, true, false, List, [], ◌∷◌, ◌++◌, length, take, drop, get_or, refl, sym, ap, subst, ◌∙◌, arith, length-append}
 use Rattle.std.proofs.Common.{length-drop, get_or-drop, None, le-leb}
-use Rattle.std.specs.Prelude.{nat_eq, nat_le, nat_lt, ◌==◌, ◌&&◌, ◌||◌, if◌then◌else◌}
-use Rattle.std.specs.List.{list_all, flat_map}
-use Rattle.std.proofs.Math.Nat.{mul-le-mul}
-use Rattle.std.proofs.lemmas.Bool.Decides.{nat_tests}
-use Rattle.std.proofs.lemmas.Grind.{flat_map-append}
+use Rattle.std.{specs.Prelude.nat_eq, specs.Prelude.nat_le, specs.Prelude.nat_lt, specs.Prelude.◌==◌, specs.Prelude.◌&&◌, specs.Prelude.◌||◌, specs.Prelude.if◌then◌else◌, proofs.Math.Nat.mul-le-mul}
+use Rattle.std.{specs.List.list_all, specs.List.flat_map, proofs.lemmas.Bool.Decides.nat_tests, proofs.lemmas.Grind.flat_map-append}
 use Rattle.std.proofs.lemmas.List.{drop-drop, take_at, append_assoc, length-replicate}
-use Rattle.pk_base.specs.Fields.{u32, u16_at, u32_at, zeros, padded}
-use Rattle.pk_base.specs.FieldFaults.{unless}
+use Rattle.pk_base.{specs.Fields.u32, specs.Fields.u16_at, specs.Fields.u32_at, specs.Fields.zeros, specs.Fields.padded, specs.FieldFaults.unless, proofs.Logic.both_true}
 use Rattle.pk_base.specs.Shape.{Shape, IsShape, meta_blocks, data_blocks, limit}
 use Rattle.pk_base.proofs.Tables.{all_none, unless_true, number_stands, stands_number, stands_next}
 use Rattle.pk_rootfmt.specs.Root.{u32s_at, version_of, limit_bytes, has_limits_room, fit_in, are_limits, has_limits, page_limits, limits_of, list_from}
-use Rattle.pk_rootfmt.specs.Fault.{is_version, is_space_count, limits_fault, space_fault}
-use Rattle.pk_base.proofs.Logic.{both_true}
-use Rattle.pk_rootfmt.proofs.RoomLemmas.{page_room}
+use Rattle.pk_rootfmt.{specs.Fault.is_version, specs.Fault.is_space_count, specs.Fault.limits_fault, specs.Fault.space_fault, proofs.RoomLemmas.page_room}
 
 pub by_test : (b : Bool) (P : Type 0) → (b ≡ true → P) → (b ≡ false → P) → P
 by_test true P at_true at_false = at_true refl

@@ -1,12 +1,8 @@
 -- Steps of the loops over limits.
 use Rattle.std.proofs.Common.{◌≡◌, ℕ, zero, suc, ◌+◌, ◌-◌, ◌*◌, ◌<◌, Bool, true, false, List, [], ◌∷◌, drop, refl, sym, ap, ◌∙◌, arith, Option, Some, None}
-use Rattle.std.specs.Prelude.{nat_le, nat_lt, ◌==◌, ◌&&◌, if◌then◌else◌}
-use Rattle.std.proofs.lemmas.Bool.Decides.{nat_tests}
-use Rattle.std.proofs.lemmas.List.{drop-drop}
-use Rattle.pk_base.specs.Fields.{u32_at}
-use Rattle.pk_base.specs.FieldFaults.{unless, first_fault}
-use Rattle.pk_rootfmt.specs.Root.{u32s_at}
-use Rattle.pk_rootfmt.specs.Fault.{limits_fault}
+use Rattle.std.{specs.Prelude.nat_le, specs.Prelude.nat_lt, specs.Prelude.◌==◌, specs.Prelude.◌&&◌, specs.Prelude.if◌then◌else◌, proofs.lemmas.Bool.Decides.nat_tests, proofs.lemmas.List.drop-drop}
+use Rattle.pk_base.{specs.Fields.u32_at, specs.FieldFaults.unless, specs.FieldFaults.first_fault}
+use Rattle.pk_rootfmt.{specs.Root.u32s_at, specs.Fault.limits_fault}
 
 -- the numbers that remain begin with the one here
 words_left : (page : List ℕ) (i : ℕ) → i < 8 → u32s_at (8 - i) (drop (64 + 4 * i) page) ≡ u32_at page (64 + 4 * i) ∷ u32s_at (8 - (i + 1)) (drop (64 + 4 * (i + 1)) page)

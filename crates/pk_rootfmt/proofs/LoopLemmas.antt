@@ -1,15 +1,8 @@
 -- Steps of the loops over block numbers.
 use Rattle.std.proofs.Common.{◌≡◌, ℕ, zero, suc, ◌+◌, ◌-◌, ◌*◌, ◌<◌, Bool, true, false, List, [], ◌∷◌, ◌++◌, length, take, drop, refl, sym, ap, ◌∙◌, arith, Option, Some, None}
-use Rattle.std.specs.Prelude.{nat_eq, ◌==◌, slice_set}
-use Rattle.std.specs.List.{list_any}
-use Rattle.std.proofs.lemmas.Bool.Decides.{nat_tests}
-use Rattle.std.proofs.lemmas.List.{drop-drop}
-use Rattle.pk_base.specs.Fields.{u16_at}
-use Rattle.pk_base.specs.FieldFaults.{unless, first_fault}
-use Rattle.pk_base.specs.Shape.{Shape}
-use Rattle.pk_rootfmt.specs.Root.{u16s_at}
-use Rattle.pk_rootfmt.specs.Fault.{is_other_block, blocks_fault}
-use Rattle.pk_rootfmt.proofs.BlockLemmas.{numbers_split}
+use Rattle.std.{specs.Prelude.nat_eq, specs.Prelude.◌==◌, specs.Prelude.slice_set, specs.List.list_any, proofs.lemmas.Bool.Decides.nat_tests, proofs.lemmas.List.drop-drop}
+use Rattle.pk_base.{specs.Fields.u16_at, specs.FieldFaults.unless, specs.FieldFaults.first_fault, specs.Shape.Shape}
+use Rattle.pk_rootfmt.{specs.Root.u16s_at, specs.Fault.is_other_block, specs.Fault.blocks_fault, proofs.BlockLemmas.numbers_split}
 
 -- the numbers that remain begin with the one here
 pub left_more : (page : List ℕ) (from i count : ℕ) → i < count

@@ -2,21 +2,15 @@
 use Rattle.std.proofs.Common.{◌≡◌, ℕ, ◌+◌, ◌-◌, ◌*◌, ◌^◌, ◌<◌, ◌≤◌, Bool, true, false, List, [], ◌∷◌, ◌++◌, length, take, drop, get_or, map, refl, sym, ap, subst, ◌∙◌, arith, length-append}
 use Rattle.std.proofs.Common.{length-drop, get_or-drop, Some, None}
 use Rattle.std.specs.Prelude.{nat_eq, nat_le, ◌==◌, ◌&&◌, ◌||◌, if◌then◌else◌, bytes_eq, sum}
-use Rattle.std.specs.List.{flat_map, concat}
-use Rattle.std.proofs.Math.Dec.{eqb_refl}
-use Rattle.std.proofs.lemmas.Bool.Decides.{nat_tests}
+use Rattle.std.{specs.List.flat_map, specs.List.concat, proofs.Math.Dec.eqb_refl, proofs.lemmas.Bool.Decides.nat_tests}
 use Rattle.std.proofs.lemmas.List.{drop_all, drop-drop, length-replicate, append-nil, append_assoc}
-use Rattle.pk_base.specs.Fields.{u16, u32, u64, u16_at, u32_at, spelled, zeros}
-use Rattle.pk_base.specs.FieldFaults.{u64_at}
-use Rattle.pk_base.specs.Shape.{Shape, IsShape, run_blocks, meta_blocks}
+use Rattle.pk_base.{specs.Fields.u16, specs.Fields.u32, specs.Fields.u64, specs.Fields.u16_at, specs.Fields.u32_at, specs.Fields.spelled, specs.Fields.zeros, specs.FieldFaults.u64_at}
+use Rattle.pk_base.{specs.Shape.Shape, specs.Shape.IsShape, specs.Shape.run_blocks, specs.Shape.meta_blocks, proofs.Logic.both_true, proofs.Logic.is_true}
 use Rattle.pk_base.proofs.Tables.{◌⊕◌, fields_of, AllNone, all_none, unless_true, unlike_stands, number_stands, number_fits, Stand, stand_spelled}
 use Rattle.pk_rootfmt.specs.Root.{Root, named, root_bytes, root_at, root_page, is_root, is_number, has_runs, differ, u16s_at, parts, version_of, limit_bytes, are_limits, page_limits, list_from}
 use Rattle.pk_rootfmt.specs.Fault.{root_magic, is_epoch, is_run_count, shape_checks, number_checks, list_checks, listed, shape_fault, number_fault, space_fault, list_fault}
-use Rattle.pk_rootfmt.specs.Held.{total}
+use Rattle.pk_rootfmt.{specs.Held.total, proofs.RoomLemmas.runs_most, proofs.LimitLemmas.by_test, proofs.LimitLemmas.Limited, proofs.LimitLemmas.limited, proofs.LimitLemmas.limits_room}
 use Rattle.pk_rootfmt.proofs.BlockLemmas.{length-u16s, length-numbers, numbers_stand, numbers_split, parts_lengths, parts_joined, are_blocks, Others, others_from_check}
-use Rattle.pk_base.proofs.Logic.{both_true, is_true}
-use Rattle.pk_rootfmt.proofs.RoomLemmas.{runs_most}
-use Rattle.pk_rootfmt.proofs.LimitLemmas.{by_test, Limited, limited, limits_room}
 
 -- ---- tests, one after another
 

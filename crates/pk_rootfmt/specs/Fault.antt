@@ -1,11 +1,10 @@
 -- The first wrong field of a root page.
 use Rattle.std.specs.Prelude.{ℕ, zero, suc, if◌then◌else◌, ◌+◌, ◌-◌, ◌*◌, List, [], ◌∷◌, ◌++◌, drop, Bool, ◌&&◌, ◌||◌, not, ◌==◌, nat_le, nat_lt, Option, None}
 use Rattle.std.specs.List.{list_any}
-use Rattle.pk_base.specs.Fields.{u16_at, u32_at, zeros}
-use Rattle.pk_base.specs.FieldFaults.{u64_at, unlike, unless, first_fault}
+use Rattle.pk_base.{specs.Fields.u16_at, specs.Fields.u32_at, specs.Fields.zeros, specs.FieldFaults.u64_at, specs.FieldFaults.unlike, specs.FieldFaults.unless, specs.FieldFaults.first_fault}
 use Rattle.pk_base.specs.declared.sizes.TheConstants.{ROOT_BLOCKS, EPOCH_BLOCKS, MOST_SPACES}
-use Rattle.pk_rootfmt.specs.declared.layout.TheConstants.{VERSION, LIMITS_VERSION, LIST_FROM}
 use Rattle.pk_base.specs.Shape.{Shape, page_entries, cap, run_blocks, limit}
+use Rattle.pk_rootfmt.specs.declared.layout.TheConstants.{VERSION, LIMITS_VERSION, LIST_FROM}
 use Rattle.pk_rootfmt.specs.Root.{u16s_at, u32s_at, has_limits, has_limits_room, list_from}
 
 -- PINKROOT

@@ -1,27 +1,17 @@
 -- A lookup in a run: which page may have the key, and what that page says of the whole run.
-use Rattle.std.proofs.Common.{◌≡◌, ℕ, suc, ◌+◌, ◌*◌, ◌<◌, ◌≤◌, T, List, [], length, slice_get, get_or, take, drop, ap, sym, subst, ◌∙◌, arith, Option, Some, None, option_map}
-use Rattle.std.proofs.Common.{◌/◌, ◌%◌, div-lt_iff_lt-mul, suc-mul, zero-mul, mul-le-mul_right, lt_of_mul-lt-mul_right}
-use Rattle.std.proofs.lemmas.Grind.{div_ceil_times}
-use Rattle.std.proofs.lemmas.List.{get_or_default}
+use Rattle.std.proofs.Common.{◌≡◌, ℕ, suc, ◌+◌, ◌*◌, ◌<◌, ◌≤◌, T, List, [], length, slice_get, get_or, take, drop, ap, sym, subst, ◌∙◌, arith, Option, Some, None, option_map, ◌/◌, ◌%◌}
+use Rattle.std.proofs.Common.{div-lt_iff_lt-mul, suc-mul, zero-mul, mul-le-mul_right, lt_of_mul-lt-mul_right}
+use Rattle.std.{proofs.lemmas.Grind.div_ceil_times, proofs.lemmas.List.get_or_default, specs.FinMap.Entries.find, specs.FinMap.Entries.is_sorted}
 use Rattle.std.proofs.lemmas.Option.{slice_get_within, slice_get_past, slice_get-get_or}
-use Rattle.std.specs.FinMap.Entries.{find, is_sorted}
-use Rattle.pk_base.specs.Key.{Key, key_cmp}
-use Rattle.pk_base.specs.Shape.{Shape, IsShape, page_entries}
-use Rattle.pk_base.specs.Entry.{Entry, key_of}
-use Rattle.pk_base.specs.Seen.{entry as seen}
-use Rattle.pk_base.specs.declared.entry.Entry.{Entry as RustEntry}
-use Rattle.pk_base.specs.Page.{Flash, IsFlash, page_at, page_in, whole, torn}
-use Rattle.pk_meta.specs.PageChecks.{IsMetaPage, IsEntryOf, Decodes}
-use Rattle.pk_meta.proofs.Reading.{meta_held}
-use Rattle.pk_nand.specs.BoardState.{BoardState}
-use Rattle.pk_nand.specs.Calls.{IsReady}
-use Rattle.pk_nand.specs.Operations.{after_read}
+use Rattle.pk_base.{specs.Key.Key, specs.Key.key_cmp, specs.Shape.Shape, specs.Shape.IsShape, specs.Shape.page_entries, specs.Entry.Entry, specs.Entry.key_of, specs.Seen.entry as seen}
+use Rattle.pk_base.{specs.declared.entry.Entry.Entry as RustEntry, specs.Page.Flash, specs.Page.IsFlash, specs.Page.page_at, specs.Page.page_in, specs.Page.whole, specs.Page.torn}
+use Rattle.pk_base.specs.declared.sizes.TheConstants.{MOST_SPACES}
+use Rattle.pk_meta.{specs.PageChecks.IsMetaPage, specs.PageChecks.IsEntryOf, specs.PageChecks.Decodes, proofs.Reading.meta_held}
+use Rattle.pk_nand.{specs.BoardState.BoardState, specs.Calls.IsReady, specs.Operations.after_read}
 use Rattle.pk_pin.specs.Frames.{Frames, frame_of}
-use Rattle.pk_run.specs.Kept.{Kept, IsKept, IsPinned, RunOnFlash, page_of, after_look}
+use Rattle.pk_run.{specs.Kept.Kept, specs.Kept.IsKept, specs.Kept.IsPinned, specs.Kept.RunOnFlash, specs.Kept.page_of, specs.Kept.after_look, proofs.Pieces.pieces, proofs.Pieces.share}
 use Rattle.pk_run.specs.Search.{IsFound, IsBeforeAll, IsPageFor}
 use Rattle.pk_run.proofs.Orders.{find_piece, find_nowhere, absent, present, sorted_drop, sorted_take}
-use Rattle.pk_run.proofs.Pieces.{pieces, share}
-use Rattle.pk_base.specs.declared.sizes.TheConstants.{MOST_SPACES}
 
 -- an entry that is the first of a page has the page's first key
 pub first_is : (r : Kept) (flash : Flash) (arena : Frames) (es : List Entry) → IsShape r.shape → RunOnFlash r flash arena es → (j : ℕ) (e : Entry) → slice_get es (j * page_entries r.shape) ≡ Some e

@@ -1,11 +1,8 @@
 -- A run that is unchanged while others change pages and frames that are none of its own.
 use Rattle.std.proofs.Common.{◌≡◌, ◌≢◌, inl, inr, ℕ, zero, suc, Bool, true, false, cond, List, [], ◌∷◌, slice_get, set, refl, ap, subst, ◌∙◌, arith, Some, get_or-set_other}
-use Rattle.std.specs.Prelude.{◌==◌}
-use Rattle.std.proofs.lemmas.Bool.Decides.{eqb_tells}
+use Rattle.std.{specs.Prelude.◌==◌, proofs.lemmas.Bool.Decides.eqb_tells}
 use Rattle.pk_pin.specs.Frames.{leased, given, filled, times}
-use Rattle.pk_run.specs.Kept.{page_of}
-use Rattle.pk_run.specs.Laws.{StandsOutside, FrameTaken, FrameFilled, FrameGiven}
-use Rattle.pk_run.proofs.Standing.{RunOnFlash-elsewhere}
+use Rattle.pk_run.{specs.Kept.page_of, specs.Laws.StandsOutside, specs.Laws.FrameTaken, specs.Laws.FrameFilled, specs.Laws.FrameGiven, proofs.Standing.RunOnFlash-elsewhere}
 
 pub RunOnFlash-outside : StandsOutside
 RunOnFlash-outside r old new arena es first count same apart s =

@@ -1,21 +1,13 @@
 -- Runs that match a flash: what others leave of them, and another block or page.
-use Rattle.std.proofs.Common.{◌≡◌, inl, inr, ℕ, zero, suc, ◌+◌, ◌*◌, ◌/◌, ◌%◌, ◌<◌, ◌≤◌, List, [], ◌∷◌, ◌++◌, length, slice_get, refl, ap, sym, subst, ◌∙◌, arith, Option, Some, None}
-use Rattle.std.proofs.Common.{option_map, Ok, length-append, suc-mul, mul-le-mul_right, zero-mul, div-lt_iff_lt-mul}
-use Rattle.std.proofs.Math.ListN.{get_or-append}
-use Rattle.std.proofs.lemmas.Bool.{cases_lt}
-use Rattle.std.proofs.lemmas.Option.{slice_get_within}
-use Rattle.pk_base.specs.Key.{Key}
-use Rattle.pk_base.specs.Shape.{Shape, IsShape, page_entries, run_pages}
-use Rattle.pk_base.specs.Entry.{Entry, key_of}
-use Rattle.pk_base.specs.Page.{Flash, page_at, page_in, whole}
+use Rattle.std.proofs.Common.{◌≡◌, inl, inr, ℕ, zero, suc, ◌+◌, ◌*◌, ◌/◌, ◌%◌, ◌<◌, ◌≤◌, List, [], ◌∷◌, ◌++◌, length, slice_get, refl, ap, sym, subst, ◌∙◌, arith, Option, Some, None, option_map, Ok}
+use Rattle.std.proofs.Common.{length-append, suc-mul, mul-le-mul_right, zero-mul, div-lt_iff_lt-mul}
+use Rattle.std.{proofs.Math.ListN.get_or-append, proofs.lemmas.Bool.cases_lt, proofs.lemmas.Option.slice_get_within}
+use Rattle.pk_base.{specs.Key.Key, specs.Shape.Shape, specs.Shape.IsShape, specs.Shape.page_entries, specs.Shape.run_pages, specs.Entry.Entry, specs.Entry.key_of, proofs.ShapeLemmas.entries_some}
+use Rattle.pk_base.{specs.Page.Flash, specs.Page.page_at, specs.Page.page_in, specs.Page.whole, specs.declared.sizes.TheConstants.MOST_SPACES}
 use Rattle.pk_meta.specs.Run.{run}
 use Rattle.pk_pin.specs.Frames.{Frames}
 use Rattle.pk_run.specs.Kept.{Kept, empty, page_of, IsFrameOf, RunOnFlash, IsNext, IsPinnedAlike, with_page, with_lease}
-use Rattle.pk_run.specs.Laws.{StandsElsewhere}
-use Rattle.pk_run.specs.Leases.{StandsBare}
-use Rattle.pk_run.proofs.Pieces.{pages_are, run_same, run_more, page_in_spaces}
-use Rattle.pk_base.proofs.ShapeLemmas.{entries_some}
-use Rattle.pk_base.specs.declared.sizes.TheConstants.{MOST_SPACES}
+use Rattle.pk_run.{specs.Laws.StandsElsewhere, specs.Leases.StandsBare, proofs.Pieces.pages_are, proofs.Pieces.run_same, proofs.Pieces.run_more, proofs.Pieces.page_in_spaces}
 
 -- a lease is of a page of the run
 pub leased_page : (r : Kept) (flash : Flash) (arena : Frames) (es : List Entry) → RunOnFlash r flash arena es → (j lease : ℕ) → slice_get r.leases j ≡ Some lease → j < length r.firsts

@@ -1,16 +1,11 @@
 -- What memory keeps of a run, and what this says of the pages of a flash and of the frames of an arena.
 use Rattle.std.specs.Prelude.{◌≡◌, ℕ, ◌+◌, ◌*◌, ◌<◌, ◌≤◌, T, not, ◌||◌, ◌==◌, is_some, Bool, nat_le, false, List, [], ◌∷◌, ◌++◌, length, slice_get, option_map, Option, Some, None, Ok}
-use Rattle.std.specs.List.{list_all}
-use Rattle.std.specs.FinMap.Entries.{is_sorted}
-use Rattle.pk_base.specs.declared.sizes.TheConstants.{LEVELS, MOST_SPACES}
-use Rattle.pk_base.specs.Key.{Key, key_cmp, IsBelow}
+use Rattle.std.{specs.List.list_all, specs.FinMap.Entries.is_sorted}
+use Rattle.pk_base.{specs.declared.sizes.TheConstants.LEVELS, specs.declared.sizes.TheConstants.MOST_SPACES, specs.Key.Key, specs.Key.key_cmp, specs.Key.IsBelow, specs.Entry.Entry, specs.Entry.key_of}
 use Rattle.pk_base.specs.Shape.{Shape, page_entries, run_pages, cap, blocks_of}
-use Rattle.pk_base.specs.Entry.{Entry, key_of}
 use Rattle.pk_base.specs.Page.{Flash, page_at, page_in, whole}
-use Rattle.pk_meta.specs.Page.{meta_entries}
-use Rattle.pk_meta.specs.Run.{run}
-use Rattle.pk_nand.specs.BoardState.{BoardState}
-use Rattle.pk_nand.specs.Operations.{after_read}
+use Rattle.pk_meta.{specs.Page.meta_entries, specs.Run.run}
+use Rattle.pk_nand.{specs.BoardState.BoardState, specs.Operations.after_read}
 use Rattle.pk_pin.specs.Frames.{Frames, IsLeased, frame_of, leased, filled}
 
 -- the level, how many entries there are, the blocks in order, the first key of each page, and a lease for each of its first pages, as many as have a frame

@@ -1,7 +1,6 @@
 -- Leases whose frames are freed, and what that leaves of other runs.
 use Rattle.std.specs.Prelude.{◌≡◌, ℕ, List, [], ◌∷◌, ◌++◌, slice_get, Some}
-use Rattle.pk_base.specs.Entry.{Entry}
-use Rattle.pk_base.specs.Page.{Flash}
+use Rattle.pk_base.{specs.Entry.Entry, specs.Page.Flash}
 use Rattle.pk_pin.specs.Frames.{Frames, AreLeases, IsLeased, given, times}
 use Rattle.pk_run.specs.Kept.{Kept, RunOnFlash}
 

@@ -1,11 +1,7 @@
 -- Where a key is looked for among the pages of a run.
 use Rattle.std.specs.Prelude.{◌≡◌, ◌⊎◌, ℕ, suc, ◌<◌, ◌≤◌, List, length, slice_get, Some, None, Option, MatchOption}
-use Rattle.std.specs.declared.cmp.Ordering.TheVariants.{Greater}
-use Rattle.std.specs.FinMap.Entries.{find}
-use Rattle.pk_base.specs.Key.{Key, key_cmp}
-use Rattle.pk_base.specs.Entry.{Entry, key_of}
-use Rattle.pk_base.specs.Seen.{entry}
-use Rattle.pk_base.specs.declared.entry.Entry.{Entry as RustEntry}
+use Rattle.std.{specs.declared.cmp.Ordering.TheVariants.Greater, specs.FinMap.Entries.find}
+use Rattle.pk_base.{specs.Key.Key, specs.Key.key_cmp, specs.Entry.Entry, specs.Entry.key_of, specs.Seen.entry, specs.declared.entry.Entry.Entry as RustEntry}
 use Rattle.pk_nand.specs.BoardState.{BoardState}
 use Rattle.pk_run.specs.Kept.{Kept, after_look}
 

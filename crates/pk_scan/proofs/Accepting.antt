@@ -1,18 +1,12 @@
 -- One step of the reading of values.
 use Rattle.std.proofs.Common.{◌≡◌, ℕ, suc, ◌-◌, Bool, true, false, List, [], ◌∷◌, ◌++◌, refl, sym, ap, ◌∙◌}
 use Rattle.std.specs.Prelude.{Result, Ok, Err, if◌then◌else◌}
-use Rattle.pk_base.specs.Key.{Key}
-use Rattle.pk_base.specs.Shape.{Shape}
-use Rattle.pk_base.specs.Entry.{Place}
-use Rattle.pk_base.specs.Page.{Page, Flash, page_at}
+use Rattle.pk_base.{specs.Key.Key, specs.Shape.Shape, specs.Entry.Place, specs.Page.Page, specs.Page.Flash, specs.Page.page_at}
 use Rattle.pk_base.specs.Refusal.{Refusal, damaged, ◌>>=◌, ensure}
-use Rattle.pk_nand.specs.BoardState.{BoardState}
-use Rattle.pk_nand.specs.Counts.{after_reads}
+use Rattle.pk_nand.{specs.BoardState.BoardState, specs.Counts.after_reads}
 use Rattle.pk_segfmt.specs.Value.{value_at}
 use Rattle.pk_model.specs.Values.{fits_after, values_of}
-use Rattle.pk_scan.specs.Checked.{HasValue, NotFound}
-use Rattle.pk_scan.specs.Accepted.{Accepted, RefusedWith, NotAccepted}
-use Rattle.pk_scan.specs.declared.errors.PageError.{PageError}
+use Rattle.pk_scan.{specs.Checked.HasValue, specs.Checked.NotFound, specs.Accepted.Accepted, specs.Accepted.RefusedWith, specs.Accepted.NotAccepted, specs.declared.errors.PageError.PageError}
 use Rattle.pk_scan.specs.declared.errors.PageError.TheVariants.{Damaged, Fault}
 
 module _ (shape : Shape) (limits named : List ℕ) (taken : List (Key × Place)) (key : Key) (place : Place) where

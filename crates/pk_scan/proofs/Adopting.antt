@@ -1,25 +1,15 @@
 -- Blocks that become an owner's one after another.
 use Rattle.std.proofs.Common.{◌≡◌, inl, inr, ℕ, zero, suc, ◌+◌, ◌<◌, ◌≤◌, Bool, true, false, not, ◌&&◌, ◌||◌, ◌==◌, cond, List, [], ◌∷◌, ◌++◌, length, take, drop, refl, sym, ap, subst, ◌∙◌, arith}
 use Rattle.std.proofs.Common.{Option, Some, None, option_map, length-append, append_assoc, append-nil}
-use Rattle.std.specs.Prelude.{slice_get}
-use Rattle.std.specs.List.{list_any, concat, AllByRecursion}
-use Rattle.std.proofs.Math.ListN.{set}
-use Rattle.std.proofs.lemmas.Bool.{false≢true}
-use Rattle.std.proofs.lemmas.Bool.Decides.{eqb_tells}
-use Rattle.std.proofs.lemmas.List.Folds.{list_any-append}
+use Rattle.std.{specs.Prelude.slice_get, specs.List.list_any, specs.List.concat, specs.List.AllByRecursion, proofs.Math.ListN.set, proofs.lemmas.Bool.false≢true, proofs.lemmas.Bool.Decides.eqb_tells}
+use Rattle.std.{proofs.lemmas.List.Folds.list_any-append, proofs.lemmas.List.take_all}
 use Rattle.pk_base.specs.Page.{Flash}
-use Rattle.pk_plan.specs.declared.owner.Owner.{Owner}
-use Rattle.pk_plan.specs.Quotas.{quota_of}
-use Rattle.pk_pool.specs.declared.state.BlockState.{BlockState}
+use Rattle.pk_plan.{specs.declared.owner.Owner.Owner, specs.Quotas.quota_of, specs.declared.owner.Owner.TheVariants.Meta}
+use Rattle.pk_pool.{specs.declared.state.BlockState.BlockState, proofs.States.get-set_other, proofs.States.set_is, proofs.Sharing.count-set}
 use Rattle.pk_pool.specs.declared.state.BlockState.TheVariants.{Free, Ready, Owned}
 use Rattle.pk_pool.specs.Blocks.{Blocks, used_by, same_owner, is_owned_by, with_state, IsSpare, PoolOnFlash}
-use Rattle.pk_pool.proofs.States.{get-set_other, set_is}
-use Rattle.pk_pool.proofs.Sharing.{count-set}
 use Rattle.pk_rootfmt.specs.Root.{differ}
-use Rattle.pk_plan.specs.declared.owner.Owner.TheVariants.{Meta}
-use Rattle.pk_scan.specs.Adopts.{is_among, owned_if, Adopts, MayAdopt}
-use Rattle.pk_scan.proofs.Loading.{take_more}
-use Rattle.std.proofs.lemmas.List.{take_all}
+use Rattle.pk_scan.{specs.Adopts.is_among, specs.Adopts.owned_if, specs.Adopts.Adopts, specs.Adopts.MayAdopt, proofs.Loading.take_more}
 
 -- ---- tests
 

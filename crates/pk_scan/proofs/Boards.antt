@@ -1,18 +1,10 @@
 -- Boards after reads, of which the last one may have failed.
 use Rattle.std.proofs.Common.{◌≡◌, ℕ, zero, ◌+◌, Bool, true, false, List, refl, sym, ap, subst, ◌∙◌}
 use Rattle.std.specs.Prelude.{if◌then◌else◌}
-use Rattle.pk_base.specs.Shape.{Shape}
-use Rattle.pk_base.specs.Page.{IsFlash}
-use Rattle.pk_nand.specs.BoardState.{BoardState}
-use Rattle.pk_nand.specs.Calls.{IsReady}
-use Rattle.pk_nand.specs.Operations.{ReadFailed}
-use Rattle.pk_nand.specs.Counts.{after_reads}
+use Rattle.pk_base.{specs.Shape.Shape, specs.Page.IsFlash}
+use Rattle.pk_nand.{specs.BoardState.BoardState, specs.Calls.IsReady, specs.Operations.ReadFailed, specs.Counts.after_reads, specs.Effects.OnlyReading}
 use Rattle.pk_level.proofs.Looking.{reads_more}
-use Rattle.pk_scan.specs.Opening.{OnlyReads, FaultCounted}
-use Rattle.pk_nand.specs.Effects.{OnlyReading}
-use Rattle.pk_scan.specs.Board.{StaysReady}
-use Rattle.pk_scan.specs.Runs.{NotRead}
-use Rattle.pk_scan.specs.declared.errors.PageError.{PageError}
+use Rattle.pk_scan.{specs.Opening.OnlyReads, specs.Opening.FaultCounted, specs.Board.StaysReady, specs.Runs.NotRead, specs.declared.errors.PageError.PageError}
 use Rattle.pk_scan.specs.declared.errors.PageError.TheVariants.{Damaged, Fault}
 
 -- ---- reads of which none failed

@@ -2,22 +2,11 @@
 use Rattle.std.proofs.Common.{◌≡◌, ℕ, suc, ◌+◌, ◌-◌, ◌<◌, ◌≤◌, true, false, List, drop, refl, sym, subst, ap, ◌∙◌, arith}
 use Rattle.std.specs.Prelude.{Result, Ok, Err}
 use borrow.Author.Count.{below_more}
-use Rattle.pk_base.specs.Key.{Key}
-use Rattle.pk_base.specs.Shape.{Shape, charge}
-use Rattle.pk_base.specs.Entry.{Place}
-use Rattle.pk_base.specs.Page.{Flash, page_at}
-use Rattle.pk_base.specs.Refusal.{Refusal, damaged, ◌>>=◌}
-use Rattle.pk_nand.specs.BoardState.{BoardState}
-use Rattle.pk_nand.specs.Calls.{IsReady}
-use Rattle.pk_nand.specs.Operations.{after_read, ReadFailed}
-use Rattle.pk_nand.specs.Counts.{after_reads}
+use Rattle.pk_base.{specs.Key.Key, specs.Shape.Shape, specs.Shape.charge, specs.Entry.Place, specs.Page.Flash, specs.Page.page_at, specs.Refusal.Refusal, specs.Refusal.damaged, specs.Refusal.◌>>=◌}
+use Rattle.pk_nand.{specs.BoardState.BoardState, specs.Calls.IsReady, specs.Operations.after_read, specs.Operations.ReadFailed, specs.Counts.after_reads, specs.Effects.OnlyReading}
 use Rattle.pk_segfmt.specs.Value.{head_bytes, value_from, value_at}
-use Rattle.pk_scan.specs.Pages.{is_right}
-use Rattle.pk_scan.specs.Checked.{HasValue, NotFound, PageRefused}
-use Rattle.pk_scan.specs.declared.errors.PageError.{PageError}
-use Rattle.pk_scan.specs.declared.errors.PageError.TheVariants.{Damaged, Fault}
-use Rattle.pk_nand.specs.Effects.{OnlyReading}
-use Rattle.pk_scan.proofs.Boards.{rest_reads, rest_failed}
+use Rattle.pk_scan.{specs.Pages.is_right, specs.Checked.HasValue, specs.Checked.NotFound, specs.Checked.PageRefused, specs.declared.errors.PageError.PageError}
+use Rattle.pk_scan.{specs.declared.errors.PageError.TheVariants.Damaged, specs.declared.errors.PageError.TheVariants.Fault, proofs.Boards.rest_reads, proofs.Boards.rest_failed}
 use Rattle.pk_scan.proofs.Reading.{all_right, first_wrong, not_before}
 
 -- ---- the value, after its head

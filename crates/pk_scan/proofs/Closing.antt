@@ -1,32 +1,20 @@
 -- The blocks of live values: a root does not name them, so they are free, and they are not too many.
 use Rattle.std.proofs.Common.{◌≡◌, ◌≢◌, inl, inr, ℕ, zero, suc, ◌+◌, ◌-◌, ◌/◌, ◌<◌, ◌≤◌, Bool, true, false, not, ◌&&◌, ◌||◌, ◌==◌, cond, List, [], ◌∷◌, ◌++◌, length, take, drop, get_or, map, refl}
 use Rattle.std.proofs.Common.{sym, ap, subst, ◌∙◌, arith, Option, Some, None, option_map}
-use Rattle.std.specs.Prelude.{slice_get, count_by, nat_le}
-use Rattle.std.specs.List.{list_any, list_all, concat, range_with_len}
+use Rattle.std.{specs.Prelude.slice_get, specs.Prelude.count_by, specs.Prelude.nat_le, specs.List.list_any, specs.List.list_all, specs.List.concat, specs.List.range_with_len}
 use Rattle.std.proofs.lemmas.Bool.{false≢true, or_parts, or_cases, and_parts, eqb-true, cases_eq}
-use Rattle.std.proofs.lemmas.Bool.Decides.{nat_tests, eqb_tells}
-use Rattle.std.proofs.lemmas.List.{take_all, length-take-le, take-append-drop, get_or_past}
-use Rattle.std.proofs.lemmas.List.FromFn.{length-map-range_with_len, get_or-map-range_with_len}
-use Rattle.std.proofs.lemmas.List.Folds.{list_any-append}
-use Rattle.std.proofs.lemmas.Option.{slice_get-get_or}
-use Rattle.std.proofs.lemmas.List.Sums.{sum_by-append, sum_by-cons, length-filter}
-use Rattle.pk_base.specs.Key.{Key}
-use Rattle.pk_base.specs.Shape.{Shape, IsShape, data_blocks, limit}
-use Rattle.pk_base.specs.Entry.{Place}
-use Rattle.pk_base.specs.Page.{Flash}
-use Rattle.pk_live.specs.Values.{Values as LiveValues}
+use Rattle.std.{proofs.lemmas.Bool.Decides.nat_tests, proofs.lemmas.Bool.Decides.eqb_tells, proofs.lemmas.List.FromFn.length-map-range_with_len, proofs.lemmas.List.FromFn.get_or-map-range_with_len}
+use Rattle.std.{proofs.lemmas.List.take_all, proofs.lemmas.List.length-take-le, proofs.lemmas.List.take-append-drop, proofs.lemmas.List.get_or_past, proofs.lemmas.List.Folds.list_any-append}
+use Rattle.std.{proofs.lemmas.Option.slice_get-get_or, proofs.lemmas.List.Sums.sum_by-append, proofs.lemmas.List.Sums.sum_by-cons, proofs.lemmas.List.Sums.length-filter}
+use Rattle.pk_base.{specs.Key.Key, specs.Shape.Shape, specs.Shape.IsShape, specs.Shape.data_blocks, specs.Shape.limit, specs.Entry.Place, specs.Page.Flash}
+use Rattle.pk_live.{specs.Values.Values as LiveValues, specs.Lives.is_used, specs.Lives.Lives, proofs.Standing.count_map, proofs.Standing.value_in_block, proofs.Standing.Placed}
 use Rattle.pk_segfmt.specs.Value.{value_pages}
 use Rattle.pk_model.specs.Values.{all_pages, fits, blocks_with}
-use Rattle.pk_plan.specs.declared.owner.Owner.TheVariants.{Journal, Meta, Values}
-use Rattle.pk_plan.specs.Quotas.{quota_of}
-use Rattle.pk_pool.specs.declared.state.BlockState.{BlockState}
-use Rattle.pk_pool.specs.declared.state.BlockState.TheVariants.{Owned}
+use Rattle.pk_plan.{specs.declared.owner.Owner.TheVariants.Journal, specs.declared.owner.Owner.TheVariants.Meta, specs.declared.owner.Owner.TheVariants.Values, specs.Quotas.quota_of}
+use Rattle.pk_pool.{specs.declared.state.BlockState.BlockState, specs.declared.state.BlockState.TheVariants.Owned}
 use Rattle.pk_pool.specs.Blocks.{Blocks, used_by, unused, with_state, IsSpare, PoolOnFlash}
 use Rattle.pk_rootfmt.specs.Root.{Root, named, differ}
-use Rattle.pk_live.specs.Lives.{is_used, Lives}
-use Rattle.pk_scan.specs.Adopts.{is_among, owned_if, state_of, Adopts, NamesOwned}
-use Rattle.pk_scan.proofs.Loading.{take_more}
-use Rattle.pk_live.proofs.Standing.{count_map, value_in_block, Placed}
+use Rattle.pk_scan.{specs.Adopts.is_among, specs.Adopts.owned_if, specs.Adopts.state_of, specs.Adopts.Adopts, specs.Adopts.NamesOwned, proofs.Loading.take_more}
 use Rattle.pk_scan.proofs.Adopting.{still_spare, adopts_none, adopts_both, adopts_same, adopts_one}
 use Rattle.pk_scan.proofs.Naming.{unused_free, unused_none}
 

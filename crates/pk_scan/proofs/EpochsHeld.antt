@@ -1,27 +1,17 @@
 -- Epochs that were replayed, as the reading of a flash has them.
 use Rattle.std.proofs.Common.{◌≡◌, ℕ, ◌-◌, ◌*◌, ◌/◌, ◌<◌, ◌≤◌, Bool, true, false, ◌||◌, ◌==◌, List, [], ◌∷◌, length, refl, sym, ap, subst, ◌∙◌, arith, Option, Some, None, Result, Ok, Err}
-use Rattle.std.specs.Prelude.{nat_le, slice_index}
-use Rattle.std.proofs.Math.Nat.{zero-div, zero-mod}
-use Rattle.std.proofs.lemmas.Bool.Decides.{nat_tests}
+use Rattle.std.{specs.Prelude.nat_le, specs.Prelude.slice_index, proofs.Math.Nat.zero-div, proofs.Math.Nat.zero-mod, proofs.lemmas.Bool.Decides.nat_tests}
 use Rattle.std.specs.declared.cmp.Ordering.TheVariants.{Less, Equal, Greater}
 use Rattle.std.specs.FinMap.Entries.{put, by_order}
-use Rattle.pk_base.specs.Key.{Key, key_cmp}
-use Rattle.pk_base.specs.Shape.{Shape, epoch_commits}
-use Rattle.pk_base.specs.Entry.{Entry, Place}
+use Rattle.pk_base.{specs.Key.Key, specs.Key.key_cmp, specs.Shape.Shape, specs.Shape.epoch_commits, specs.Entry.Entry, specs.Entry.Place, specs.Firsts.firsts}
 use Rattle.pk_base.specs.Page.{Page, Flash, page_at, page_in, commits_of}
-use Rattle.pk_base.specs.Firsts.{firsts}
 use Rattle.pk_base.specs.Refusal.{Refusal, damaged, ensure, ◌>>=◌}
 use Rattle.pk_jrnfmt.specs.Epoch.{epoch, journal}
-use Rattle.pk_rootfmt.specs.Root.{Root}
-use Rattle.pk_rootfmt.specs.Held.{two_of, older_of}
+use Rattle.pk_rootfmt.{specs.Root.Root, specs.Held.two_of, specs.Held.older_of}
 use Rattle.pk_buf.specs.Table.{Table, no_entries}
-use Rattle.pk_jrn.specs.Epochs.{EpochOnFlash, HasCommit, found_at_opening}
-use Rattle.pk_jrn.specs.Replays.{Replayed, buffer_of}
-use Rattle.pk_jrn.proofs.Puts.{firsts-reverse}
-use Rattle.pk_model.specs.RootLimits.{root_spaces}
-use Rattle.pk_model.specs.Found.{older_epoch}
-use Rattle.pk_scan.specs.OpeningParts.{OlderHeld, NewestHeld}
-use Rattle.pk_scan.proofs.Naming.{two_is, older_is, older_none}
+use Rattle.pk_jrn.{specs.Epochs.EpochOnFlash, specs.Epochs.HasCommit, specs.Epochs.found_at_opening, specs.Replays.Replayed, specs.Replays.buffer_of, proofs.Puts.firsts-reverse}
+use Rattle.pk_model.{specs.RootLimits.root_spaces, specs.Found.older_epoch}
+use Rattle.pk_scan.{specs.OpeningParts.OlderHeld, specs.OpeningParts.NewestHeld, proofs.Naming.two_is, proofs.Naming.older_is, proofs.Naming.older_none}
 
 -- ---- entries of a table
 

@@ -1,17 +1,11 @@
 -- How many pages are read: of an epoch, and of runs.
 use Rattle.std.proofs.Common.{◌≡◌, ℕ, zero, suc, ◌+◌, ◌-◌, ◌*◌, ◌/◌, ◌<◌, ◌≤◌, List, [], ◌∷◌, ◌++◌, length, take, get_or, refl, sym, ap, subst, ◌∙◌, arith, Some, None}
-use Rattle.std.specs.Prelude.{slice_index}
-use Rattle.std.proofs.lemmas.List.{take_all}
-use Rattle.pk_base.specs.Shape.{Shape, run_pages}
-use Rattle.pk_base.specs.Page.{Flash, page_at}
-use Rattle.pk_nand.specs.BoardState.{BoardState}
-use Rattle.pk_nand.specs.Counts.{after_reads}
-use Rattle.pk_rootfmt.specs.Root.{Root}
-use Rattle.pk_rootfmt.specs.Held.{two_of, older_of}
+use Rattle.std.{specs.Prelude.slice_index, proofs.lemmas.List.take_all}
+use Rattle.pk_base.{specs.Shape.Shape, specs.Shape.run_pages, specs.Page.Flash, specs.Page.page_at}
+use Rattle.pk_nand.{specs.BoardState.BoardState, specs.Counts.after_reads}
+use Rattle.pk_rootfmt.{specs.Root.Root, specs.Held.two_of, specs.Held.older_of}
 use Rattle.pk_jrn.specs.EpochReads.{reads_to_end, epoch_reads}
-use Rattle.pk_scan.specs.Reads.{pages_of_runs, list_reads}
-use Rattle.pk_scan.proofs.Naming.{two_is, older_is, older_none}
-use Rattle.pk_scan.proofs.Boards.{reads_sum}
+use Rattle.pk_scan.{specs.Reads.pages_of_runs, specs.Reads.list_reads, proofs.Naming.two_is, proofs.Naming.older_is, proofs.Naming.older_none, proofs.Boards.reads_sum}
 
 -- ---- an epoch
 

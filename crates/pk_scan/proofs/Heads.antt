@@ -1,19 +1,11 @@
 -- A page begins with a head exactly if the head that is read from it is that one.
 use Rattle.std.proofs.Common.{◌≡◌, ℕ, Bool, true, List, ◌++◌, length, take, drop, sym, subst, ap, ◌∙◌, nat_eq}
-use Rattle.std.specs.List.{starts_with}
-use Rattle.std.proofs.lemmas.Bool.Decides.{same_from_decides}
-use Rattle.std.proofs.lemmas.List.{take-append-drop, take_at}
-use Rattle.std.specs.Ordering.{is_eq}
-use Rattle.std.specs.Cmp.{tied_itself}
-use Rattle.pk_base.specs.Key.{Key, IsKey, key_cmp}
+use Rattle.std.{specs.List.starts_with, proofs.lemmas.Bool.Decides.same_from_decides, proofs.lemmas.List.take-append-drop, proofs.lemmas.List.take_at, specs.Ordering.is_eq, specs.Cmp.tied_itself}
 use Rattle.std.specs.Prelude.{Result, Ok, Err}
-use Rattle.pk_segfmt.specs.Value.{head_bytes}
-use Rattle.pk_segfmt.specs.declared.found.Head.{Head}
-use Rattle.pk_segfmt.specs.declared.found.BadHead.{BadHead}
-use Rattle.pk_model.proofs.MapLemmas.{key_total}
-use Rattle.pk_model.proofs.Lookups.{same_key}
-use Rattle.pk_segfmt.proofs.ValueLemmas.{starts_front, front_starts}
+use Rattle.pk_base.specs.Key.{Key, IsKey, key_cmp}
+use Rattle.pk_segfmt.{specs.Value.head_bytes, specs.declared.found.Head.Head, specs.declared.found.BadHead.BadHead, proofs.ValueLemmas.starts_front, proofs.ValueLemmas.front_starts}
 use Rattle.pk_segfmt.proofs.StoredLemmas.{length-head_bytes}
+use Rattle.pk_model.{proofs.MapLemmas.key_total, proofs.Lookups.same_key}
 
 pub begins : (bytes front : List ℕ) → take 32 bytes ≡ front → starts_with nat_eq bytes front ≡ true
 begins bytes front e =

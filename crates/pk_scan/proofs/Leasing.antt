@@ -1,23 +1,15 @@
 -- Frames that are leased one after another.
 use Rattle.std.proofs.Common.{◌≡◌, ◌≢◌, ℕ, zero, suc, ◌+◌, ◌<◌, ◌≤◌, nat_le, Bool, true, false, not, cond, List, [], ◌∷◌, ◌++◌, length, replicate, refl, ap, sym, subst, ◌∙◌, arith, Option, Some, None}
-use Rattle.std.proofs.Common.{is_some}
-use Rattle.std.proofs.Common.{get_or-set_other, length-set, length-append}
-use Rattle.std.specs.Prelude.{slice_get}
-use Rattle.std.proofs.Math.ListN.{set}
-use Rattle.std.proofs.lemmas.Bool.Decides.{nat_tests}
-use Rattle.std.proofs.lemmas.List.{length-replicate}
-use Rattle.std.proofs.lemmas.List.Sums.{sum_by-set}
+use Rattle.std.proofs.Common.{is_some, get_or-set_other, length-set, length-append}
+use Rattle.std.{specs.Prelude.slice_get, proofs.Math.ListN.set, proofs.lemmas.Bool.Decides.nat_tests, proofs.lemmas.List.length-replicate, proofs.lemmas.List.Sums.sum_by-set}
 use Rattle.std.proofs.lemmas.Option.{slice_get_within, get_or_from_slice_get}
 use Rattle.pk_base.specs.Shape.{Shape, pinned}
 use Rattle.pk_pin.specs.Frames.{Frames, leased, filled, times, AreLeases, KeepsPage}
 use Rattle.pk_pin.proofs.Leases.{times-append, leases_none, leases_taken}
-use Rattle.pk_run.specs.Kept.{Kept}
-use Rattle.pk_level.specs.Levels.{Levels}
-use Rattle.pk_level.specs.Arenas.{HasArena, AreBareAbove, IsPinnedIf, last_level, leases_of, page_counts}
+use Rattle.pk_run.{specs.Kept.Kept, proofs.Standing.RunOnFlash-elsewhere}
+use Rattle.pk_level.{specs.Levels.Levels, specs.Arenas.HasArena, specs.Arenas.AreBareAbove, specs.Arenas.IsPinnedIf, specs.Arenas.last_level, specs.Arenas.leases_of, specs.Arenas.page_counts}
 use Rattle.pk_adapt.proofs.Fitting.{adapted_least}
-use Rattle.pk_run.proofs.Standing.{RunOnFlash-elsewhere}
-use Rattle.pk_scan.specs.Runs.{LeasedMore, RunsStand, listed}
-use Rattle.pk_scan.specs.OpeningParts.{HaveFrames}
+use Rattle.pk_scan.{specs.Runs.LeasedMore, specs.Runs.RunsStand, specs.Runs.listed, specs.OpeningParts.HaveFrames}
 
 pub leased_none : (a : Frames) → LeasedMore a a []
 leased_none a = record { page = refl; size = refl; kept = λ i is. (is, refl); free = omega arith; leases = λ ls all. all }

@@ -1,40 +1,23 @@
 -- A run whose pages are read one after another.
-use Rattle.std.proofs.Common.{◌≡◌, ℕ, zero, suc, ◌+◌, ◌-◌, ◌*◌, ◌/◌, ◌^◌, ◌<◌, ◌≤◌, min, Bool, true, false, is_some, List, [], ◌∷◌, ◌++◌, length, take, refl, ap, sym, subst, ◌∙◌, arith, Option, Some, not, ◌||◌, ◌==◌}
-use Rattle.std.proofs.Common.{None, option_map, Err, append_assoc, append-nil, length-append, suc-mul, mul-le-mul_right, mul_comm, zero-mul, div-lt_iff_lt-mul}
-use Rattle.std.specs.Prelude.{slice_get, slice_index}
-use Rattle.std.specs.List.{AllByRecursion}
-use Rattle.pk_base.specs.Key.{Key}
-use Rattle.pk_base.specs.Shape.{Shape, IsShape, page_entries, run_pages, run_blocks, blocks_of, cap}
-use Rattle.pk_base.specs.Entry.{Entry, key_of}
-use Rattle.pk_base.specs.EntryChecks.{IsEntry}
+use Rattle.std.proofs.Common.{◌≡◌, ℕ, zero, suc, ◌+◌, ◌-◌, ◌*◌, ◌/◌, ◌^◌, ◌<◌, ◌≤◌, min, Bool, true, false, is_some, List, [], ◌∷◌, ◌++◌, length, take, refl, ap, sym, subst, ◌∙◌, arith, Option, Some}
+use Rattle.std.proofs.Common.{not, ◌||◌, ◌==◌, None, option_map, Err, append_assoc, append-nil, length-append, suc-mul, mul-le-mul_right, mul_comm, zero-mul, div-lt_iff_lt-mul}
+use Rattle.std.{specs.Prelude.slice_get, specs.Prelude.slice_index, specs.List.AllByRecursion, proofs.lemmas.Grind.div_ceil_times}
+use Rattle.pk_base.{specs.Key.Key, specs.Shape.Shape, specs.Shape.IsShape, specs.Shape.page_entries, specs.Shape.run_pages, specs.Shape.run_blocks, specs.Shape.blocks_of, specs.Shape.cap}
+use Rattle.pk_base.{specs.Entry.Entry, specs.Entry.key_of, specs.EntryChecks.IsEntry, specs.Refusal.damaged, proofs.ShapeLemmas.entries_some, proofs.Logic.left_part, proofs.Logic.right_part}
 use Rattle.pk_base.specs.Page.{Page, Flash, IsFlash, page_at, page_in, erased, whole, torn, pages_of_blocks}
-use Rattle.pk_base.specs.Refusal.{damaged}
-use Rattle.pk_meta.specs.Page.{meta_entries}
-use Rattle.pk_meta.specs.PageChecks.{IsMetaPage}
-use Rattle.pk_meta.specs.Run.{meta, run}
-use Rattle.pk_meta.proofs.Reading.{meta_held}
-use Rattle.pk_nand.specs.BoardState.{BoardState}
-use Rattle.pk_nand.specs.Calls.{IsReady}
-use Rattle.pk_nand.specs.Operations.{ReadFailed, after_read, filled}
-use Rattle.pk_nand.specs.Seen.{answer}
+use Rattle.pk_meta.{specs.Page.meta_entries, specs.PageChecks.IsMetaPage, specs.Run.meta, specs.Run.run, proofs.Reading.meta_held}
+use Rattle.pk_nand.{specs.BoardState.BoardState, specs.Calls.IsReady, specs.Operations.ReadFailed, specs.Operations.after_read, specs.Operations.filled, specs.Seen.answer, specs.Counts.after_reads}
 use Rattle.pk_nand.specs.declared.types.PageRead.{PageRead}
 use Rattle.pk_nand.specs.declared.types.PageRead.TheVariants.{Erased as ReadErased, Whole as ReadWhole, Torn as ReadTorn}
-use Rattle.pk_nand.specs.Counts.{after_reads}
 use Rattle.pk_pin.specs.Frames.{Frames, free_frames, KeepsPage}
-use Rattle.pk_run.proofs.Standing.{RunOnFlash-empty}
+use Rattle.pk_run.{proofs.Standing.RunOnFlash-empty, proofs.Pieces.share, proofs.Pieces.meta_next}
 use Rattle.pk_run.specs.Kept.{Kept, empty, most_blocks, RunOnFlash, IsNext, IsPinned, IsPinnedAlike, page_of, with_page, with_lease}
-use Rattle.pk_run.proofs.Pieces.{share, meta_next}
-use Rattle.pk_scan.specs.declared.errors.PageError.{PageError}
-use Rattle.pk_scan.specs.declared.errors.PageError.TheVariants.{Damaged, Fault}
-use Rattle.pk_level.specs.Arenas.{IsPinnedIf}
+use Rattle.pk_scan.{specs.declared.errors.PageError.PageError, specs.declared.errors.PageError.TheVariants.Damaged, specs.declared.errors.PageError.TheVariants.Fault, specs.Board.StaysReady}
 use Rattle.pk_scan.specs.Runs.{RunBlocksExist, HasRun, ComesTo, NotRead, LeasedMore, LoadsPages, AwaitsPages, AwaitsPage, IsLast, RunGoesOn, listed, PageAdded, PageTaken, PageRefused, are_put}
-use Rattle.pk_scan.specs.Board.{StaysReady}
 use Rattle.pk_scan.proofs.Boards.{rest_reads, rest_not_read, stays_ready_behind}
-use Rattle.std.proofs.lemmas.Grind.{div_ceil_times}
 use Rattle.pk_scan.proofs.Leasing.{kept_more, leased_none, leased_more, runs_stand}
 use Rattle.pk_scan.proofs.Rereading.{meta_refused, last_of, pages_most, blocks_most, more_left, all_counted}
-use Rattle.pk_base.proofs.ShapeLemmas.{entries_some}
-use Rattle.pk_base.proofs.Logic.{left_part, right_part}
+use Rattle.pk_level.specs.Arenas.{IsPinnedIf}
 use Rattle.pk_space.specs.Entries.{in_spaces}
 
 -- ---- one page

@@ -1,27 +1,16 @@
 -- The blocks that a root names, which a new pool has as free ones.
 use Rattle.std.proofs.Common.{◌≡◌, ◌⊎◌, inl, inr, ℕ, zero, suc, ◌+◌, ◌*◌, ◌<◌, ◌≤◌, Bool, true, false, ◌&&◌, ◌||◌, ◌==◌, cond, List, [], ◌∷◌, ◌++◌, length, map, replicate, refl, sym, ap, subst, ◌∙◌}
 use Rattle.std.proofs.Common.{arith, Option, Some, None, option_map, length-append}
-use Rattle.std.specs.Prelude.{slice_get, nat_le, nat_lt, nat_eq, zip, bytes_eq}
-use Rattle.std.specs.List.{list_all, concat, AllByRecursion}
-use Rattle.std.proofs.Math.ListN.{set}
-use Rattle.std.proofs.lemmas.Bool.{false≢true}
-use Rattle.std.proofs.lemmas.Bool.Decides.{nat_tests}
-use Rattle.std.proofs.lemmas.List.Sums.{sum_by-cons}
+use Rattle.std.{specs.Prelude.slice_get, specs.Prelude.nat_le, specs.Prelude.nat_lt, specs.Prelude.nat_eq, specs.Prelude.zip, specs.Prelude.bytes_eq, proofs.Math.ListN.set}
+use Rattle.std.{specs.List.list_all, specs.List.concat, specs.List.AllByRecursion, proofs.lemmas.Bool.false≢true, proofs.lemmas.Bool.Decides.nat_tests, proofs.lemmas.List.Sums.sum_by-cons}
 use Rattle.std.proofs.lemmas.Slice.Eq.{bytes_eq-Decides}
 use Rattle.pk_base.specs.Shape.{Shape, IsShape, page_entries, caps, deepest, meta_blocks, run_blocks}
-use Rattle.pk_plan.specs.declared.owner.Owner.{Owner}
-use Rattle.pk_plan.specs.declared.owner.Owner.TheVariants.{Journal, Meta, Values}
+use Rattle.pk_plan.{specs.declared.owner.Owner.Owner, specs.declared.owner.Owner.TheVariants.Journal, specs.declared.owner.Owner.TheVariants.Meta, specs.declared.owner.Owner.TheVariants.Values}
 use Rattle.pk_plan.specs.Quotas.{quota_of}
-use Rattle.pk_pool.specs.declared.state.BlockState.{BlockState}
-use Rattle.pk_pool.specs.declared.state.BlockState.TheVariants.{Root as RootBlock, Free}
-use Rattle.pk_pool.specs.Blocks.{Blocks, used_by, is_owned_by, unused, IsSpare}
-use Rattle.pk_pool.proofs.States.{get-set_other}
-use Rattle.pk_pool.proofs.Sharing.{count-set}
-use Rattle.pk_rootfmt.specs.Root.{Root, named, is_root, has_runs, differ}
-use Rattle.pk_rootfmt.specs.Held.{two_of, older_of, total}
-use Rattle.pk_rootfmt.proofs.PageLemmas.{Parts, root_parts}
-use Rattle.pk_rootfmt.proofs.RoomLemmas.{runs_most}
-use Rattle.pk_rootfmt.proofs.AgainLemmas.{four}
+use Rattle.pk_pool.{specs.declared.state.BlockState.BlockState, specs.declared.state.BlockState.TheVariants.Root as RootBlock, specs.declared.state.BlockState.TheVariants.Free}
+use Rattle.pk_pool.{specs.Blocks.Blocks, specs.Blocks.used_by, specs.Blocks.is_owned_by, specs.Blocks.unused, specs.Blocks.IsSpare, proofs.States.get-set_other, proofs.Sharing.count-set}
+use Rattle.pk_rootfmt.{specs.Root.Root, specs.Root.named, specs.Root.is_root, specs.Root.has_runs, specs.Root.differ, specs.Held.two_of, specs.Held.older_of, specs.Held.total, proofs.AgainLemmas.four}
+use Rattle.pk_rootfmt.{proofs.PageLemmas.Parts, proofs.PageLemmas.root_parts, proofs.RoomLemmas.runs_most}
 use Rattle.pk_scan.specs.Adopts.{is_among, owned_if, Adopts, NamesOwned, MayAdopt}
 use Rattle.pk_scan.proofs.Adopting.{apart, differ_front, differ_back, still_spare, spare_front, spare_back}
 

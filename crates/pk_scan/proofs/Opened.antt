@@ -1,25 +1,17 @@
 -- The steps of opening, in the order of the reading of a flash.
 use Rattle.std.proofs.Common.{◌≡◌, ℕ, List, [], refl, subst, None, Result, Ok, Err}
-use Rattle.pk_base.specs.Shape.{Shape}
-use Rattle.pk_base.specs.Entry.{Entry}
-use Rattle.pk_base.specs.Page.{Page, Flash, page_at}
-use Rattle.pk_base.specs.Refusal.{Refusal, damaged, not_formatted}
+use Rattle.pk_base.{specs.Shape.Shape, specs.Entry.Entry, specs.Page.Page, specs.Page.Flash, specs.Page.page_at, specs.Refusal.Refusal, specs.Refusal.damaged, specs.Refusal.not_formatted}
 use Rattle.pk_nand.specs.BoardState.{BoardState}
-use Rattle.pk_rootfmt.specs.Root.{Root}
-use Rattle.pk_rootfmt.specs.Newest.{newest_root}
+use Rattle.pk_rootfmt.{specs.Root.Root, specs.Newest.newest_root}
 use Rattle.pk_buf.specs.Table.{Table}
 use Rattle.pk_jrn.specs.Epochs.{JournalEpoch}
 use Rattle.pk_pin.specs.Frames.{Frames}
 use Rattle.pk_level.specs.Levels.{Levels}
-use Rattle.pk_model.specs.RootLimits.{root_spaces}
-use Rattle.pk_model.specs.Found.{Found, found_under, newest_epoch, older_epoch, runs_from}
+use Rattle.pk_model.{specs.RootLimits.root_spaces, specs.Found.Found, specs.Found.found_under, specs.Found.newest_epoch, specs.Found.older_epoch, specs.Found.runs_from}
 use Rattle.pk_model.specs.Reading.{reading, reading_of}
-use Rattle.pk_scan.specs.Opening.{OnlyReads}
+use Rattle.pk_scan.{specs.Opening.OnlyReads, proofs.Boards.reads_both, proofs.Boards.counted_behind, specs.declared.errors.PageError.PageError, specs.declared.errors.OpenError.OpenError}
 use Rattle.pk_scan.specs.OpeningParts.{PartNotOpened, PartNotRead, OlderHeld, NewestHeld, HoldsRuns, HoldsFound, opening_of}
-use Rattle.pk_scan.proofs.Boards.{reads_both, counted_behind}
-use Rattle.pk_scan.specs.declared.errors.PageError.{PageError}
 use Rattle.pk_scan.specs.declared.errors.PageError.TheVariants.{Damaged as PageDamaged, Fault as PageFault}
-use Rattle.pk_scan.specs.declared.errors.OpenError.{OpenError}
 use Rattle.pk_scan.specs.declared.errors.OpenError.TheVariants.{NotFormatted, Damaged, Fault, Memory}
 
 pub no_root : (shape : Shape) (flash : Flash) → newest_root shape (page_at flash) ≡ None → reading shape flash [] ≡ Err not_formatted

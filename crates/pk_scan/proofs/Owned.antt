@@ -1,31 +1,19 @@
 -- The blocks that have an owner, and what depends on which these are alone.
-use Rattle.std.proofs.Common.{◌≡◌, inl, inr, ℕ, zero, suc, ◌+◌, ◌-◌, ◌/◌, ◌<◌, ◌≤◌, Bool, true, false, not, ◌&&◌, ◌||◌, ◌==◌, List, [], ◌∷◌, ◌++◌, length, refl, sym, ap, subst, ◌∙◌, arith, Option, slice_index}
-use Rattle.std.proofs.Common.{Some, None, Ok, option_map, eq-or-lt_of_le}
-use Rattle.std.specs.Prelude.{slice_get, nat_le}
-use Rattle.std.specs.List.{list_any, list_all, concat, range_with_len, AllByRecursion}
+use Rattle.std.proofs.Common.{◌≡◌, inl, inr, ℕ, zero, suc, ◌+◌, ◌-◌, ◌/◌, ◌<◌, ◌≤◌, Bool, true, false, not, ◌&&◌, ◌||◌, ◌==◌, List, [], ◌∷◌, ◌++◌, length, refl, sym, ap, subst, ◌∙◌, arith, Option}
+use Rattle.std.proofs.Common.{slice_index, Some, None, Ok, option_map, eq-or-lt_of_le}
+use Rattle.std.{specs.Prelude.slice_get, specs.Prelude.nat_le, specs.List.list_any, specs.List.list_all, specs.List.concat, specs.List.range_with_len, specs.List.AllByRecursion}
 use Rattle.std.proofs.lemmas.Bool.{false≢true, or_left, or_right, or_cases, eq-eqb, eqb-true}
-use Rattle.std.proofs.lemmas.List.Folds.{list_any-append}
-use Rattle.std.proofs.lemmas.Map.Views.{any-filter_same}
-use Rattle.std.proofs.lemmas.Option.{slice_get_within}
-use Rattle.pk_base.specs.Key.{Key, space_of}
-use Rattle.pk_base.specs.Shape.{Shape, IsShape, limit, data_blocks}
-use Rattle.pk_base.specs.Entry.{Place}
-use Rattle.pk_base.specs.Page.{Page}
+use Rattle.std.{proofs.lemmas.List.Folds.list_any-append, proofs.lemmas.Map.Views.any-filter_same, proofs.lemmas.Option.slice_get_within}
+use Rattle.pk_base.{specs.Key.Key, specs.Key.space_of, specs.Shape.Shape, specs.Shape.IsShape, specs.Shape.limit, specs.Shape.data_blocks, specs.Entry.Place, specs.Page.Page}
 use Rattle.pk_base.specs.Refusal.{ensure, ◌>>=◌}
 use Rattle.pk_plan.specs.declared.owner.Owner.TheVariants.{Journal, Meta}
-use Rattle.pk_pool.specs.declared.state.BlockState.{BlockState}
+use Rattle.pk_pool.{specs.declared.state.BlockState.BlockState, specs.Blocks.Blocks, specs.Blocks.unused, specs.Blocks.IsSpare, proofs.Sharing.used_given, proofs.States.none_leaves_unused}
 use Rattle.pk_pool.specs.declared.state.BlockState.TheVariants.{Root as RootBlock, Free, Ready, Owned, Leaving}
-use Rattle.pk_pool.specs.Blocks.{Blocks, unused, IsSpare}
-use Rattle.pk_pool.proofs.Sharing.{used_given}
-use Rattle.pk_pool.proofs.States.{none_leaves_unused}
 use Rattle.pk_rootfmt.specs.Root.{Root, named, is_root, differ}
 use Rattle.pk_segfmt.specs.Value.{value_pages, value_at}
-use Rattle.pk_live.specs.Values.{Values}
-use Rattle.pk_live.specs.Lives.{Lives}
-use Rattle.pk_model.specs.Values.{fits, all_pages, blocks_with, values_of, pages_of_space}
-use Rattle.pk_scan.specs.Adopts.{is_among, has_owner, owned_blocks, owned_if, NamesOwned}
-use Rattle.pk_scan.proofs.Naming.{names_spare, unused_none}
-use Rattle.pk_model.specs.Spaces.{limit_of}
+use Rattle.pk_live.{specs.Values.Values, specs.Lives.Lives}
+use Rattle.pk_model.{specs.Values.fits, specs.Values.all_pages, specs.Values.blocks_with, specs.Values.values_of, specs.Values.pages_of_space, specs.Spaces.limit_of}
+use Rattle.pk_scan.{specs.Adopts.is_among, specs.Adopts.has_owner, specs.Adopts.owned_blocks, specs.Adopts.owned_if, specs.Adopts.NamesOwned, proofs.Naming.names_spare, proofs.Naming.unused_none}
 
 -- ---- one block
 

@@ -1,27 +1,17 @@
 -- The owners of all blocks, after those of the root's blocks and of the values'.
 use Rattle.std.proofs.Common.{◌≡◌, inl, inr, ℕ, ◌-◌, ◌<◌, ◌≤◌, Bool, true, false, ◌==◌, List, [], ◌∷◌, ◌++◌, length, get_or, refl, sym, ap, subst, ◌∙◌, arith, Option, Some, None, option_map}
-use Rattle.std.specs.Prelude.{slice_get, count_by}
-use Rattle.std.specs.List.{concat, AllByRecursion}
+use Rattle.std.{specs.Prelude.slice_get, specs.Prelude.count_by, specs.List.concat, specs.List.AllByRecursion, proofs.lemmas.Option.slice_get_within, proofs.lemmas.Option.get_or_from_slice_get}
 use Rattle.std.proofs.lemmas.Bool.{cases_Bool, eq-eqb, or_left, or_right, false≢true, eqb-true}
-use Rattle.std.proofs.lemmas.Option.{slice_get_within, get_or_from_slice_get}
-use Rattle.pk_base.specs.Key.{Key}
-use Rattle.pk_base.specs.Shape.{Shape, IsShape, data_blocks}
-use Rattle.pk_base.specs.Entry.{Place}
-use Rattle.pk_base.specs.Page.{Flash}
-use Rattle.pk_plan.specs.declared.owner.Owner.{Owner}
-use Rattle.pk_plan.specs.declared.owner.Owner.TheVariants.{Journal, Meta, Values}
-use Rattle.pk_pool.specs.declared.state.BlockState.{BlockState}
+use Rattle.pk_base.{specs.Key.Key, specs.Shape.Shape, specs.Shape.IsShape, specs.Shape.data_blocks, specs.Entry.Place, specs.Page.Flash}
+use Rattle.pk_plan.{specs.declared.owner.Owner.Owner, specs.declared.owner.Owner.TheVariants.Journal, specs.declared.owner.Owner.TheVariants.Meta, specs.declared.owner.Owner.TheVariants.Values}
+use Rattle.pk_pool.{specs.declared.state.BlockState.BlockState, specs.Blocks.Blocks, specs.Blocks.used_by, specs.Blocks.unused, specs.Blocks.IsSpare, specs.Blocks.PoolOnFlash}
 use Rattle.pk_pool.specs.declared.state.BlockState.TheVariants.{Free, Ready, Owned, Leaving}
-use Rattle.pk_pool.specs.Blocks.{Blocks, used_by, unused, IsSpare, PoolOnFlash}
-use Rattle.pk_pool.proofs.Sharing.{used_given}
-use Rattle.pk_pool.proofs.States.{none_leaves_unused}
-use Rattle.pk_live.specs.Values.{Values as LiveValues, IsClosed}
+use Rattle.pk_pool.{proofs.Sharing.used_given, proofs.States.none_leaves_unused}
+use Rattle.pk_live.{specs.Values.Values as LiveValues, specs.Values.IsClosed, specs.Lives.Lives}
 use Rattle.pk_rootfmt.specs.Root.{Root, named, is_root}
 use Rattle.pk_model.specs.Laws.{AnyByRecursion}
-use Rattle.pk_live.specs.Lives.{Lives}
 use Rattle.pk_scan.specs.Adopts.{is_among, owned_if, state_of, Adopts, NamesOwned, HasOwners}
-use Rattle.pk_scan.proofs.Adopting.{apart, spare_front, spare_back}
-use Rattle.pk_scan.proofs.Naming.{names_differ, names_spare}
+use Rattle.pk_scan.{proofs.Adopting.apart, proofs.Adopting.spare_front, proofs.Adopting.spare_back, proofs.Naming.names_differ, proofs.Naming.names_spare}
 use Rattle.pk_scan.proofs.Closing.{flags_many, closed_is_spare, flag_at}
 
 -- ---- lists

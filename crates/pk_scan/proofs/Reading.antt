@@ -1,11 +1,8 @@
 -- The reading of a value, page by page: it goes on after pages that are right, and refuses with the first that is not.
 use Rattle.std.proofs.Common.{◌≡◌, ℕ, zero, suc, ◌+◌, ◌-◌, ◌*◌, ◌<◌, ◌≤◌, Bool, true, false, ◌&&◌, List, [], ◌++◌, take, drop, refl, sym, ap, ◌∙◌, arith, inl, inr}
-use Rattle.std.specs.Prelude.{Result, Ok, Err, nat_eq, ◌==◌}
-use Rattle.std.specs.List.{list_all, starts_with}
+use Rattle.std.{specs.Prelude.Result, specs.Prelude.Ok, specs.Prelude.Err, specs.Prelude.nat_eq, specs.Prelude.◌==◌, specs.List.list_all, specs.List.starts_with}
 use Rattle.std.proofs.lemmas.Bool.{false≢true, cases_Bool}
-use Rattle.pk_base.specs.Shape.{Shape}
-use Rattle.pk_base.specs.Page.{Page, erased, whole, torn}
-use Rattle.pk_base.specs.Refusal.{Refusal, damaged, ◌>>=◌, ensure}
+use Rattle.pk_base.{specs.Shape.Shape, specs.Page.Page, specs.Page.erased, specs.Page.whole, specs.Page.torn, specs.Refusal.Refusal, specs.Refusal.damaged, specs.Refusal.◌>>=◌, specs.Refusal.ensure}
 use Rattle.pk_segfmt.specs.Value.{value_page, value_from}
 use Rattle.pk_scan.specs.Pages.{front_of, passes}
 

@@ -1,21 +1,12 @@
 -- The reading of a run, page by page: it goes on after a page whose entries follow those before, and refuses with any other.
-use Rattle.std.proofs.Common.{◌≡◌, ℕ, zero, suc, ◌*◌, ◌<◌, ◌≤◌, min, Bool, true, false, not, ◌||◌, ◌==◌, List, [], ◌∷◌, ◌++◌, length, refl, ap, sym, ◌∙◌, arith, Option, Some, None, option_map, Err, is_some}
-use Rattle.std.proofs.Common.{append_assoc, suc-mul, mul-le-mul_right, lt_of_mul-lt-mul_right}
-use Rattle.std.specs.Prelude.{slice_get}
-use Rattle.std.specs.Int.{div_ceil}
-use Rattle.std.specs.FinMap.Entries.{is_sorted}
-use Rattle.std.proofs.lemmas.Grind.{div_ceil_times}
-use Rattle.pk_base.specs.Key.{Key, key_cmp}
-use Rattle.pk_base.specs.Shape.{Shape}
-use Rattle.pk_base.specs.Entry.{Entry, key_of}
+use Rattle.std.proofs.Common.{◌≡◌, ℕ, zero, suc, ◌*◌, ◌<◌, ◌≤◌, min, Bool, true, false, not, ◌||◌, ◌==◌, List, [], ◌∷◌, ◌++◌, length, refl, ap, sym, ◌∙◌, arith, Option, Some, None, option_map, Err}
+use Rattle.std.proofs.Common.{is_some, append_assoc, suc-mul, mul-le-mul_right, lt_of_mul-lt-mul_right}
+use Rattle.std.{specs.Prelude.slice_get, specs.Int.div_ceil, specs.FinMap.Entries.is_sorted, proofs.lemmas.Grind.div_ceil_times, specs.List.list_all}
+use Rattle.pk_base.{specs.Key.Key, specs.Key.key_cmp, specs.Shape.Shape, specs.Entry.Entry, specs.Entry.key_of, specs.Refusal.damaged, proofs.Logic.of_true}
 use Rattle.pk_base.specs.Page.{Page, erased, whole, torn, NumberedPages}
-use Rattle.pk_base.specs.Refusal.{damaged}
-use Rattle.pk_meta.specs.Page.{meta_entries}
-use Rattle.pk_meta.specs.Run.{meta, may_hold}
+use Rattle.pk_meta.{specs.Page.meta_entries, specs.Run.meta, specs.Run.may_hold}
 use Rattle.pk_run.proofs.Pieces.{share}
 use Rattle.pk_scan.specs.Runs.{IsLast, are_put, RunGoesOn}
-use Rattle.pk_base.proofs.Logic.{of_true}
-use Rattle.std.specs.List.{list_all}
 
 -- no entries of the page follow those before: it refuses
 pub meta_refused : (shape : Shape) (spaces level count index : ℕ) (before : List Entry) (p : ℕ) (page : Page) (pages : NumberedPages)

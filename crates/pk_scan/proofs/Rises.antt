@@ -1,11 +1,7 @@
 -- Entries that rise by key, and follow others: it is enough to compare the last key with the next one.
 use Rattle.std.proofs.Common.{◌≡◌, T, List, [], ◌∷◌, ◌++◌, sym, subst, Less}
-use Rattle.std.specs.Ordering.{is_lt}
-use Rattle.std.specs.FinMap.Entries.{is_sorted, below_all}
-use Rattle.std.proofs.lemmas.Cmp.{nat_list_cmp_total}
-use Rattle.pk_base.specs.Key.{Key, key_cmp}
-use Rattle.pk_base.specs.Entry.{Entry, key_of}
-use Rattle.pk_base.proofs.Logic.{left_part, right_part, both, less}
+use Rattle.std.{specs.Ordering.is_lt, specs.FinMap.Entries.is_sorted, specs.FinMap.Entries.below_all, proofs.lemmas.Cmp.nat_list_cmp_total}
+use Rattle.pk_base.{specs.Key.Key, specs.Key.key_cmp, specs.Entry.Entry, specs.Entry.key_of, proofs.Logic.left_part, proofs.Logic.right_part, proofs.Logic.both, proofs.Logic.less}
 
 -- what is above a key is above a smaller one
 below_less : (a b : Key) (es : List Entry) → T (is_lt (key_cmp a b)) → T (below_all key_cmp b es) → T (below_all key_cmp a es)

@@ -1,12 +1,10 @@
 -- Memory into which nothing was read.
 use Rattle.std.proofs.Common.{◌≡◌, ℕ, zero, suc, ◌≤◌, Bool, false, not, cond, List, replicate, sym, ap, subst, ◌∙◌, arith, refl}
-use Rattle.std.specs.Prelude.{count_by}
-use Rattle.std.proofs.lemmas.List.Sums.{sum_by-cons}
+use Rattle.std.{specs.Prelude.count_by, proofs.lemmas.List.Sums.sum_by-cons}
 use Rattle.pk_base.specs.Shape.{Shape, pinned}
 use Rattle.pk_pin.specs.Frames.{Frames, free_frames}
 use Rattle.pk_level.specs.Levels.{Levels, no_runs}
-use Rattle.pk_scan.specs.OpeningParts.{wanted_behind}
-use Rattle.pk_scan.proofs.Wanted.{pinned_wants}
+use Rattle.pk_scan.{specs.OpeningParts.wanted_behind, proofs.Wanted.pinned_wants}
 
 all_free : (n : ℕ) → count_by not (replicate n false) ≡ n
 all_free zero = refl

@@ -1,17 +1,11 @@
 -- What the grammar of roots says of the blocks and the counts that a root names.
 use Rattle.std.proofs.Common.{◌≡◌, ◌⊎◌, inl, inr, ℕ, zero, suc, ◌-◌, ◌*◌, ◌<◌, ◌≤◌, Bool, true, false, ◌&&◌, ◌||◌, List, [], ◌∷◌, ◌++◌, length, get_or, map, refl, sym, ap, subst, ◌∙◌, arith, Some}
-use Rattle.std.specs.Prelude.{slice_get, nat_le, nat_lt, nat_eq, zip, slice_index}
-use Rattle.std.specs.List.{list_all, concat}
-use Rattle.std.proofs.lemmas.Bool.{false≢true}
-use Rattle.std.proofs.lemmas.Bool.Decides.{nat_tests}
-use Rattle.std.proofs.lemmas.List.Folds.{list_all-append}
+use Rattle.std.{specs.Prelude.slice_get, specs.Prelude.nat_le, specs.Prelude.nat_lt, specs.Prelude.nat_eq, specs.Prelude.zip, specs.Prelude.slice_index, specs.List.list_all, specs.List.concat}
+use Rattle.std.{proofs.lemmas.Bool.false≢true, proofs.lemmas.Bool.Decides.nat_tests, proofs.lemmas.List.Folds.list_all-append}
 use Rattle.pk_base.specs.Shape.{Shape, page_entries, caps, cap, run_blocks}
-use Rattle.pk_rootfmt.specs.Root.{Root, is_root}
-use Rattle.pk_rootfmt.specs.Held.{two_of, older_of}
-use Rattle.pk_rootfmt.proofs.PageLemmas.{Parts, root_parts}
+use Rattle.pk_rootfmt.{specs.Root.Root, specs.Root.is_root, specs.Held.two_of, specs.Held.older_of, proofs.PageLemmas.Parts, proofs.PageLemmas.root_parts}
 use Rattle.pk_jrn.specs.Epochs.{AllExist as EpochExists}
-use Rattle.pk_scan.specs.Runs.{RunBlocksExist}
-use Rattle.pk_scan.proofs.Naming.{HasFour, has_four, four_runs, two_is, older_is}
+use Rattle.pk_scan.{specs.Runs.RunBlocksExist, proofs.Naming.HasFour, proofs.Naming.has_four, proofs.Naming.four_runs, proofs.Naming.two_is, proofs.Naming.older_is}
 
 front_true : (a b : Bool) → (a && b) ≡ true → a ≡ true
 front_true true b e = refl

@@ -1,23 +1,11 @@
 -- One page of a run, by what is found in it.
 use Rattle.std.proofs.Common.{◌≡◌, ℕ, zero, suc, ◌+◌, ◌<◌, ◌≤◌, ◌^◌, Bool, true, false, not, ◌&&◌, ◌||◌, ◌==◌, T, is_some, List, [], ◌∷◌, ◌++◌, length, take, refl, ap, sym, subst, ◌∙◌, arith, Option}
 use Rattle.std.proofs.Common.{Some, None, option_map, Result, Ok, Err}
-use Rattle.std.specs.Prelude.{slice_get}
-use Rattle.std.specs.Ordering.{is_lt}
-use Rattle.std.specs.FinMap.Entries.{is_sorted}
-use Rattle.std.proofs.lemmas.List.{take_all}
-use Rattle.pk_base.specs.Key.{Key, key_cmp}
-use Rattle.pk_base.specs.Shape.{Shape}
-use Rattle.pk_base.specs.Entry.{Entry, key_of}
-use Rattle.pk_meta.specs.Page.{meta_entries}
-use Rattle.pk_meta.specs.PageChecks.{IsMetaPage}
-use Rattle.pk_meta.specs.declared.MetaHead.{MetaHead}
-use Rattle.pk_meta.specs.declared.BadMeta.{BadMeta}
-use Rattle.pk_meta.proofs.Reading.{meta_held, sorted_true}
-use Rattle.pk_scan.specs.Runs.{IsLast, is_behind, are_put, GoesOnOr}
-use Rattle.pk_scan.proofs.Rises.{rises_behind, lies_behind}
-use Rattle.pk_base.proofs.Logic.{of_true}
-use Rattle.std.specs.List.{list_all}
+use Rattle.std.{specs.Prelude.slice_get, specs.Ordering.is_lt, specs.FinMap.Entries.is_sorted, proofs.lemmas.List.take_all, specs.List.list_all}
+use Rattle.pk_base.{specs.Key.Key, specs.Key.key_cmp, specs.Shape.Shape, specs.Entry.Entry, specs.Entry.key_of, proofs.Logic.of_true}
+use Rattle.pk_meta.{specs.Page.meta_entries, specs.PageChecks.IsMetaPage, specs.declared.MetaHead.MetaHead, specs.declared.BadMeta.BadMeta, proofs.Reading.meta_held, proofs.Reading.sorted_true}
 use Rattle.pk_meta.specs.Run.{may_hold}
+use Rattle.pk_scan.{specs.Runs.IsLast, specs.Runs.is_behind, specs.Runs.are_put, specs.Runs.GoesOnOr, proofs.Rises.rises_behind, proofs.Rises.lies_behind}
 
 -- ---- each entry passes a test
 

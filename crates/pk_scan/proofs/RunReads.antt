@@ -1,17 +1,12 @@
 -- How many pages of the runs are read: each once for the first keys, and once more in a walk if it has no frame.
 use Rattle.std.proofs.Common.{◌≡◌, ℕ, ◌+◌, ◌*◌, Bool, true, false, List, [], ◌∷◌, length, refl, sym, ap, ◌∙◌, arith}
 use Rattle.std.specs.Prelude.{nat_le, if◌then◌else◌}
-use Rattle.pk_base.specs.Shape.{Shape, run_pages}
-use Rattle.pk_base.specs.Entry.{Entry}
-use Rattle.pk_base.specs.Page.{Flash}
+use Rattle.pk_base.{specs.Shape.Shape, specs.Shape.run_pages, specs.Entry.Entry, specs.Page.Flash}
 use Rattle.pk_pin.specs.Frames.{Frames}
 use Rattle.pk_run.specs.Kept.{Kept}
-use Rattle.pk_level.specs.Levels.{RunsOnFlash}
+use Rattle.pk_level.{specs.Levels.RunsOnFlash, specs.Arenas.IsPinnedIf}
 use Rattle.pk_walk.specs.Walking.{read_of, most_read}
-use Rattle.pk_level.specs.Arenas.{IsPinnedIf}
-use Rattle.pk_scan.specs.OpeningParts.{HaveBlocks}
-use Rattle.pk_scan.specs.OpeningParts.{HaveFrames}
-use Rattle.pk_scan.specs.Reads.{pages_of_runs, run_reads}
+use Rattle.pk_scan.{specs.OpeningParts.HaveBlocks, specs.OpeningParts.HaveFrames, specs.Reads.pages_of_runs, specs.Reads.run_reads}
 
 none_pinned : (leases : List ℕ) (pages : ℕ) → length leases ≡ pages → read_of leases pages ≡ 0
 none_pinned leases pages same = omega (arith, same)

@@ -1,38 +1,22 @@
 -- Runs that were read one after another, as the reading of a flash has them.
 use Rattle.std.proofs.Common.{◌≡◌, inl, inr, ℕ, zero, suc, ◌+◌, ◌-◌, ◌<◌, ◌≤◌, Bool, true, false, List, [], ◌∷◌, ◌++◌, length, get_or, take, drop, refl, sym, ap, subst, ◌∙◌, arith, Some, Result, Ok}
 use Rattle.std.proofs.Common.{Err, append-nil, append_assoc, length-take}
-use Rattle.std.specs.Prelude.{nat_le, slice_get, slice_index, slice_index_or}
-use Rattle.std.proofs.Math.ListN.{set}
-use Rattle.std.proofs.lemmas.Bool.{cases_lt}
-use Rattle.std.proofs.lemmas.Bool.Decides.{nat_tests}
-use Rattle.std.proofs.lemmas.List.{take_all}
-use Rattle.std.proofs.lemmas.Option.{get_or_from_slice_get}
-use Rattle.pk_base.specs.Shape.{Shape, caps, cap}
-use Rattle.pk_base.specs.Entry.{Entry}
-use Rattle.pk_base.specs.Page.{Page, Flash, page_at}
+use Rattle.std.{specs.Prelude.nat_le, specs.Prelude.slice_get, specs.Prelude.slice_index, specs.Prelude.slice_index_or, proofs.Math.ListN.set, proofs.lemmas.Bool.cases_lt, proofs.lemmas.List.take_all}
+use Rattle.std.{proofs.lemmas.Bool.Decides.nat_tests, proofs.lemmas.Option.get_or_from_slice_get}
+use Rattle.pk_base.{specs.Shape.Shape, specs.Shape.caps, specs.Shape.cap, specs.Entry.Entry, specs.Page.Page, specs.Page.Flash, specs.Page.page_at}
 use Rattle.pk_base.specs.Refusal.{Refusal, damaged, ◌>>=◌}
 use Rattle.pk_nand.specs.BoardState.{BoardState}
 use Rattle.pk_meta.specs.Run.{run}
-use Rattle.pk_rootfmt.specs.Root.{Root, is_root}
-use Rattle.pk_rootfmt.specs.Held.{Held, total}
+use Rattle.pk_rootfmt.{specs.Root.Root, specs.Root.is_root, specs.Held.Held, specs.Held.total}
 use Rattle.pk_pin.specs.Frames.{Frames, free_frames}
 use Rattle.pk_run.specs.Kept.{Kept, RunOnFlash}
-use Rattle.pk_level.specs.Levels.{Levels, RunsOnFlash, with_run}
-use Rattle.pk_level.specs.Arenas.{IsPinnedIf, leases_of}
-use Rattle.pk_level.proofs.Arenas.{leases-append}
-use Rattle.pk_model.specs.Found.{runs_from}
-use Rattle.pk_scan.specs.Runs.{HasRun, NotRead, LeasedMore, RunsStand}
-use Rattle.pk_scan.specs.Opening.{OnlyReads}
-use Rattle.pk_scan.specs.OpeningParts.{HaveBlocks}
-use Rattle.pk_scan.specs.OpeningParts.{PartNotOpened, HaveFrames, HoldsRuns, LoadsLevel, LoadsRuns, MayLoadLevel, wanted_behind, opening_of}
-use Rattle.pk_scan.proofs.Boards.{reads_both, counted_behind}
-use Rattle.pk_scan.proofs.Exact.{take_next}
-use Rattle.pk_scan.proofs.Leasing.{leased_none, leased_more}
-use Rattle.pk_scan.specs.declared.errors.PageError.{PageError}
+use Rattle.pk_level.{specs.Levels.Levels, specs.Levels.RunsOnFlash, specs.Levels.with_run, specs.Arenas.IsPinnedIf, specs.Arenas.leases_of, proofs.Arenas.leases-append}
+use Rattle.pk_model.{specs.Found.runs_from, specs.RootLimits.root_spaces}
+use Rattle.pk_scan.{specs.Runs.HasRun, specs.Runs.NotRead, specs.Runs.LeasedMore, specs.Runs.RunsStand, specs.Opening.OnlyReads, proofs.Boards.reads_both, proofs.Boards.counted_behind}
+use Rattle.pk_scan.specs.OpeningParts.{HaveBlocks, PartNotOpened, HaveFrames, HoldsRuns, LoadsLevel, LoadsRuns, MayLoadLevel, wanted_behind, opening_of}
+use Rattle.pk_scan.{proofs.Exact.take_next, proofs.Leasing.leased_none, proofs.Leasing.leased_more, specs.declared.errors.PageError.PageError, specs.declared.errors.OpenError.OpenError}
 use Rattle.pk_scan.specs.declared.errors.PageError.TheVariants.{Damaged as PageDamaged, Fault as PageFault}
-use Rattle.pk_scan.specs.declared.errors.OpenError.{OpenError}
 use Rattle.pk_scan.specs.declared.errors.OpenError.TheVariants.{NotFormatted, Damaged, Fault, Memory}
-use Rattle.pk_model.specs.RootLimits.{root_spaces}
 
 -- ---- lists
 

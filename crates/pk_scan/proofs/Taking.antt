@@ -1,28 +1,20 @@
 -- A value more: whether its pages may be taken, and the live map with it.
 use Rattle.std.proofs.Common.{◌≡◌, inl, inr, ℕ, ◌+◌, ◌-◌, ◌/◌, ◌%◌, ◌<◌, ◌≤◌, Bool, true, false, not, ◌&&◌, ◌||◌, cond, List, [], ◌∷◌, ◌++◌, length, get_or, map, sum, refl, sym, ap, ◌∙◌, arith, ◌==◌}
 use Rattle.std.proofs.Common.{length-append}
-use Rattle.std.specs.Prelude.{count_by, nat_le, slice_get, Some, IsTrue, ◌↔◌}
-use Rattle.std.specs.List.{list_any, list_all, range_with_len}
-use Rattle.std.proofs.Math.ListN.{set}
+use Rattle.std.{specs.Prelude.count_by, specs.Prelude.nat_le, specs.Prelude.slice_get, specs.Prelude.Some, specs.Prelude.IsTrue, specs.Prelude.◌↔◌, proofs.Math.ListN.set}
+use Rattle.std.{specs.List.list_any, specs.List.list_all, specs.List.range_with_len, proofs.lemmas.Bool.Decides.same_from_decides, proofs.lemmas.Option.slice_get-get_or}
 use Rattle.std.proofs.lemmas.Bool.{false≢true, or_right, and_parts, eq-eqb, ne_eqb, cases_lt}
-use Rattle.std.proofs.lemmas.Bool.Decides.{same_from_decides}
 use Rattle.std.proofs.lemmas.List.FromFn.{length-range_with_len, length-map-range_with_len, get_or-map-range_with_len}
-use Rattle.std.proofs.lemmas.List.Folds.{list_any-append, list_all-append}
-use Rattle.std.proofs.lemmas.List.Sums.{sum_by-set, length-filter}
-use Rattle.std.proofs.lemmas.Option.{slice_get-get_or}
-use Rattle.pk_base.specs.Key.{Key}
-use Rattle.pk_base.specs.Shape.{Shape, IsShape, page_count, charge, limit, data_blocks}
-use Rattle.pk_base.specs.Entry.{Place}
+use Rattle.std.{proofs.lemmas.List.Folds.list_any-append, proofs.lemmas.List.Folds.list_all-append, proofs.lemmas.List.Sums.sum_by-set, proofs.lemmas.List.Sums.length-filter}
+use Rattle.pk_base.{specs.Key.Key, specs.Shape.Shape, specs.Shape.IsShape, specs.Shape.page_count, specs.Shape.charge, specs.Shape.limit, specs.Shape.data_blocks, specs.Entry.Place}
 use Rattle.pk_base.specs.EntryChecks.{IsPlace}
-use Rattle.pk_live.specs.Values.{Values, count_of, block_sum, IsLive}
-use Rattle.pk_segfmt.specs.Value.{value_pages}
-use Rattle.pk_segfmt.proofs.StoredLemmas.{charge_some}
-use Rattle.pk_model.specs.Values.{all_pages, fits, blocks_with}
-use Rattle.pk_rootfmt.specs.Root.{differ}
-use Rattle.pk_live.specs.Lives.{head_of, is_used, Lives}
+use Rattle.pk_live.{specs.Values.Values, specs.Values.count_of, specs.Values.block_sum, specs.Values.IsLive, specs.Lives.head_of, specs.Lives.is_used, specs.Lives.Lives}
 use Rattle.pk_live.proofs.Blocks.{same_block, block_exists}
 use Rattle.pk_live.proofs.Ranges.{all_same, has, has_range, range_has, meets, meets_told, meets_from, differ_append, differ_range}
 use Rattle.pk_live.proofs.Standing.{map_set, count_map, all_pages-more, head_of-more, Placed-more, value_in_block, heads_read, covered, covers, total_is, block_is}
+use Rattle.pk_segfmt.{specs.Value.value_pages, proofs.StoredLemmas.charge_some}
+use Rattle.pk_model.specs.Values.{all_pages, fits, blocks_with}
+use Rattle.pk_rootfmt.specs.Root.{differ}
 
 -- ---- the four parts of the test
 

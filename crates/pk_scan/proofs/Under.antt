@@ -1,23 +1,11 @@
 -- What is found under the newest root, and the map that it makes.
 use Rattle.std.proofs.Common.{◌≡◌, ℕ, ◌≤◌, List, [], ◌++◌, length, reverse, refl, sym, ap, ◌∙◌, arith, true, Option, Some, Ok, Err, append-nil}
-use Rattle.std.specs.Prelude.{nat_le}
-use Rattle.std.specs.List.{flat_map}
-use Rattle.std.specs.FinMap.{from_entries}
-use Rattle.std.specs.FinMap.Entries.{find}
-use Rattle.pk_base.specs.Key.{Key, key_cmp}
-use Rattle.pk_base.specs.Shape.{Shape, buffer}
-use Rattle.pk_base.specs.Entry.{Entry, Place}
-use Rattle.pk_base.specs.Firsts.{firsts}
-use Rattle.pk_base.specs.Map.{Map}
+use Rattle.std.{specs.Prelude.nat_le, specs.List.flat_map, specs.FinMap.from_entries, specs.FinMap.Entries.find}
+use Rattle.pk_base.{specs.Key.Key, specs.Key.key_cmp, specs.Shape.Shape, specs.Shape.buffer, specs.Entry.Entry, specs.Entry.Place, specs.Firsts.firsts, specs.Map.Map, specs.Refusal.Refusal}
 use Rattle.pk_base.specs.Page.{Flash, page_at}
-use Rattle.pk_base.specs.Refusal.{Refusal}
-use Rattle.pk_rootfmt.specs.Root.{Root, named}
-use Rattle.pk_rootfmt.specs.Newest.{newest_root}
-use Rattle.pk_model.specs.RootLimits.{root_limits}
-use Rattle.pk_model.specs.Found.{Found, found_under, entries_in_order}
-use Rattle.pk_model.specs.Values.{placed, values_of}
-use Rattle.pk_model.specs.Reading.{reading, reading_of, map_under}
-use Rattle.pk_model.proofs.Lookups.{find-firsts, flat}
+use Rattle.pk_rootfmt.{specs.Root.Root, specs.Root.named, specs.Newest.newest_root}
+use Rattle.pk_model.{specs.RootLimits.root_limits, specs.Found.Found, specs.Found.found_under, specs.Found.entries_in_order, specs.Values.placed, specs.Values.values_of}
+use Rattle.pk_model.{specs.Reading.reading, specs.Reading.reading_of, specs.Reading.map_under, proofs.Lookups.find-firsts, proofs.Lookups.flat}
 use Rattle.pk_model.proofs.Merges.{first_some, first_some_assoc, find-append_lists, same_placed}
 use Rattle.pk_law_steps.specs.Under.{IsUnder, places}
 use Rattle.pk_scan.proofs.RunsHeld.{le_true}

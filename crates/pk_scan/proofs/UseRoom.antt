@@ -1,18 +1,12 @@
 -- What is used of a namespace is a small number.
 use Rattle.std.proofs.Common.{◌≡◌, ℕ, ◌+◌, ◌≤◌, Bool, true, false, List, [], ◌∷◌, ◌++◌, length, ◌==◌, if◌then◌else◌, arith, length-append}
 use Rattle.std.proofs.lemmas.List.FromFn.{length-range_with_len}
-use Rattle.pk_base.specs.Key.{Key, space_of}
-use Rattle.pk_base.specs.Shape.{Shape, IsShape, charge}
-use Rattle.pk_base.specs.Entry.{Place}
-use Rattle.pk_base.proofs.Logic.{of_true}
+use Rattle.pk_base.{specs.Key.Key, specs.Key.space_of, specs.Shape.Shape, specs.Shape.IsShape, specs.Shape.charge, specs.Entry.Place, proofs.Logic.of_true}
 use Rattle.pk_segfmt.specs.Value.{value_pages}
 use Rattle.pk_space.specs.Uses.{Use, IsSpace, space_live, space_keys}
-use Rattle.pk_model.specs.Values.{fits, all_pages, pages_of_space}
-use Rattle.pk_model.proofs.ValueSets.{fits_parts}
+use Rattle.pk_model.{specs.Values.fits, specs.Values.all_pages, specs.Values.pages_of_space, proofs.ValueSets.fits_parts}
 use Rattle.pk_law_steps.proofs.Outputs.{values_most}
-use Rattle.pk_scan.specs.Used.{IsUseOf}
-use Rattle.pk_scan.proofs.Using.{few_keys}
-use Rattle.pk_scan.proofs.ValuesHeld.{limit_few}
+use Rattle.pk_scan.{specs.Used.IsUseOf, proofs.Using.few_keys, proofs.ValuesHeld.limit_few}
 
 pages_few : (shape : Shape) (space : ℕ) (es : List (Key × Place)) → pages_of_space shape space es ≤ length (all_pages shape es)
 pages_few shape space [] = omega arith

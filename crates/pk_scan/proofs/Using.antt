@@ -1,17 +1,12 @@
 -- What is used of each namespace, as values are taken.
-use Rattle.std.proofs.Common.{◌≡◌, ℕ, zero, suc, ◌+◌, ◌-◌, ◌<◌, ◌≤◌, Bool, true, false, List, [], ◌∷◌, ◌++◌, length, slice_index, replicate, ◌==◌, if◌then◌else◌, refl, sym, ap, subst, ◌∙◌, arith, eqb→eq, eq-eqb, nat_le, ◌&&◌}
+use Rattle.std.proofs.Common.{◌≡◌, ℕ, zero, suc, ◌+◌, ◌-◌, ◌<◌, ◌≤◌, Bool, true, false, List, [], ◌∷◌, ◌++◌, length, slice_index, replicate, ◌==◌, if◌then◌else◌, refl, sym, ap, subst, ◌∙◌, arith}
+use Rattle.std.proofs.Common.{eqb→eq, eq-eqb, nat_le, ◌&&◌}
 use Rattle.std.specs.Prelude.{slice_set}
-use Rattle.pk_base.specs.declared.sizes.TheConstants.{MOST_SPACES}
-use Rattle.pk_base.specs.Key.{Key, space_of}
-use Rattle.pk_base.specs.Shape.{Shape, charge}
-use Rattle.pk_base.specs.Entry.{Place}
-use Rattle.pk_base.proofs.Logic.{of_true}
+use Rattle.pk_base.{specs.declared.sizes.TheConstants.MOST_SPACES, specs.Key.Key, specs.Key.space_of, specs.Shape.Shape, specs.Shape.charge, specs.Entry.Place, proofs.Logic.of_true}
 use Rattle.pk_space.specs.Uses.{Use, nothing_used, IsSpace, space_live, space_keys, value_count, used_after}
-use Rattle.pk_model.specs.Values.{pages_of_space, fits, all_pages, fits_after}
-use Rattle.pk_model.proofs.ValueSets.{pages_of_space-append}
+use Rattle.pk_model.{specs.Values.pages_of_space, specs.Values.fits, specs.Values.all_pages, specs.Values.fits_after, proofs.ValueSets.pages_of_space-append, specs.Spaces.limit_of}
 use Rattle.pk_scan.specs.Used.{keys_of_space, IsUseOf}
 use Rattle.pk_segfmt.specs.Value.{value_pages}
-use Rattle.pk_model.specs.Spaces.{limit_of}
 
 zeros_at : (n i : ℕ) → slice_index (replicate n 0) i ≡ 0
 zeros_at zero i = refl

@@ -1,36 +1,20 @@
 -- Values that were accepted one after another, as the reading of a flash has them.
 use Rattle.std.proofs.Common.{◌≡◌, ℕ, suc, ◌+◌, ◌-◌, ◌*◌, ◌≤◌, List, [], ◌∷◌, ◌++◌, length, refl, sym, ap, subst, ◌∙◌, arith, Option, Some, None, Result, Ok, Err, append-nil, append_assoc}
 use Rattle.std.proofs.Common.{length-append}
-use Rattle.std.specs.List.{AllByRecursion}
-use Rattle.pk_base.specs.Key.{Key}
-use Rattle.pk_base.specs.Shape.{Shape, IsShape, limit, dense, data_blocks}
-use Rattle.std.proofs.Math.Nat.{mul-le-mul_right}
-use Rattle.pk_base.specs.EntryChecks.{IsPlace}
+use Rattle.std.{specs.List.AllByRecursion, proofs.Math.Nat.mul-le-mul_right}
+use Rattle.pk_base.{specs.Key.Key, specs.Shape.Shape, specs.Shape.IsShape, specs.Shape.limit, specs.Shape.dense, specs.Shape.data_blocks, specs.EntryChecks.IsPlace, proofs.Logic.of_true}
+use Rattle.pk_base.{specs.Entry.Entry, specs.Entry.Place, specs.declared.entry.Entry.Entry as RustEntry, specs.declared.entry.Entry.TheVariants.Put, specs.declared.entry.Entry.TheVariants.Gone}
+use Rattle.pk_base.{specs.Page.Flash, specs.Page.page_at, specs.Refusal.Refusal, specs.Refusal.damaged, specs.Refusal.◌>>=◌}
 use Rattle.pk_pin.specs.Frames.{Frames}
 use Rattle.pk_run.specs.Kept.{Kept}
-use Rattle.pk_walk.specs.Visible.{visible, is_wanted, wanted}
-use Rattle.pk_walk.specs.Walking.{Walk, IsLeft, WalkGives}
-use Rattle.pk_walk.proofs.Walks.{one_of_each}
-use Rattle.pk_model.proofs.ValueSets.{fits_parts}
-use Rattle.pk_scan.proofs.Boards.{reads_both, reads_if, counted_behind}
-use Rattle.pk_base.specs.Entry.{Entry, Place}
-use Rattle.pk_base.specs.declared.entry.Entry.{Entry as RustEntry}
-use Rattle.pk_base.specs.declared.entry.Entry.TheVariants.{Put, Gone}
-use Rattle.pk_base.specs.Page.{Flash, page_at}
-use Rattle.pk_base.specs.Refusal.{Refusal, damaged, ◌>>=◌}
-use Rattle.pk_live.specs.Values.{Values}
-use Rattle.pk_model.specs.Values.{all_pages, fits, fits_after, values_of}
-use Rattle.pk_live.specs.Lives.{Lives}
-use Rattle.pk_space.specs.Uses.{Use, nothing_used}
-use Rattle.pk_scan.specs.Used.{IsUseOf}
-use Rattle.pk_scan.proofs.Using.{use_of_none}
-use Rattle.pk_scan.specs.Accepted.{Accepted, NotAccepted}
-use Rattle.pk_scan.specs.Opening.{OnlyReads}
-use Rattle.pk_scan.specs.OpeningParts.{PartNotOpened, ReadsValues, opening_of}
-use Rattle.pk_scan.specs.declared.errors.PageError.{PageError}
+use Rattle.pk_walk.{specs.Visible.visible, specs.Visible.is_wanted, specs.Visible.wanted, specs.Walking.Walk, specs.Walking.IsLeft, specs.Walking.WalkGives, proofs.Walks.one_of_each}
+use Rattle.pk_model.{proofs.ValueSets.fits_parts, specs.Values.all_pages, specs.Values.fits, specs.Values.fits_after, specs.Values.values_of}
+use Rattle.pk_scan.{proofs.Boards.reads_both, proofs.Boards.reads_if, proofs.Boards.counted_behind, specs.Used.IsUseOf, proofs.Using.use_of_none, specs.Accepted.Accepted, specs.Accepted.NotAccepted}
+use Rattle.pk_scan.{specs.Opening.OnlyReads, specs.OpeningParts.PartNotOpened, specs.OpeningParts.ReadsValues, specs.OpeningParts.opening_of, specs.declared.errors.PageError.PageError}
 use Rattle.pk_scan.specs.declared.errors.PageError.TheVariants.{Damaged, Fault}
+use Rattle.pk_live.{specs.Values.Values, specs.Lives.Lives}
+use Rattle.pk_space.specs.Uses.{Use, nothing_used}
 use Rattle.pk_nand.specs.BoardState.{BoardState}
-use Rattle.pk_base.proofs.Logic.{of_true}
 use Rattle.pk_law_steps.proofs.Outputs.{values_most}
 
 -- a value of n bytes begins at this page

@@ -1,10 +1,7 @@
 -- How many pages are read for the values: those of the runs without frames, as the walk comes to them, and those of the values.
 use Rattle.std.proofs.Common.{◌≡◌, ℕ, ◌+◌, List, [], ◌∷◌, ◌++◌, refl, ap, ◌∙◌, arith}
-use Rattle.pk_base.specs.Key.{Key}
-use Rattle.pk_base.specs.Shape.{Shape, charge}
-use Rattle.pk_base.specs.Entry.{Place}
-use Rattle.pk_nand.specs.BoardState.{BoardState}
-use Rattle.pk_nand.specs.Counts.{after_reads}
+use Rattle.pk_base.{specs.Key.Key, specs.Shape.Shape, specs.Shape.charge, specs.Entry.Place}
+use Rattle.pk_nand.{specs.BoardState.BoardState, specs.Counts.after_reads}
 use Rattle.pk_run.specs.Kept.{Kept}
 use Rattle.pk_level.proofs.Looking.{reads_more}
 use Rattle.pk_walk.specs.Walking.{Walk, ReadsAll, SkipsNone, pages_read, most_read}

@@ -2,8 +2,7 @@
 use Rattle.std.proofs.Common.{◌≡◌, ℕ, ◌≤◌, Bool, true, false, refl, arith}
 use Rattle.std.specs.Prelude.{nat_le, if◌then◌else◌}
 use Rattle.pk_base.specs.Shape.{Shape, need, pinned}
-use Rattle.pk_scan.specs.OpeningParts.{wanted_behind}
-use Rattle.pk_scan.proofs.RunsHeld.{le_of}
+use Rattle.pk_scan.{specs.OpeningParts.wanted_behind, proofs.RunsHeld.le_of}
 
 module _ (shape : Shape) (frames : ℕ) where
   abbrev Wants : ℕ → Type 0

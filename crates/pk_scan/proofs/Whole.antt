@@ -1,62 +1,31 @@
 -- The whole of opening, by what its parts found.
 use Rattle.std.proofs.Common.{◌≡◌, ◌≢◌, inl, inr, ℕ, zero, suc, ◌+◌, ◌-◌, ◌<◌, ◌≤◌, true, List, [], ◌∷◌, length, drop, refl, sym, ap, subst, ◌∙◌, arith, Some, None, Result, Ok, Err}
-use Rattle.std.specs.Prelude.{nat_eq, ◌==◌, ◌++◌}
-use Rattle.std.specs.List.{AllByRecursion, list_all, starts_with}
-use Rattle.pk_base.specs.Key.{Key}
-use Rattle.pk_base.specs.Shape.{Shape, charge, buffer, root_pages, pinned}
-use Rattle.pk_base.specs.Entry.{Entry, Place}
-use Rattle.pk_base.specs.EntryChecks.{IsEntry, IsPlace}
-use Rattle.pk_base.specs.Firsts.{firsts}
-use Rattle.pk_base.specs.Page.{Page, Flash, page_at, erased, whole, torn}
+use Rattle.std.{specs.Prelude.nat_eq, specs.Prelude.◌==◌, specs.Prelude.◌++◌, specs.List.AllByRecursion, specs.List.list_all, specs.List.starts_with}
+use Rattle.pk_base.{specs.Key.Key, specs.Shape.Shape, specs.Shape.charge, specs.Shape.buffer, specs.Shape.root_pages, specs.Shape.pinned, specs.Entry.Entry, specs.Entry.Place, specs.Firsts.firsts}
+use Rattle.pk_base.{specs.EntryChecks.IsEntry, specs.EntryChecks.IsPlace, specs.Page.Page, specs.Page.Flash, specs.Page.page_at, specs.Page.erased, specs.Page.whole, specs.Page.torn}
 use Rattle.pk_base.specs.Refusal.{Refusal, damaged, ensure}
-use Rattle.pk_nand.specs.BoardState.{BoardState}
+use Rattle.pk_nand.{specs.BoardState.BoardState, specs.Counts.after_reads}
 use Rattle.pk_segfmt.specs.Value.{head_bytes, value_pages, value_page, value_from, value_at}
-use Rattle.pk_rootfmt.specs.Root.{Root, named, is_root}
-use Rattle.pk_rootfmt.specs.Newest.{newest_root}
+use Rattle.pk_rootfmt.{specs.Root.Root, specs.Root.named, specs.Root.is_root, specs.Newest.newest_root, specs.Held.Held}
 use Rattle.pk_buf.specs.Table.{Table}
-use Rattle.pk_jrn.specs.Epochs.{JournalEpoch}
-use Rattle.pk_jrn.specs.Replays.{buffer_of}
-use Rattle.pk_jrn.proofs.Puts.{firsts-reverse}
-use Rattle.pk_pin.specs.Frames.{Frames}
-use Rattle.pk_level.specs.Levels.{Levels}
-use Rattle.pk_level.specs.Arenas.{HasArena, leases_of}
-use Rattle.pk_live.specs.Values.{no_values}
-use Rattle.pk_pin.specs.Frames.{free_frames}
-use Rattle.pk_walk.specs.Visible.{visible}
-use Rattle.pk_walk.specs.Walking.{Walk, IsLeft, most_read}
-use Rattle.pk_live.specs.Values.{Values}
+use Rattle.pk_jrn.{specs.Epochs.JournalEpoch, specs.Replays.buffer_of, proofs.Puts.firsts-reverse, specs.EpochReads.epoch_reads}
+use Rattle.pk_pin.specs.Frames.{Frames, free_frames}
+use Rattle.pk_level.{specs.Levels.Levels, specs.Arenas.HasArena, specs.Arenas.leases_of}
+use Rattle.pk_live.specs.Values.{no_values, Values}
+use Rattle.pk_walk.{specs.Visible.visible, specs.Walking.Walk, specs.Walking.IsLeft, specs.Walking.most_read}
 use Rattle.pk_plan.specs.declared.owner.Owner.TheVariants.{Values as for_values}
 use Rattle.pk_pool.specs.Blocks.{Blocks, used_by, unused}
-use Rattle.pk_rootfmt.specs.Held.{Held}
-use Rattle.pk_nand.specs.Counts.{after_reads}
-use Rattle.pk_model.specs.Found.{Found, found_under, entries_in_order}
-use Rattle.pk_model.specs.Laws.{IsPageOf}
-use Rattle.pk_model.specs.Reading.{reading}
+use Rattle.pk_model.{specs.Found.Found, specs.Found.found_under, specs.Found.entries_in_order, specs.Laws.IsPageOf, specs.Reading.reading, proofs.StrangePages.bind_ok, specs.RootLimits.root_limits}
 use Rattle.pk_model.specs.Values.{placed, fits, values_of, all_pages, blocks_with, fits_after}
 use Rattle.pk_model.proofs.Entries.{counting_all, journal_are, meta_are}
-use Rattle.pk_model.proofs.StrangePages.{bind_ok}
 use Rattle.pk_law_steps.specs.Under.{IsValuePage, places}
-use Rattle.pk_scan.specs.Starting.{IsAtStart}
-use Rattle.pk_scan.specs.Opening.{OnlyReads, NotOpened}
-use Rattle.pk_scan.specs.OpeningParts.{PartNotOpened, HoldsFound, ReadsValues, wanted_behind}
-use Rattle.pk_scan.specs.Runs.{LeasedMore}
+use Rattle.pk_scan.{specs.Starting.IsAtStart, specs.Opening.OnlyReads, specs.Opening.NotOpened, specs.Runs.LeasedMore, specs.declared.contents.Found.Found as Opened, specs.Adopts.HasOwners}
+use Rattle.pk_scan.{specs.OpeningParts.PartNotOpened, specs.OpeningParts.HoldsFound, specs.OpeningParts.ReadsValues, specs.OpeningParts.wanted_behind, specs.declared.contents.Memory.Memory as Working}
 use Rattle.pk_scan.specs.Memory.{FoundNothing, IsUnread, AwaitsLists, HoldsLists, LoadsLists, FindsLists, AwaitsValues}
-use Rattle.pk_scan.specs.declared.contents.Found.{Found as Opened}
-use Rattle.pk_scan.specs.declared.contents.Memory.{Memory as Working}
-use Rattle.pk_scan.specs.Adopts.{HasOwners}
-use Rattle.pk_scan.specs.Opened.{FoundOnFlash}
-use Rattle.pk_scan.specs.Reads.{opening_reads, reads_under, list_reads, value_reads, pages_of_runs, run_reads}
-use Rattle.pk_jrn.specs.EpochReads.{epoch_reads}
-use Rattle.pk_scan.proofs.Boards.{reads_sum}
-use Rattle.pk_scan.proofs.RunReads.{run_reads_are}
-use Rattle.pk_scan.specs.declared.errors.OpenError.{OpenError}
+use Rattle.pk_scan.{specs.Opened.FoundOnFlash, specs.Reads.opening_reads, specs.Reads.reads_under, specs.Reads.list_reads, specs.Reads.value_reads, specs.Reads.pages_of_runs, specs.Reads.run_reads}
+use Rattle.pk_scan.{proofs.Boards.reads_sum, proofs.RunReads.run_reads_are, specs.declared.errors.OpenError.OpenError, proofs.Leasing.arena_opened, proofs.Room.frames_enough, specs.Used.IsUseOf}
 use Rattle.pk_scan.specs.declared.errors.OpenError.TheVariants.{NotFormatted, Damaged, Fault, Memory}
-use Rattle.pk_scan.proofs.Leasing.{arena_opened}
-use Rattle.pk_scan.proofs.Room.{frames_enough}
-use Rattle.pk_scan.proofs.Opened.{behind_reads}
-use Rattle.pk_scan.proofs.Under.{visible_places, found_refuses, values_refuse, stands_under}
-use Rattle.pk_model.specs.RootLimits.{root_limits}
-use Rattle.pk_scan.specs.Used.{IsUseOf}
+use Rattle.pk_scan.{proofs.Opened.behind_reads, proofs.Under.visible_places, proofs.Under.found_refuses, proofs.Under.values_refuse, proofs.Under.stands_under}
 use Rattle.pk_space.specs.Uses.{Use}
 
 -- ---- the keys that exist

@@ -1,17 +1,10 @@
 -- A value as the next one that the reading of a flash reaches.
 use Rattle.std.specs.Prelude.{◌≡◌, ℕ, suc, ◌-◌, List, [], ◌∷◌, ◌++◌, true, Ok, Err, if◌then◌else◌}
-use Rattle.pk_base.specs.Key.{Key}
-use Rattle.pk_base.specs.Shape.{Shape}
-use Rattle.pk_base.specs.Entry.{Place}
-use Rattle.pk_base.specs.Page.{Flash, page_at}
-use Rattle.pk_base.specs.Refusal.{damaged, ◌>>=◌}
-use Rattle.pk_nand.specs.BoardState.{BoardState}
-use Rattle.pk_nand.specs.Counts.{after_reads}
+use Rattle.pk_base.{specs.Key.Key, specs.Shape.Shape, specs.Entry.Place, specs.Page.Flash, specs.Page.page_at, specs.Refusal.damaged, specs.Refusal.◌>>=◌}
+use Rattle.pk_nand.{specs.BoardState.BoardState, specs.Counts.after_reads}
 use Rattle.pk_segfmt.specs.Value.{value_at}
 use Rattle.pk_model.specs.Values.{fits_after, values_of}
-use Rattle.pk_scan.specs.Checked.{Faulted}
-use Rattle.pk_scan.specs.declared.errors.PageError.{PageError}
-use Rattle.pk_scan.specs.declared.errors.PageError.TheVariants.{Damaged, Fault}
+use Rattle.pk_scan.{specs.Checked.Faulted, specs.declared.errors.PageError.PageError, specs.declared.errors.PageError.TheVariants.Damaged, specs.declared.errors.PageError.TheVariants.Fault}
 
 -- After the values that were taken, the reading finds this one and goes on with the others.
 pub record Accepted (shape : Shape) (flash : Flash) (limits named : List ℕ) (taken : List (Key × Place)) (key : Key) (place : Place) : Type 0 where

@@ -1,10 +1,8 @@
 -- Blocks that get their owners at opening.
 use Rattle.std.specs.Prelude.{◌≡◌, ℕ, ◌+◌, ◌≤◌, Bool, true, false, ◌==◌, ◌-◌, List, ◌++◌, length, slice_get, option_map, Option, Some, None, filter}
 use Rattle.std.specs.List.{list_any, concat, range_with_len, AllByRecursion}
-use Rattle.pk_base.specs.Shape.{Shape, data_blocks}
-use Rattle.pk_base.specs.Page.{Flash}
-use Rattle.pk_plan.specs.declared.owner.Owner.{Owner}
-use Rattle.pk_plan.specs.declared.owner.Owner.TheVariants.{Journal, Meta, Values}
+use Rattle.pk_base.{specs.Shape.Shape, specs.Shape.data_blocks, specs.Page.Flash}
+use Rattle.pk_plan.{specs.declared.owner.Owner.Owner, specs.declared.owner.Owner.TheVariants.Journal, specs.declared.owner.Owner.TheVariants.Meta, specs.declared.owner.Owner.TheVariants.Values}
 use Rattle.pk_plan.specs.Quotas.{quota_of}
 use Rattle.pk_pool.specs.declared.state.BlockState.{BlockState}
 use Rattle.pk_pool.specs.declared.state.BlockState.TheVariants.{Root as RootBlock, Free, Ready, Owned, Leaving}

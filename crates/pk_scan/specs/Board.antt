@@ -1,9 +1,7 @@
 -- What opening leaves of a board.
 use Rattle.std.specs.Prelude.{◌≡◌}
 use Rattle.pk_base.specs.Shape.{Shape}
-use Rattle.pk_nand.specs.BoardState.{BoardState}
-use Rattle.pk_nand.specs.Calls.{IsReady}
-use Rattle.pk_nand.specs.Effects.{OnlyReading}
+use Rattle.pk_nand.{specs.BoardState.BoardState, specs.Calls.IsReady, specs.Effects.OnlyReading}
 
 -- Nothing was done but reads, so that the pages are what they were and the board may be called as before.
 pub record StaysReady (shape : Shape) (old new : BoardState) : Type 0 where

@@ -1,18 +1,10 @@
 -- What a check of a value returns, and the board after it.
 use Rattle.std.specs.Prelude.{◌≡◌, ℕ, suc, ◌+◌, ◌-◌, ◌<◌, ◌≤◌, List, false, Ok, Err}
-use Rattle.pk_base.specs.Key.{Key}
-use Rattle.pk_base.specs.Shape.{Shape, charge}
-use Rattle.pk_base.specs.Entry.{Place}
-use Rattle.pk_base.specs.Page.{Flash, page_at}
-use Rattle.pk_base.specs.Refusal.{damaged}
-use Rattle.pk_nand.specs.BoardState.{BoardState}
-use Rattle.pk_nand.specs.Operations.{after_read, ReadFailed}
-use Rattle.pk_nand.specs.Counts.{after_reads}
+use Rattle.pk_base.{specs.Key.Key, specs.Shape.Shape, specs.Shape.charge, specs.Entry.Place, specs.Page.Flash, specs.Page.page_at, specs.Refusal.damaged}
+use Rattle.pk_nand.{specs.BoardState.BoardState, specs.Operations.after_read, specs.Operations.ReadFailed, specs.Counts.after_reads}
 use Rattle.pk_seg.specs.Counts.{ReadsFailed}
 use Rattle.pk_segfmt.specs.Value.{value_at}
-use Rattle.pk_scan.specs.Pages.{is_right}
-use Rattle.pk_scan.specs.declared.errors.PageError.{PageError}
-use Rattle.pk_scan.specs.declared.errors.PageError.TheVariants.{Damaged, Fault}
+use Rattle.pk_scan.{specs.Pages.is_right, specs.declared.errors.PageError.PageError, specs.declared.errors.PageError.TheVariants.Damaged, specs.declared.errors.PageError.TheVariants.Fault}
 
 -- the reading of a flash finds a value of this key at its place
 abbrev pub HasValue : Shape → Flash → Key → Place → Type 0

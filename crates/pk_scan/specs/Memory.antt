@@ -1,29 +1,19 @@
 -- The memory of an opening, before and between its two halves.
 use Rattle.std.specs.Prelude.{◌≡◌, ℕ, ◌+◌, ◌<◌, ◌≤◌, true, false, [], length, replicate, Some}
-use Rattle.pk_base.specs.Shape.{Shape, root_pages, pinned}
-use Rattle.pk_base.specs.Page.{Flash, page_at}
+use Rattle.pk_base.{specs.Shape.Shape, specs.Shape.root_pages, specs.Shape.pinned, specs.Page.Flash, specs.Page.page_at}
 use Rattle.pk_buf.specs.Table.{no_entries}
-use Rattle.pk_level.specs.Levels.{no_runs}
-use Rattle.pk_level.specs.Arenas.{leases_of}
+use Rattle.pk_level.{specs.Levels.no_runs, specs.Arenas.leases_of}
 use Rattle.pk_live.specs.Values.{no_values}
-use Rattle.pk_model.specs.Found.{Found as FoundLists}
-use Rattle.pk_nand.specs.BoardState.{BoardState}
-use Rattle.pk_nand.specs.Counts.{after_reads}
+use Rattle.pk_model.{specs.Found.Found as FoundLists, specs.RootLimits.root_limits}
+use Rattle.pk_nand.{specs.BoardState.BoardState, specs.Counts.after_reads}
 use Rattle.pk_pin.specs.Frames.{free_frames}
 use Rattle.pk_pool.specs.Blocks.{PoolOnFlash, unused}
-use Rattle.pk_rootfmt.specs.Newest.{newest_root}
-use Rattle.pk_rootfmt.specs.Root.{is_root, named}
+use Rattle.pk_rootfmt.{specs.Newest.newest_root, specs.Root.is_root, specs.Root.named}
 use Rattle.pk_law_steps.specs.Under.{places}
 use Rattle.pk_walk.specs.Walking.{most_read}
-use Rattle.pk_scan.specs.Starting.{IsAtStart}
-use Rattle.pk_scan.specs.OpeningParts.{HoldsFound, ReadsValues, wanted_behind}
+use Rattle.pk_scan.{specs.Starting.IsAtStart, specs.OpeningParts.HoldsFound, specs.OpeningParts.ReadsValues, specs.OpeningParts.wanted_behind, specs.Used.IsUseOf, specs.Reads.value_reads}
+use Rattle.pk_scan.{specs.Runs.LeasedMore, specs.declared.contents.Found.Found, specs.declared.contents.Memory.Memory}
 use Rattle.pk_space.specs.Uses.{nothing_used}
-use Rattle.pk_model.specs.RootLimits.{root_limits}
-use Rattle.pk_scan.specs.Used.{IsUseOf}
-use Rattle.pk_scan.specs.Reads.{value_reads}
-use Rattle.pk_scan.specs.Runs.{LeasedMore}
-use Rattle.pk_scan.specs.declared.contents.Found.{Found}
-use Rattle.pk_scan.specs.declared.contents.Memory.{Memory}
 
 -- Nothing was read: there are no entries and no values, all frames are free, and no block is used.
 pub record FoundNothing {A : Type 0} (shape : Shape) (frames : ℕ) (f : Found A) : Type 0 where

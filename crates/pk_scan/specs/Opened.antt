@@ -1,24 +1,16 @@
 -- All that is on a flash, as opening has it in memory.
 use Rattle.std.specs.Prelude.{◌≡◌, ◌≢◌, ℕ, ◌<◌, true, [], length}
-use Rattle.pk_base.specs.Shape.{Shape, root_pages, pinned}
-use Rattle.pk_base.specs.Page.{Flash, page_at, erased}
-use Rattle.pk_base.specs.Map.{Map}
+use Rattle.pk_base.{specs.Shape.Shape, specs.Shape.root_pages, specs.Shape.pinned, specs.Page.Flash, specs.Page.page_at, specs.Page.erased, specs.Map.Map}
 use Rattle.pk_plan.specs.declared.owner.Owner.TheVariants.{Values as for_values}
 use Rattle.pk_pool.specs.Blocks.{used_by}
 use Rattle.pk_rootfmt.specs.Root.{is_root, named}
-use Rattle.pk_jrn.specs.Epochs.{EpochOnFlash}
-use Rattle.pk_jrn.specs.Replays.{buffer_of}
-use Rattle.pk_level.specs.Levels.{RunsOnFlash}
-use Rattle.pk_level.specs.Arenas.{HasArena}
-use Rattle.pk_model.specs.Found.{Found as FoundLists}
-use Rattle.pk_model.specs.Values.{all_pages, blocks_with}
+use Rattle.pk_jrn.{specs.Epochs.EpochOnFlash, specs.Replays.buffer_of}
+use Rattle.pk_level.{specs.Levels.RunsOnFlash, specs.Arenas.HasArena}
+use Rattle.pk_model.{specs.Found.Found as FoundLists, specs.Values.all_pages, specs.Values.blocks_with}
 use Rattle.pk_law_steps.specs.Under.{IsUnder, IsValuePage, places}
 pub use Rattle.pk_scan.specs.OpeningParts.{HaveBlocks}
-use Rattle.pk_scan.specs.OpeningParts.{IsFoundEpoch}
+use Rattle.pk_scan.{specs.OpeningParts.IsFoundEpoch, specs.Used.IsUseOf, specs.Adopts.HasOwners, specs.declared.contents.Found.Found}
 use Rattle.pk_live.specs.Lives.{Lives}
-use Rattle.pk_scan.specs.Used.{IsUseOf}
-use Rattle.pk_scan.specs.Adopts.{HasOwners}
-use Rattle.pk_scan.specs.declared.contents.Found.{Found}
 
 -- The lists under the newest root are in memory: the newest epoch in the active buffer, the older one in the frozen buffer, the
 -- runs in the levels, of which the upper ones have frames, and nothing else has some.

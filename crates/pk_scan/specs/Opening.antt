@@ -1,10 +1,7 @@
 -- Opening, part by part: what the reading of a flash finds, and why it refuses.
 use Rattle.std.specs.Prelude.{◌≡◌, ℕ, [], Err}
-use Rattle.pk_base.specs.Shape.{Shape}
-use Rattle.pk_base.specs.Refusal.{not_formatted, damaged}
-use Rattle.pk_nand.specs.BoardState.{BoardState}
-use Rattle.pk_nand.specs.Calls.{Rose}
-use Rattle.pk_nand.specs.Counts.{after_reads}
+use Rattle.pk_base.{specs.Shape.Shape, specs.Refusal.not_formatted, specs.Refusal.damaged}
+use Rattle.pk_nand.{specs.BoardState.BoardState, specs.Calls.Rose, specs.Counts.after_reads}
 use Rattle.pk_model.specs.Reading.{reading}
 use Rattle.pk_scan.specs.declared.errors.OpenError.{OpenError}
 use Rattle.pk_scan.specs.declared.errors.OpenError.TheVariants.{NotFormatted, Damaged, Fault, Memory}

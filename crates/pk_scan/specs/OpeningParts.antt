@@ -1,34 +1,21 @@
 -- Opening, part by part: the root, the epochs, the runs, the values.
 use Rattle.std.specs.Prelude.{◌≡◌, ⊤, ℕ, ◌+◌, ◌-◌, ◌<◌, ◌≤◌, List, [], ◌∷◌, nat_le, true, slice_index, slice_index_or, take, drop, Result, Ok, Err}
 use Rattle.std.specs.List.{AllByRecursion}
-use Rattle.pk_base.specs.declared.sizes.TheConstants.{LEVELS}
-use Rattle.pk_base.specs.Shape.{Shape, cap, caps, epoch_commits, run_pages}
-use Rattle.pk_base.specs.Key.{Key}
-use Rattle.pk_base.specs.Entry.{Entry, Place}
-use Rattle.pk_base.specs.EntryChecks.{IsEntry}
-use Rattle.pk_base.specs.Page.{Flash, page_at, Page}
-use Rattle.pk_base.specs.Refusal.{Refusal, damaged}
+use Rattle.pk_base.{specs.declared.sizes.TheConstants.LEVELS, specs.Shape.Shape, specs.Shape.cap, specs.Shape.caps, specs.Shape.epoch_commits, specs.Shape.run_pages, specs.Key.Key}
+use Rattle.pk_base.{specs.Entry.Entry, specs.Entry.Place, specs.EntryChecks.IsEntry, specs.Page.Flash, specs.Page.page_at, specs.Page.Page, specs.Refusal.Refusal, specs.Refusal.damaged}
 use Rattle.pk_nand.specs.BoardState.{BoardState}
 use Rattle.pk_meta.specs.Run.{run}
-use Rattle.pk_rootfmt.specs.Root.{Root, is_root}
-use Rattle.pk_rootfmt.specs.Held.{Held, total}
+use Rattle.pk_rootfmt.{specs.Root.Root, specs.Root.is_root, specs.Held.Held, specs.Held.total}
 use Rattle.pk_buf.specs.Table.{Table}
-use Rattle.pk_jrn.specs.Epochs.{JournalEpoch, HasCommit, found_at_opening, EpochOnFlash}
-use Rattle.pk_jrn.specs.Replays.{buffer_of}
+use Rattle.pk_jrn.{specs.Epochs.JournalEpoch, specs.Epochs.HasCommit, specs.Epochs.found_at_opening, specs.Epochs.EpochOnFlash, specs.Replays.buffer_of}
 use Rattle.pk_pin.specs.Frames.{Frames, free_frames}
 use Rattle.pk_run.specs.Kept.{Kept, RunOnFlash}
 pub use Rattle.pk_level.specs.Levels.{HaveBlocks}
-use Rattle.pk_level.specs.Levels.{Levels, RunsOnFlash, with_run}
-use Rattle.pk_level.specs.Arenas.{IsPinnedIf, leases_of}
-use Rattle.pk_model.specs.RootLimits.{root_spaces}
-use Rattle.pk_model.specs.Found.{Found, found_under, newest_epoch, older_epoch, runs_from}
-use Rattle.pk_live.specs.Values.{Values}
-use Rattle.pk_model.specs.Values.{values_of}
-use Rattle.pk_live.specs.Lives.{Lives}
-use Rattle.pk_scan.specs.Runs.{LeasedMore, RunsStand}
-use Rattle.pk_scan.specs.declared.errors.PageError.{PageError}
+use Rattle.pk_level.{specs.Levels.Levels, specs.Levels.RunsOnFlash, specs.Levels.with_run, specs.Arenas.IsPinnedIf, specs.Arenas.leases_of}
+use Rattle.pk_model.{specs.RootLimits.root_spaces, specs.Found.Found, specs.Found.found_under, specs.Found.newest_epoch, specs.Found.older_epoch, specs.Found.runs_from, specs.Values.values_of}
+use Rattle.pk_live.{specs.Values.Values, specs.Lives.Lives}
+use Rattle.pk_scan.{specs.Runs.LeasedMore, specs.Runs.RunsStand, specs.declared.errors.PageError.PageError, specs.declared.errors.OpenError.OpenError}
 use Rattle.pk_scan.specs.declared.errors.PageError.TheVariants.{Damaged as PageDamaged, Fault as PageFault}
-use Rattle.pk_scan.specs.declared.errors.OpenError.{OpenError}
 use Rattle.pk_scan.specs.declared.errors.OpenError.TheVariants.{NotFormatted, Damaged, Fault, Memory}
 use Rattle.pk_scan.specs.Opening.{FaultCounted, OnlyReads}
 

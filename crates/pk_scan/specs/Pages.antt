@@ -1,11 +1,7 @@
 -- The pages of a value one by one: which of them the reading of a flash accepts.
 use Rattle.std.specs.Prelude.{ℕ, zero, suc, ◌+◌, ◌-◌, ◌*◌, List, [], drop, Bool, false, ◌&&◌, ◌==◌, nat_eq}
 use Rattle.std.specs.List.{list_all, starts_with}
-use Rattle.pk_base.specs.declared.sizes.TheConstants.{HEAD_BYTES}
-use Rattle.pk_base.specs.Key.{Key}
-use Rattle.pk_base.specs.Shape.{Shape}
-use Rattle.pk_base.specs.Entry.{Place}
-use Rattle.pk_base.specs.Page.{Page, erased, whole, torn}
+use Rattle.pk_base.{specs.declared.sizes.TheConstants.HEAD_BYTES, specs.Key.Key, specs.Shape.Shape, specs.Entry.Place, specs.Page.Page, specs.Page.erased, specs.Page.whole, specs.Page.torn}
 use Rattle.pk_segfmt.specs.Value.{head_bytes}
 
 -- the bytes with which page i of a value has to begin: its head, and none after the first page

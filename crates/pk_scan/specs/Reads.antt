@@ -1,12 +1,8 @@
 -- How many pages opening reads, by what is on the flash.
 use Rattle.std.specs.Prelude.{ℕ, ◌+◌, ◌*◌, List, [], ◌∷◌, nat_le, if◌then◌else◌, Option, Some, None, Result, Ok, Err}
-use Rattle.pk_base.specs.Key.{Key}
-use Rattle.pk_base.specs.Shape.{Shape, charge, root_pages, pinned, run_pages}
-use Rattle.pk_base.specs.Entry.{Place}
+use Rattle.pk_base.{specs.Key.Key, specs.Shape.Shape, specs.Shape.charge, specs.Shape.root_pages, specs.Shape.pinned, specs.Shape.run_pages, specs.Entry.Place, specs.Refusal.Refusal}
 use Rattle.pk_base.specs.Page.{Page, Flash, page_at}
-use Rattle.pk_base.specs.Refusal.{Refusal}
-use Rattle.pk_rootfmt.specs.Root.{Root}
-use Rattle.pk_rootfmt.specs.Newest.{newest_root}
+use Rattle.pk_rootfmt.{specs.Root.Root, specs.Newest.newest_root}
 use Rattle.pk_model.specs.Found.{Found, found_under}
 use Rattle.pk_jrn.specs.EpochReads.{epoch_reads}
 use Rattle.pk_law_steps.specs.Under.{places}

@@ -1,26 +1,15 @@
 -- A run of meta pages that is read from a flash, page by page.
 use Rattle.std.specs.Prelude.{◌≡◌, ℕ, ◌+◌, ◌-◌, ◌*◌, ◌<◌, ◌≤◌, T, Bool, true, false, not, ◌||◌, ◌==◌, is_some, List, [], ◌∷◌, ◌++◌, length, slice_index, Option, Some, None, Ok, Err}
-use Rattle.std.specs.List.{list_all, AllByRecursion}
-use Rattle.std.specs.Ordering.{is_lt}
-use Rattle.std.specs.FinMap.Entries.{is_sorted}
-use Rattle.pk_base.specs.declared.sizes.TheConstants.{LEVELS}
-use Rattle.pk_base.specs.Key.{Key, key_cmp}
+use Rattle.std.{specs.List.list_all, specs.List.AllByRecursion, specs.Ordering.is_lt, specs.FinMap.Entries.is_sorted}
+use Rattle.pk_base.{specs.declared.sizes.TheConstants.LEVELS, specs.Key.Key, specs.Key.key_cmp, specs.Entry.Entry, specs.Entry.key_of, specs.EntryChecks.IsEntry, specs.Refusal.damaged}
 use Rattle.pk_base.specs.Shape.{Shape, cap, page_entries, run_pages, run_blocks}
-use Rattle.pk_base.specs.Entry.{Entry, key_of}
-use Rattle.pk_base.specs.EntryChecks.{IsEntry}
 use Rattle.pk_base.specs.Page.{Flash, page_at, page_in, whole, pages_of_blocks}
-use Rattle.pk_base.specs.Refusal.{damaged}
-use Rattle.pk_meta.specs.Page.{meta_entries}
-use Rattle.pk_meta.specs.Run.{may_hold, meta, run}
-use Rattle.pk_nand.specs.BoardState.{BoardState}
-use Rattle.pk_nand.specs.Calls.{Rose}
-use Rattle.pk_nand.specs.Operations.{ReadFailed, after_read}
-use Rattle.pk_nand.specs.Counts.{after_reads}
+use Rattle.pk_meta.{specs.Page.meta_entries, specs.Run.may_hold, specs.Run.meta, specs.Run.run}
+use Rattle.pk_nand.{specs.BoardState.BoardState, specs.Calls.Rose, specs.Operations.ReadFailed, specs.Operations.after_read, specs.Counts.after_reads}
 use Rattle.pk_pin.specs.Frames.{Frames, IsLeased, frame_of, free_frames, AreLeases}
 use Rattle.pk_run.specs.Kept.{Kept, RunOnFlash, empty, page_of, most_pages, with_page}
 use Rattle.pk_level.specs.Arenas.{IsPinnedIf}
-use Rattle.pk_scan.specs.declared.errors.PageError.{PageError}
-use Rattle.pk_scan.specs.declared.errors.PageError.TheVariants.{Damaged, Fault}
+use Rattle.pk_scan.{specs.declared.errors.PageError.PageError, specs.declared.errors.PageError.TheVariants.Damaged, specs.declared.errors.PageError.TheVariants.Fault}
 
 -- each of these is a block of the flash
 abbrev pub RunBlocksExist : Shape → List ℕ → Type 0

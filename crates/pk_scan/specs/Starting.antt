@@ -1,12 +1,10 @@
 -- A walk over the keys of a flash that has not begun.
 use Rattle.std.specs.Prelude.{◌≡◌, List, ◌∷◌}
-use Rattle.pk_base.specs.Entry.{Entry}
-use Rattle.pk_base.specs.Page.{Flash}
+use Rattle.pk_base.{specs.Entry.Entry, specs.Page.Flash}
 use Rattle.pk_pin.specs.Frames.{Frames}
 use Rattle.pk_run.specs.Kept.{Kept}
 use Rattle.pk_level.specs.Levels.{RunsOnFlash}
-use Rattle.pk_walk.specs.Visible.{visible}
-use Rattle.pk_walk.specs.Walking.{Walk, IsLeft, SkipsNone, pages_read}
+use Rattle.pk_walk.{specs.Visible.visible, specs.Walking.Walk, specs.Walking.IsLeft, specs.Walking.SkipsNone, specs.Walking.pages_read}
 
 -- The walk has still to give all keys that exist, whatever runs and buffers it goes over, and has come past no page.
 pub record IsAtStart (walk : Walk) : Type 0 where

@@ -1,19 +1,12 @@
 -- The values of all keys, as they are read and taken one after another.
 use Rattle.std.specs.Prelude.{◌≡◌, ℕ, ◌+◌, List, length}
-use Rattle.pk_base.specs.Key.{Key}
-use Rattle.pk_base.specs.Shape.{Shape}
-use Rattle.pk_base.specs.Entry.{Place}
-use Rattle.pk_base.specs.Page.{Flash}
-use Rattle.pk_nand.specs.BoardState.{BoardState}
-use Rattle.pk_nand.specs.Counts.{after_reads}
+use Rattle.pk_base.{specs.Key.Key, specs.Shape.Shape, specs.Entry.Place, specs.Page.Flash}
+use Rattle.pk_nand.{specs.BoardState.BoardState, specs.Counts.after_reads}
 use Rattle.pk_live.specs.Values.{Values}
 use Rattle.pk_run.specs.Kept.{Kept}
 use Rattle.pk_walk.specs.Walking.{Walk, SkipsNone, most_read, pages_read}
-use Rattle.pk_scan.specs.Opening.{OnlyReads}
-use Rattle.pk_scan.specs.OpeningParts.{ReadsValues}
+use Rattle.pk_scan.{specs.Opening.OnlyReads, specs.OpeningParts.ReadsValues, specs.Used.IsUseOf, specs.Reads.value_reads}
 use Rattle.pk_space.specs.Uses.{Use}
-use Rattle.pk_scan.specs.Used.{IsUseOf}
-use Rattle.pk_scan.specs.Reads.{value_reads}
 
 -- The values at these places were read and taken, and this many keys were counted.
 pub record TakesValues (shape : Shape) (flash : Flash) (limits named : List ℕ) (live : Values) (u : Use) (keys : ℕ) (es : List (Key × Place)) : Type 0 where

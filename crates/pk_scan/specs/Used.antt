@@ -1,13 +1,9 @@
 -- The limits of the namespaces of a drive, and what is used of each by values.
 use Rattle.std.specs.Prelude.{◌≡◌, ℕ, ◌+◌, List, [], ◌∷◌, length, ◌==◌, if◌then◌else◌}
-use Rattle.pk_base.specs.declared.sizes.TheConstants.{MOST_SPACES}
-use Rattle.pk_base.specs.Key.{Key, space_of}
-use Rattle.pk_base.specs.Shape.{Shape}
-use Rattle.pk_base.specs.Entry.{Place}
+use Rattle.pk_base.{specs.declared.sizes.TheConstants.MOST_SPACES, specs.Key.Key, specs.Key.space_of, specs.Shape.Shape, specs.Entry.Place}
 use Rattle.pk_space.specs.Uses.{Use, IsSpace, space_live, space_keys}
 use Rattle.pk_rootfmt.specs.Held.{Held}
-use Rattle.pk_model.specs.RootLimits.{root_limits}
-use Rattle.pk_model.specs.Values.{pages_of_space}
+use Rattle.pk_model.{specs.RootLimits.root_limits, specs.Values.pages_of_space}
 
 -- the limits of a drive with this root
 abbrev pub held_limits : Held → List ℕ

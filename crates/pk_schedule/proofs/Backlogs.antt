@@ -1,43 +1,27 @@
 -- The remaining work is within its bounds: buffers and runs by the lists under the root, and no job has more left than the whole of it.
 use Rattle.std.proofs.Common.{◌≡◌, inl, inr, ℕ, zero, suc, ◌+◌, ◌-◌, ◌*◌, ◌<◌, ◌≤◌, refl, sym, ap, subst, ◌∙◌, arith, Bool, true, false, T, ◌==◌, ◌||◌, if◌then◌else◌, List, [], ◌∷◌, length, map}
 use Rattle.std.proofs.Common.{Option, Some, None}
-use Rattle.std.specs.Prelude.{slice_index, slice_index_or, unwrap_or, IfSome, not, nat_le, zip}
-use Rattle.std.specs.List.{list_all}
+use Rattle.std.{specs.Prelude.slice_index, specs.Prelude.slice_index_or, specs.Prelude.unwrap_or, specs.Prelude.IfSome, specs.Prelude.not, specs.Prelude.nat_le, specs.Prelude.zip, specs.List.list_all}
 use Rattle.std.proofs.lemmas.List.Sums.{count_by-le-length}
-use Rattle.pk_base.specs.Shape.{Shape, IsShape, page_entries, buffer, cap, caps, run_pages}
-use Rattle.pk_base.specs.Page.{Flash, page_at, page_in}
-use Rattle.pk_base.specs.Entry.{Entry}
-use Rattle.pk_base.specs.Firsts.{firsts}
-use Rattle.pk_base.specs.Merge.{room, next_merge}
-use Rattle.pk_base.specs.Refusal.{ensure}
-use Rattle.pk_law_work.specs.Rest.{whole_merge, whole_freeze}
-use Rattle.pk_law_work.specs.Backlog.{IsBacklog, due_level}
-use Rattle.pk_law_work.proofs.Paging.{few_pages}
+use Rattle.pk_base.{specs.Shape.Shape, specs.Shape.IsShape, specs.Shape.page_entries, specs.Shape.buffer, specs.Shape.cap, specs.Shape.caps, specs.Shape.run_pages, specs.Entry.Entry}
+use Rattle.pk_base.{specs.Page.Flash, specs.Page.page_at, specs.Page.page_in, specs.Firsts.firsts, specs.Merge.room, specs.Merge.next_merge, specs.Refusal.ensure, proofs.Logic.ok_same}
+use Rattle.pk_law_work.{specs.Rest.whole_merge, specs.Rest.whole_freeze, specs.Backlog.IsBacklog, specs.Backlog.due_level, proofs.Paging.few_pages}
 use Rattle.pk_buf.specs.Table.{Table}
 use Rattle.pk_jrn.proofs.Puts.{firsts-reverse}
 use Rattle.pk_rootfmt.specs.Root.{Root, is_root}
 use Rattle.pk_pin.specs.Frames.{Frames}
 use Rattle.pk_pool.specs.Blocks.{is_ready}
-use Rattle.pk_root.specs.declared.next.Next.{Next}
-use Rattle.pk_root.specs.declared.next.Next.TheVariants.{Erase, Program, Again}
+use Rattle.pk_root.{specs.declared.next.Next.Next, specs.declared.next.Next.TheVariants.Erase, specs.declared.next.Next.TheVariants.Program, specs.declared.next.Next.TheVariants.Again}
 use Rattle.pk_run.specs.Kept.{Kept, empty, most_pages, most_blocks}
 use Rattle.pk_level.specs.Levels.{RunsOnFlash, HaveBlocks, run_of}
-use Rattle.pk_model.specs.Found.{Found}
-use Rattle.pk_model.proofs.StrangePages.{bind_ok}
-use Rattle.pk_law_steps.proofs.NewestBlocks.{valid_root}
+use Rattle.pk_model.{specs.Found.Found, proofs.StrangePages.bind_ok, specs.RootLimits.root_spaces}
+use Rattle.pk_law_steps.{proofs.NewestBlocks.valid_root, proofs.Amounts.run_most, proofs.Amounts.epoch_most, proofs.Amounts.WithinCaps, proofs.Amounts.within_caps, proofs.Amounts.counted_of}
 use Rattle.pk_law_steps.proofs.FourRuns.{Runs, Pieces, IsLevel, four_of_root, four_runs, pieces_of, next_is_level}
-use Rattle.pk_law_steps.proofs.Amounts.{run_most, epoch_most, WithinCaps, within_caps, counted_of}
-use Rattle.pk_merge.specs.Sources.{pages_in}
-use Rattle.pk_merge.specs.Remaining.{steps_left}
-use Rattle.pk_merge.proofs.Counting.{within}
-use Rattle.pk_compact.specs.declared.freezing.FreezeJob.{FreezeJob}
-use Rattle.pk_compact.specs.FreezeSteps.{taken_by, install_steps, freeze_left}
-use Rattle.pk_schedule.specs.declared.phase.Phase.{Phase}
-use Rattle.pk_schedule.specs.declared.phase.Phase.TheVariants.{Idle, Running, Ready}
+use Rattle.pk_merge.{specs.Sources.pages_in, specs.Remaining.steps_left, proofs.Counting.within}
+use Rattle.pk_compact.{specs.declared.freezing.FreezeJob.FreezeJob, specs.FreezeSteps.taken_by, specs.FreezeSteps.install_steps, specs.FreezeSteps.freeze_left}
+use Rattle.pk_schedule.{specs.declared.phase.Phase.Phase, specs.declared.phase.Phase.TheVariants.Idle, specs.declared.phase.Phase.TheVariants.Running, specs.declared.phase.Phase.TheVariants.Ready}
 use Rattle.pk_schedule.specs.Index.{Index, IndexOnFlash, MergeStands, MergesInto, output, source_at}
 use Rattle.pk_schedule.specs.Steps.{backlog_of, is_between, merge_left, freeze_rest_of}
-use Rattle.pk_base.proofs.Logic.{ok_same}
-use Rattle.pk_model.specs.RootLimits.{root_spaces}
 
 -- ---- the runs
 

@@ -1,62 +1,31 @@
 -- The next merge begins: it can be, its source has an entry, and the index is as before with it.
 use Rattle.std.proofs.Common.{◌≡◌, ◌⊎◌, inl, inr, ℕ, zero, suc, ◌+◌, ◌-◌, ◌<◌, ◌≤◌, Bool, true, false, T, ◌==◌, if◌then◌else◌, List, [], length, map, nat_le, Option, Some, None, refl, sym, ap, subst}
 use Rattle.std.proofs.Common.{◌∙◌, arith, leb-false, le_trans}
-use Rattle.std.specs.Prelude.{slice_index, slice_index_or, unwrap_or}
-use Rattle.std.specs.List.{AllByRecursion}
-use Rattle.std.specs.FinMap.Entries.{is_sorted}
-use Rattle.pk_base.specs.Key.{key_cmp}
-use Rattle.pk_base.specs.Shape.{Shape, IsShape, cap, run_pages, run_blocks, buffer}
-use Rattle.pk_base.specs.Entry.{Entry}
-use Rattle.pk_base.specs.EntryChecks.{IsEntry}
-use Rattle.pk_base.specs.Page.{Flash, page_at}
-use Rattle.pk_base.specs.Map.{Map}
-use Rattle.pk_base.specs.Merge.{next_merge, room}
+use Rattle.std.{specs.Prelude.slice_index, specs.Prelude.slice_index_or, specs.Prelude.unwrap_or, specs.List.AllByRecursion, specs.FinMap.Entries.is_sorted}
+use Rattle.pk_base.{specs.Key.key_cmp, specs.Shape.Shape, specs.Shape.IsShape, specs.Shape.cap, specs.Shape.run_pages, specs.Shape.run_blocks, specs.Shape.buffer, specs.Entry.Entry, specs.Map.Map}
+use Rattle.pk_base.{specs.EntryChecks.IsEntry, specs.Page.Flash, specs.Page.page_at, specs.Merge.next_merge, specs.Merge.room, proofs.Logic.is_true}
 use Rattle.pk_buf.specs.Table.{Table}
-use Rattle.pk_nand.specs.BoardState.{BoardState}
-use Rattle.pk_nand.specs.Calls.{IsReady}
+use Rattle.pk_nand.{specs.BoardState.BoardState, specs.Calls.IsReady}
 use Rattle.pk_pin.specs.Frames.{Frames, free_frames}
-use Rattle.pk_plan.specs.declared.owner.Owner.TheVariants.{Meta}
-use Rattle.pk_plan.specs.Quotas.{quota_of}
+use Rattle.pk_plan.{specs.declared.owner.Owner.TheVariants.Meta, specs.Quotas.quota_of}
 use Rattle.pk_rootfmt.specs.Root.{Root, is_root}
 use Rattle.pk_pool.specs.Blocks.{Blocks, used_by}
-use Rattle.pk_law_work.specs.Rest.{left_of, whole_merge}
-use Rattle.pk_law_work.specs.Steps.{MovesMerge}
-use Rattle.pk_law_work.proofs.Paging.{few_pages}
-use Rattle.pk_law_work.proofs.Lowering.{moves as merge_moves}
+use Rattle.pk_law_work.{specs.Rest.left_of, specs.Rest.whole_merge, specs.Steps.MovesMerge, proofs.Paging.few_pages, proofs.Lowering.moves as merge_moves}
 use Rattle.pk_run.specs.Kept.{Kept, RunOnFlash, IsKept, empty, most_pages, most_blocks}
-use Rattle.pk_level.specs.Levels.{IsLevels, run_of}
-use Rattle.pk_level.specs.Arenas.{HasArena}
-use Rattle.pk_model.specs.Found.{Found}
-use Rattle.pk_model.specs.Crashes.{CrashFinds, background}
-use Rattle.pk_model.specs.Tree.{run_at}
-use Rattle.pk_model.proofs.Running.{Reaches-none}
-use Rattle.pk_model.proofs.Commits.{root_valid}
-use Rattle.pk_model.proofs.Roots.{newest_sound}
-use Rattle.pk_law_steps.proofs.Untouched.{under_reads}
-use Rattle.pk_law_steps.proofs.FourRuns.{IsLevel, next_is_level}
-use Rattle.pk_law_steps.proofs.Outputs.{output_fits}
-use Rattle.pk_law_steps.proofs.Amounts.{quota_fits}
-use Rattle.pk_merge.specs.declared.source.Source.{Source}
-use Rattle.pk_merge.specs.declared.source.Source.TheVariants.{Frozen, Run}
-use Rattle.pk_merge.specs.Sources.{count_of, pages_in, blocks_in, Has, IsOf}
-use Rattle.pk_merge.specs.Merging.{IsDone}
-use Rattle.pk_merge.specs.Outputs.{AreMeta}
-use Rattle.pk_merge.specs.Running.{CanBegin, merged}
+use Rattle.pk_level.{specs.Levels.IsLevels, specs.Levels.run_of, specs.Arenas.HasArena}
+use Rattle.pk_model.{specs.Found.Found, specs.Crashes.CrashFinds, specs.Crashes.background, specs.Tree.run_at, proofs.Running.Reaches-none, proofs.Commits.root_valid, proofs.Roots.newest_sound}
+use Rattle.pk_law_steps.{proofs.Untouched.under_reads, proofs.FourRuns.IsLevel, proofs.FourRuns.next_is_level, proofs.Outputs.output_fits, proofs.Amounts.quota_fits}
+use Rattle.pk_merge.{specs.declared.source.Source.Source, specs.declared.source.Source.TheVariants.Frozen, specs.declared.source.Source.TheVariants.Run, specs.Merging.IsDone, specs.Outputs.AreMeta}
+use Rattle.pk_merge.{specs.Sources.count_of, specs.Sources.pages_in, specs.Sources.blocks_in, specs.Sources.Has, specs.Sources.IsOf, specs.Running.CanBegin, specs.Running.merged}
 use Rattle.pk_merge.specs.Remaining.{IsWithin, steps_left}
 use Rattle.pk_merge.specs.Jobs.{Job, JobRuns, IsIdle, begun, pins, output_of, without}
 use Rattle.pk_compact.specs.FreezeSteps.{install_steps}
-use Rattle.pk_schedule.specs.declared.phase.Phase.{Phase}
-use Rattle.pk_schedule.specs.declared.phase.Phase.TheVariants.{Idle, Running}
+use Rattle.pk_schedule.{specs.declared.phase.Phase.Phase, specs.declared.phase.Phase.TheVariants.Idle, specs.declared.phase.Phase.TheVariants.Running, specs.Sources.ShowsSame, proofs.Grown.got_in}
 use Rattle.pk_schedule.specs.Index.{Index, IndexOnFlash, IsDue, MergesInto, MergeRuns, MergeStands, referred, output, source_at, entries_at, IsSettled}
-use Rattle.pk_schedule.specs.Steps.{MayWork, IndexMoves, LessIsLeft, merge_left, backlog_of}
-use Rattle.pk_schedule.specs.Sources.{ShowsSame}
-use Rattle.pk_schedule.proofs.Carried.{Shown, shown, job_carried, left_same}
-use Rattle.pk_schedule.proofs.Grown.{got_in}
+use Rattle.pk_schedule.{specs.Steps.MayWork, specs.Steps.IndexMoves, specs.Steps.LessIsLeft, specs.Steps.merge_left, specs.Steps.backlog_of, proofs.Backlogs.installs_most}
+use Rattle.pk_schedule.{proofs.Carried.Shown, proofs.Carried.shown, proofs.Carried.job_carried, proofs.Carried.left_same, proofs.Settled.stands_settled, proofs.Settled.values_settled}
 use Rattle.pk_schedule.proofs.Entries.{output_same, frozen_many, frozen_rising, counts_same, run_stands, count_at, frozen_are, run_are}
 use Rattle.pk_schedule.proofs.Leveled.{Fit, run_fits, run_blocks_in, frames_left}
-use Rattle.pk_schedule.proofs.Settled.{stands_settled, values_settled}
-use Rattle.pk_schedule.proofs.Backlogs.{installs_most}
-use Rattle.pk_base.proofs.Logic.{is_true}
 
 -- the source, for a buffer and runs in any memory
 abbrev pub source_in : (X : Type 0) → Index → ℕ → Source X

@@ -1,10 +1,7 @@
 -- The call of a step: at most one, also if it failed, and none if nothing was done.
 use Rattle.std.proofs.Common.{refl, arith, Result, Ok, Err}
 use Rattle.pk_base.specs.Shape.{Shape}
-use Rattle.pk_nand.specs.declared.types.Fault.{Fault}
-use Rattle.pk_nand.specs.BoardState.{BoardState}
-use Rattle.pk_nand.specs.Calls.{IsReady}
-use Rattle.pk_nand.specs.Effects.{made_no_call}
+use Rattle.pk_nand.{specs.declared.types.Fault.Fault, specs.BoardState.BoardState, specs.Calls.IsReady, specs.Effects.made_no_call}
 use Rattle.pk_compact.specs.Steps.{StepByCall}
 use Rattle.pk_schedule.specs.Steps.{CallsOnce}
 

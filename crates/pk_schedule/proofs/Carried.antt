@@ -1,20 +1,13 @@
 -- A merge runs as well over another source that shows the same.
 use Rattle.std.proofs.Common.{◌≡◌, ℕ, ◌≤◌, Bool, List, length, refl, sym, ap, subst, ◌∙◌, arith}
-use Rattle.pk_base.specs.Shape.{Shape}
-use Rattle.pk_base.specs.Entry.{Entry}
-use Rattle.pk_base.specs.Page.{Flash}
+use Rattle.pk_base.{specs.Shape.Shape, specs.Entry.Entry, specs.Page.Flash}
 use Rattle.pk_buf.specs.Table.{Table}
 use Rattle.pk_pin.specs.Frames.{Frames}
 use Rattle.pk_pool.specs.Blocks.{Blocks}
 use Rattle.pk_run.specs.Kept.{Kept, RunOnFlash}
-use Rattle.pk_merge.specs.declared.source.Source.{Source}
-use Rattle.pk_merge.specs.declared.source.Source.TheVariants.{Frozen, Run}
-use Rattle.pk_merge.specs.Cursors.{Cursor, Follows}
+use Rattle.pk_merge.{specs.declared.source.Source.Source, specs.declared.source.Source.TheVariants.Frozen, specs.declared.source.Source.TheVariants.Run, specs.Cursors.Cursor, specs.Cursors.Follows}
 use Rattle.pk_merge.specs.Sources.{count_of, pages_in, blocks_in, Has, FollowsIn, wants_page_in, IsOf}
-use Rattle.pk_merge.specs.Merging.{Merger, IsDone, can_gather}
-use Rattle.pk_merge.specs.Outputs.{AreMeta, BlocksApart}
-use Rattle.pk_merge.specs.Running.{Running}
-use Rattle.pk_merge.specs.Jobs.{Job, JobRuns}
+use Rattle.pk_merge.{specs.Merging.Merger, specs.Merging.IsDone, specs.Merging.can_gather, specs.Outputs.AreMeta, specs.Outputs.BlocksApart, specs.Running.Running, specs.Jobs.Job, specs.Jobs.JobRuns}
 use Rattle.pk_merge.specs.Remaining.{steps_left}
 use Rattle.pk_schedule.specs.Sources.{ShowsSame}
 

@@ -2,9 +2,8 @@
 use Rattle.std.proofs.Common.{◌≡◌, ℕ, zero, suc, ◌-◌, ◌≤◌, refl, ap, ◌∙◌, arith, List, Some, Option}
 use Rattle.pk_base.specs.Shape.{Shape}
 use Rattle.pk_run.specs.Kept.{Kept, empty}
-use Rattle.pk_merge.specs.Merging.{Merger}
+use Rattle.pk_merge.{specs.Merging.Merger, specs.Laws.IsFormer, specs.Laws.done_with}
 use Rattle.pk_merge.specs.Jobs.{Job, IsIdle, all_spare, spare_of, without, with_spare, held_at, taken_from, given_to, ended}
-use Rattle.pk_merge.specs.Laws.{IsFormer, done_with}
 use Rattle.pk_schedule.proofs.Replacing.{spare_at}
 
 spares_back : (shape : Shape) (spares : List (Option Kept)) (level : ℕ) (former : Kept) → spares ≡ all_spare shape → IsFormer shape level former → 1 ≤ level → level ≤ 4

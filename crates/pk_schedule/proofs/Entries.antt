@@ -1,38 +1,23 @@
 -- The entries of a merge's source and target, and those of its output.
 use Rattle.std.proofs.Common.{◌≡◌, ℕ, zero, suc, ◌-◌, ◌<◌, Bool, true, false, ◌||◌, ◌==◌, T, if◌then◌else◌, List, [], ◌∷◌, ◌++◌, length, map, reverse, nat_le, Result, Ok, refl, sym, ap, subst, ◌∙◌}
 use Rattle.std.proofs.Common.{arith}
-use Rattle.std.specs.Prelude.{slice_index, slice_index_or}
-use Rattle.std.specs.List.{AllByRecursion}
-use Rattle.std.specs.FinMap.Entries.{find, is_sorted, same_entries}
+use Rattle.std.{specs.Prelude.slice_index, specs.Prelude.slice_index_or, specs.List.AllByRecursion, specs.FinMap.Entries.find, specs.FinMap.Entries.is_sorted, specs.FinMap.Entries.same_entries}
 use Rattle.std.proofs.lemmas.List.{reverse-append}
-use Rattle.pk_base.specs.Key.{key_cmp}
-use Rattle.pk_base.specs.Shape.{Shape}
-use Rattle.pk_base.specs.Entry.{Entry}
-use Rattle.pk_base.specs.EntryChecks.{IsEntry}
-use Rattle.pk_base.specs.Firsts.{firsts}
-use Rattle.pk_base.specs.Page.{Flash, page_at, page_in}
-use Rattle.pk_base.specs.Refusal.{Refusal, ensure}
+use Rattle.pk_base.{specs.Key.key_cmp, specs.Shape.Shape, specs.Entry.Entry, specs.EntryChecks.IsEntry, specs.Firsts.firsts, specs.Page.Flash, specs.Page.page_at, specs.Page.page_in}
+use Rattle.pk_base.{specs.Refusal.Refusal, specs.Refusal.ensure, proofs.KeyLemmas.firsts_sorted}
 use Rattle.pk_meta.specs.Over.{over, kept_at}
 use Rattle.pk_buf.specs.Table.{Table}
-use Rattle.pk_jrn.specs.Replays.{buffer_of}
-use Rattle.pk_jrn.proofs.Puts.{firsts-reverse}
+use Rattle.pk_jrn.{specs.Replays.buffer_of, proofs.Puts.firsts-reverse}
 use Rattle.pk_rootfmt.specs.Root.{Root}
 use Rattle.pk_pin.specs.Frames.{Frames}
 use Rattle.pk_run.specs.Kept.{Kept, RunOnFlash}
 use Rattle.pk_level.specs.Levels.{RunsOnFlash}
-use Rattle.pk_model.specs.Found.{Found, found_under}
-use Rattle.pk_model.specs.Tree.{run_at}
-use Rattle.pk_model.proofs.MapLemmas.{key_total, key_antisymm}
-use Rattle.pk_model.proofs.Lookups.{find-firsts}
-use Rattle.pk_model.proofs.Merges.{first_some, find-append_lists}
+use Rattle.pk_model.{specs.Found.Found, specs.Found.found_under, specs.Tree.run_at, proofs.MapLemmas.key_total, proofs.MapLemmas.key_antisymm, proofs.Lookups.find-firsts, proofs.StrangePages.bind_ok}
+use Rattle.pk_model.{proofs.Merges.first_some, proofs.Merges.find-append_lists, specs.RootLimits.root_spaces}
 use Rattle.pk_model.proofs.Entries.{epoch_all, runs_all, all_put, all_append, journal_are, meta_are}
-use Rattle.pk_model.proofs.StrangePages.{bind_ok}
-use Rattle.pk_law_steps.specs.Merging.{output_of as whole_output}
-use Rattle.pk_law_steps.proofs.FourRuns.{pieces_of}
+use Rattle.pk_law_steps.{specs.Merging.output_of as whole_output, proofs.FourRuns.pieces_of}
 use Rattle.pk_merge.specs.Running.{merged}
 use Rattle.pk_schedule.specs.Index.{Index, entries_at}
-use Rattle.pk_base.proofs.KeyLemmas.{firsts_sorted}
-use Rattle.pk_model.specs.RootLimits.{root_spaces}
 
 -- ---- the output
 

@@ -3,11 +3,9 @@ use Rattle.std.proofs.Common.{◌≡◌, ℕ, List, [], ◌++◌, sym, ap, subst
 use Rattle.std.proofs.lemmas.Option.{same_Some}
 use Rattle.pk_base.specs.Page.{Flash}
 use Rattle.pk_pin.specs.Frames.{Frames, AreLeases}
-use Rattle.pk_pool.specs.Blocks.{Blocks, PoolOnFlash, given_back}
-use Rattle.pk_pool.specs.Unready.{unready}
-use Rattle.pk_run.specs.Kept.{Kept}
+use Rattle.pk_pool.{specs.Blocks.Blocks, specs.Blocks.PoolOnFlash, specs.Blocks.given_back, specs.Unready.unready}
+use Rattle.pk_run.{specs.Kept.Kept, specs.Leases.LeavesOthers, specs.Leases.given_all}
 use Rattle.pk_level.specs.Levels.{Levels, run_of, with_run}
-use Rattle.pk_run.specs.Leases.{LeavesOthers, given_all}
 use Rattle.pk_merge.specs.Jobs.{Job, held_at, taken_from, given_to}
 use Rattle.pk_schedule.specs.Exchanges.{CanExchange, Exchanges}
 

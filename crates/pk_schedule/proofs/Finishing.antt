@@ -1,41 +1,22 @@
 -- The second program of a root, over an index.
 use Rattle.std.proofs.Common.{◌≡◌, ◌⊎◌, inl, inr, ℕ, ◌+◌, ◌/◌, true, false, length, map, Some, None, refl, sym, ap, subst, ◌∙◌, arith, Result, Ok, Err}
-use Rattle.std.specs.Prelude.{slice_get, OnOk, OnErr}
-use Rattle.std.specs.List.{AllByRecursion}
-use Rattle.pk_base.specs.Shape.{Shape}
-use Rattle.pk_base.specs.Page.{Flash, page_at, SameBehind}
-use Rattle.pk_base.specs.Map.{Map}
-use Rattle.pk_base.proofs.ShapeLemmas.{block_pages_positive}
-use Rattle.pk_law_work.specs.Steps.{EndsPair}
-use Rattle.pk_law_work.proofs.Lowering.{pair_ends}
-use Rattle.pk_plan.specs.declared.owner.Owner.{Owner}
-use Rattle.pk_plan.specs.declared.owner.Owner.TheVariants.{Meta, Values}
-use Rattle.pk_nand.specs.BoardState.{BoardState}
-use Rattle.pk_nand.specs.declared.types.Fault.{Fault}
+use Rattle.std.{specs.Prelude.slice_get, specs.Prelude.OnOk, specs.Prelude.OnErr, specs.List.AllByRecursion}
+use Rattle.pk_base.{specs.Shape.Shape, specs.Page.Flash, specs.Page.page_at, specs.Page.SameBehind, specs.Map.Map, proofs.ShapeLemmas.block_pages_positive}
+use Rattle.pk_law_work.{specs.Steps.EndsPair, proofs.Lowering.pair_ends}
+use Rattle.pk_plan.{specs.declared.owner.Owner.Owner, specs.declared.owner.Owner.TheVariants.Meta, specs.declared.owner.Owner.TheVariants.Values}
+use Rattle.pk_nand.{specs.BoardState.BoardState, specs.declared.types.Fault.Fault}
 use Rattle.pk_pin.specs.Frames.{Frames}
 use Rattle.pk_rootfmt.specs.Root.{Root}
-use Rattle.pk_root.specs.declared.next.Next.{Next}
-use Rattle.pk_root.specs.Installing.{repeats_next}
-use Rattle.pk_pool.specs.declared.state.BlockState.TheVariants.{Owned}
-use Rattle.pk_pool.specs.Blocks.{Blocks, IsShared, PoolOnFlash, freed}
-use Rattle.pk_pool.specs.Unready.{unready}
-use Rattle.pk_pool.proofs.Leaving.{freed_unready, shared_freed, none_leaves}
-use Rattle.pk_pool.proofs.Sharing.{behind_roots}
-use Rattle.pk_pool.proofs.States.{owned_is_not_root}
-use Rattle.pk_level.specs.Levels.{Levels, RunsOnFlash}
-use Rattle.pk_level.specs.Arenas.{unfilled}
+use Rattle.pk_root.{specs.declared.next.Next.Next, specs.Installing.repeats_next}
+use Rattle.pk_pool.{specs.declared.state.BlockState.TheVariants.Owned, specs.Blocks.Blocks, specs.Blocks.IsShared, specs.Blocks.PoolOnFlash, specs.Blocks.freed, specs.Unready.unready}
+use Rattle.pk_pool.{proofs.Leaving.freed_unready, proofs.Leaving.shared_freed, proofs.Leaving.none_leaves, proofs.Sharing.behind_roots, proofs.States.owned_is_not_root}
+use Rattle.pk_level.{specs.Levels.Levels, specs.Levels.RunsOnFlash, specs.Arenas.unfilled}
 use Rattle.pk_model.specs.Found.{Found}
-use Rattle.pk_compact.specs.FreezeSteps.{IsTaken}
-use Rattle.pk_compact.specs.Steps.{StepByCall}
-use Rattle.pk_log.specs.State.{LogState}
-use Rattle.pk_log.specs.Finishing.{MayFinish, LogFinished, LogFinishes, LogFinishBreaks}
-use Rattle.pk_schedule.specs.declared.phase.Phase.{Phase}
-use Rattle.pk_schedule.specs.declared.phase.Phase.TheVariants.{Idle}
-use Rattle.pk_schedule.specs.Index.{Index, Schedule, IndexOnFlash, MergeStands, settled, index}
+use Rattle.pk_compact.{specs.FreezeSteps.IsTaken, specs.Steps.StepByCall}
+use Rattle.pk_log.{specs.State.LogState, specs.Finishing.MayFinish, specs.Finishing.LogFinished, specs.Finishing.LogFinishes, specs.Finishing.LogFinishBreaks}
+use Rattle.pk_schedule.{specs.declared.phase.Phase.Phase, specs.declared.phase.Phase.TheVariants.Idle, proofs.Keeping.RunsOnFlash-same, proofs.Preparing.pool_behind, proofs.Preparing.no_freeze}
+use Rattle.pk_schedule.{specs.Index.Index, specs.Index.Schedule, specs.Index.IndexOnFlash, specs.Index.MergeStands, specs.Index.settled, specs.Index.index, proofs.Standing.beyond}
 use Rattle.pk_schedule.specs.Steps.{MayFreeze, MaySettle, IndexSettles, Settles, SettleBreaks, LessIsLeft, backlog_of, merge_left}
-use Rattle.pk_schedule.proofs.Keeping.{RunsOnFlash-same}
-use Rattle.pk_schedule.proofs.Preparing.{pool_behind, no_freeze}
-use Rattle.pk_schedule.proofs.Standing.{beyond}
 
 module _ (x : Index) (frames : ℕ) (old : BoardState) (top : ℕ × Root) (found : Found) (m : Map) (may : MaySettle x frames old.pages top found m) where
   abbrev shape : Shape

@@ -1,58 +1,32 @@
 -- A step of a freeze, over an index.
 use Rattle.std.proofs.Common.{◌≡◌, ◌⊎◌, inl, inr, ℕ, ◌+◌, ◌/◌, ◌<◌, slice_index, Bool, true, false, not, ◌==◌, if◌then◌else◌, T, List, [], ◌∷◌, ◌++◌, length, reverse, Some, Result, Ok, Err, refl, sym}
 use Rattle.std.proofs.Common.{ap, subst, ◌∙◌, arith, length-append, append-nil, eqb→eq}
-use Rattle.std.specs.Prelude.{slice_get, MatchBool, IfOk, OnOk, OnErr}
-use Rattle.std.specs.List.{concat, AllByRecursion}
-use Rattle.pk_base.specs.Shape.{Shape}
-use Rattle.pk_base.specs.Entry.{Entry}
-use Rattle.pk_base.specs.Firsts.{firsts}
-use Rattle.pk_base.specs.Page.{Flash, page_at}
-use Rattle.pk_base.specs.Map.{Map}
-use Rattle.pk_base.proofs.ShapeLemmas.{block_pages_positive}
+use Rattle.std.{specs.Prelude.slice_get, specs.Prelude.MatchBool, specs.Prelude.IfOk, specs.Prelude.OnOk, specs.Prelude.OnErr, specs.List.concat, specs.List.AllByRecursion}
+use Rattle.std.proofs.lemmas.Bool.{ltb-true}
+use Rattle.pk_base.{specs.Shape.Shape, specs.Entry.Entry, specs.Firsts.firsts, specs.Page.Flash, specs.Page.page_at, specs.Map.Map, proofs.ShapeLemmas.block_pages_positive, proofs.Logic.both_true}
 use Rattle.pk_buf.specs.Table.{Table}
-use Rattle.pk_plan.specs.declared.owner.Owner.{Owner}
-use Rattle.pk_plan.specs.declared.owner.Owner.TheVariants.{Journal, Meta, Values}
-use Rattle.pk_nand.specs.declared.types.Fault.{Fault}
-use Rattle.pk_nand.specs.BoardState.{BoardState}
-use Rattle.pk_nand.specs.Effects.{Stops}
-use Rattle.pk_model.specs.Steps.{Step}
-use Rattle.pk_rootfmt.specs.Root.{Root, differ}
-use Rattle.pk_root.specs.declared.next.Next.{Next}
-use Rattle.pk_jrn.proofs.Puts.{firsts-reverse}
-use Rattle.pk_model.specs.Found.{Found, entries_in_order}
-use Rattle.pk_model.specs.Values.{placed}
-use Rattle.pk_model.proofs.Commits.{blocks_of_root, differ_front, member}
+use Rattle.pk_plan.{specs.declared.owner.Owner.Owner, specs.declared.owner.Owner.TheVariants.Journal, specs.declared.owner.Owner.TheVariants.Meta, specs.declared.owner.Owner.TheVariants.Values}
+use Rattle.pk_nand.{specs.declared.types.Fault.Fault, specs.BoardState.BoardState, specs.Effects.Stops}
+use Rattle.pk_model.{specs.Steps.Step, specs.Found.Found, specs.Found.entries_in_order, specs.Values.placed, proofs.Commits.blocks_of_root, proofs.Commits.differ_front, proofs.Commits.member}
 use Rattle.pk_model.proofs.SamePages.{any_front}
+use Rattle.pk_rootfmt.specs.Root.{Root, differ}
+use Rattle.pk_root.{specs.declared.next.Next.Next, specs.Installing.repeats_next}
+use Rattle.pk_jrn.proofs.Puts.{firsts-reverse}
 use Rattle.pk_pool.specs.declared.state.BlockState.TheVariants.{Free, Owned}
 use Rattle.pk_pool.specs.Blocks.{Blocks, IsShared, used_by, NoneLeaves, given_back, freed}
+use Rattle.pk_pool.proofs.Leaving.{left_and_freed, freed_same, freed_fits}
 use Rattle.pk_merge.specs.Jobs.{IsIdle}
-use Rattle.pk_law_steps.specs.Under.{IsUnder}
-use Rattle.pk_law_steps.specs.Next.{tree_of}
-use Rattle.pk_law_steps.specs.Roots.{frozen, frozen_root}
-use Rattle.pk_law_steps.specs.Under.{places}
-use Rattle.pk_law_steps.proofs.NewestBlocks.{valid_root}
-use Rattle.pk_law_steps.proofs.Places.{In}
+use Rattle.pk_law_steps.{specs.Under.IsUnder, specs.Under.places, specs.Next.tree_of, specs.Roots.frozen, specs.Roots.frozen_root, proofs.NewestBlocks.valid_root, proofs.Places.In}
 use Rattle.pk_law_steps.proofs.UnderRoot.{none_named}
-use Rattle.pk_compact.specs.Freezing.{IsApart}
-use Rattle.pk_compact.specs.FreezeSteps.{IsTaken, TakesOne, taken_by}
-use Rattle.pk_compact.specs.declared.freezing.FreezeJob.{FreezeJob}
+use Rattle.pk_compact.{specs.Freezing.IsApart, specs.FreezeSteps.IsTaken, specs.FreezeSteps.TakesOne, specs.FreezeSteps.taken_by, specs.declared.freezing.FreezeJob.FreezeJob, proofs.TakingOne.all_in}
 use Rattle.pk_compact.specs.declared.freezing.FreezeJob.TheVariants.{Idle as NoFreeze}
-use Rattle.pk_compact.proofs.TakingOne.{all_in}
-use Rattle.pk_log.specs.State.{LogState}
-use Rattle.pk_log.specs.Logs.{LogOnFlash}
+use Rattle.pk_log.{specs.State.LogState, specs.Logs.LogOnFlash, proofs.Buffers.none_of_firsts, proofs.Buffers.tells_some}
 use Rattle.pk_log.specs.FreezeSteps.{freeze_begun, CanStep, LogGoesOn, LogFrozen, LogSteps, LogStepBreaks}
-use Rattle.pk_log.proofs.Buffers.{none_of_firsts, tells_some}
-use Rattle.pk_schedule.specs.declared.phase.Phase.TheVariants.{Idle}
+use Rattle.pk_schedule.{specs.declared.phase.Phase.TheVariants.Idle, proofs.Keeping.RunsOnFlash-same, proofs.Standing.idle_of, proofs.Standing.apart_top, proofs.Standing.owned_beyond}
 use Rattle.pk_schedule.specs.Index.{Index, IndexOnFlash, MergeStands, IsSettled, HalfStands, settled}
 use Rattle.pk_schedule.specs.Steps.{MayWork, MayFreeze, KeepsValues, IndexMoves, Moves, Breaks, FreezeMoves, Freezes, has_no_merge, is_between}
 use Rattle.pk_schedule.proofs.Giving.{GivesBack, gives_back, left_counted, TakesFor, takes_for, in_or_not, not_spare, one_owner}
-use Rattle.pk_schedule.proofs.Keeping.{RunsOnFlash-same}
-use Rattle.pk_schedule.proofs.Standing.{idle_of, apart_top, owned_beyond}
-use Rattle.pk_root.specs.Installing.{repeats_next}
-use Rattle.pk_pool.proofs.Leaving.{left_and_freed, freed_same, freed_fits}
 use Rattle.pk_schedule.proofs.Settled.{none_leaves_set, stands_settled, values_settled}
-use Rattle.std.proofs.lemmas.Bool.{ltb-true}
-use Rattle.pk_base.proofs.Logic.{both_true}
 
 length_none : {X : Type 0} (xs : List X) → length xs ≡ 0 → xs ≡ []
 length_none [] none = refl

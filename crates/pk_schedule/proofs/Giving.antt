@@ -1,18 +1,12 @@
 -- Blocks of one owner that are freed, and one that is taken: what becomes of the others.
 use Rattle.std.proofs.Common.{◌≡◌, ◌≢◌, ◌⊎◌, inl, inr, ℕ, ◌+◌, cond, false, T, List, [], ◌∷◌, length, Some, refl, sym, subst, ◌∙◌, arith, length-set}
-use Rattle.std.specs.Prelude.{slice_get}
-use Rattle.std.proofs.lemmas.Bool.{cases_eq}
-use Rattle.std.proofs.lemmas.Option.{same_Some}
-use Rattle.pk_plan.specs.declared.owner.Owner.{Owner}
-use Rattle.pk_plan.specs.declared.owner.Owner.TheVariants.{Journal, Meta, Values}
+use Rattle.std.{specs.Prelude.slice_get, proofs.lemmas.Bool.cases_eq, proofs.lemmas.Option.same_Some}
+use Rattle.pk_plan.{specs.declared.owner.Owner.Owner, specs.declared.owner.Owner.TheVariants.Journal, specs.declared.owner.Owner.TheVariants.Meta, specs.declared.owner.Owner.TheVariants.Values}
 use Rattle.pk_rootfmt.specs.Root.{differ}
 use Rattle.pk_model.proofs.Commits.{apart, rest_differs}
-use Rattle.pk_pool.specs.declared.state.BlockState.{BlockState}
+use Rattle.pk_pool.{specs.declared.state.BlockState.BlockState, specs.Unready.unready, proofs.Counting.given_back as one_given, proofs.Leaving.used_left}
 use Rattle.pk_pool.specs.declared.state.BlockState.TheVariants.{Free, Ready, Owned, Leaving}
 use Rattle.pk_pool.specs.Blocks.{Blocks, IsSpare, with_state, used_by, is_owned_by, same_owner, given_back, left_by}
-use Rattle.pk_pool.specs.Unready.{unready}
-use Rattle.pk_pool.proofs.Counting.{given_back as one_given}
-use Rattle.pk_pool.proofs.Leaving.{used_left}
 use Rattle.pk_pool.proofs.Sharing.{count-set, used_given, used_adopted}
 use Rattle.pk_pool.proofs.States.{get-set_other, set_is, owned_is_not_free, owned_is_not_ready}
 use Rattle.pk_law_steps.proofs.Places.{In}

@@ -1,39 +1,24 @@
 -- What a step of a merge's job leaves of the pool, of pages and of frames: at most one block more for the output, and no page of another's block.
 use Rattle.std.proofs.Common.{◌≡◌, ◌≢◌, ◌⊎◌, inl, inr, ℕ, zero, suc, ◌+◌, ◌*◌, ◌/◌, Bool, true, false, not, ◌==◌, eqb→eq, cond, T, List, [], ◌∷◌, ◌++◌, length, Option, Some, None, refl, sym, ap}
 use Rattle.std.proofs.Common.{subst, ◌∙◌, arith, length-append}
-use Rattle.std.specs.Prelude.{slice_get, slice_set}
-use Rattle.std.specs.List.{list_any, concat}
-use Rattle.std.proofs.lemmas.Bool.{cases_eq}
-use Rattle.std.proofs.lemmas.List.{length-set}
-use Rattle.std.proofs.lemmas.Option.{same_Some}
-use Rattle.pk_base.specs.Shape.{Shape}
-use Rattle.pk_base.specs.Entry.{Entry}
-use Rattle.pk_base.specs.Page.{Flash, page_at}
+use Rattle.std.{specs.Prelude.slice_get, specs.Prelude.slice_set, specs.List.list_any, specs.List.concat, proofs.lemmas.Bool.cases_eq, proofs.lemmas.List.length-set, proofs.lemmas.Option.same_Some}
+use Rattle.pk_base.{specs.Shape.Shape, specs.Entry.Entry, specs.Page.Flash, specs.Page.page_at, proofs.Logic.both, proofs.Logic.or_cases}
 use Rattle.pk_nand.specs.BoardState.{BoardState}
 use Rattle.pk_pin.specs.Frames.{Frames, KeepsPage}
-use Rattle.pk_plan.specs.declared.owner.Owner.{Owner}
-use Rattle.pk_plan.specs.declared.owner.Owner.TheVariants.{Journal, Meta, Values}
+use Rattle.pk_plan.{specs.declared.owner.Owner.Owner, specs.declared.owner.Owner.TheVariants.Journal, specs.declared.owner.Owner.TheVariants.Meta, specs.declared.owner.Owner.TheVariants.Values}
 use Rattle.pk_rootfmt.specs.Root.{differ}
-use Rattle.pk_pool.specs.declared.state.BlockState.TheVariants.{Free, Ready, Owned}
+use Rattle.pk_pool.{specs.declared.state.BlockState.TheVariants.Free, specs.declared.state.BlockState.TheVariants.Ready, specs.declared.state.BlockState.TheVariants.Owned, specs.Taking.SameButBlock}
 use Rattle.pk_pool.specs.Blocks.{Blocks, IsSpare, used_by, is_owned_by, same_owner, with_state, NoneLeaves}
-use Rattle.pk_pool.specs.Taking.{SameButBlock}
-use Rattle.pk_pool.proofs.States.{get-set_other, set_is, owned_is_not_free, owned_is_not_ready}
-use Rattle.pk_pool.proofs.Sharing.{count-set, used_adopted}
+use Rattle.pk_pool.{proofs.States.get-set_other, proofs.States.set_is, proofs.States.owned_is_not_free, proofs.States.owned_is_not_ready, proofs.Sharing.count-set, proofs.Sharing.used_adopted}
 use Rattle.pk_pool.proofs.Fitting.{block_of}
 use Rattle.pk_run.specs.Kept.{Kept}
 use Rattle.pk_level.specs.Levels.{RunsOnFlash, HaveBlocks}
-use Rattle.pk_model.proofs.Growing.{at_end}
-use Rattle.pk_model.proofs.SamePages.{any_front, any_back}
-use Rattle.pk_law_steps.proofs.Places.{In, in_append, not_of}
-use Rattle.pk_merge.specs.declared.source.Source.{Source}
-use Rattle.pk_merge.specs.declared.next.Next.{Next}
+use Rattle.pk_model.{proofs.Growing.at_end, proofs.SamePages.any_front, proofs.SamePages.any_back}
+use Rattle.pk_law_steps.{proofs.Places.In, proofs.Places.in_append, proofs.Places.not_of, proofs.Untouched.in_or_out}
+use Rattle.pk_merge.{specs.declared.source.Source.Source, specs.declared.next.Next.Next, specs.Merging.Merger, specs.Steps.Acts}
 use Rattle.pk_merge.specs.declared.next.Next.TheVariants.{LoadSource, LoadTarget, Gather, TakeBlock, Program, End}
-use Rattle.pk_merge.specs.Merging.{Merger}
-use Rattle.pk_merge.specs.Steps.{Acts}
 use Rattle.pk_merge.specs.Elsewhere.{IsForOutput, StepReaches, StepWent, LeavesRuns}
 use Rattle.pk_schedule.proofs.Settled.{none_leaves_set}
-use Rattle.pk_base.proofs.Logic.{both, or_cases}
-use Rattle.pk_law_steps.proofs.Untouched.{in_or_out}
 
 -- ---- lists
 

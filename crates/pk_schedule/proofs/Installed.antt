@@ -1,31 +1,23 @@
 -- A step of the install of a merge, for whatever is on the flash.
 use Rattle.std.proofs.Common.{◌≡◌, ℕ, ◌≤◌, true, List, [], ◌∷◌, length, refl, sym, ap, subst, ◌∙◌, arith, Option, Result, Ok, Err}
 use Rattle.pk_base.specs.Map.{Map}
-use Rattle.pk_nand.specs.declared.types.Fault.{Fault}
-use Rattle.pk_nand.specs.BoardState.{BoardState}
-use Rattle.pk_rootfmt.specs.Root.{Root}
-use Rattle.pk_rootfmt.specs.Held.{older_of, blocks_or_none}
+use Rattle.pk_nand.{specs.declared.types.Fault.Fault, specs.BoardState.BoardState}
+use Rattle.pk_rootfmt.{specs.Root.Root, specs.Held.older_of, specs.Held.blocks_or_none}
 use Rattle.pk_root.specs.Installing.{erases_next, programs_next}
 use Rattle.pk_pin.specs.Frames.{Frames}
-use Rattle.pk_model.specs.Found.{Found}
-use Rattle.pk_model.specs.Steps.{Step, RootsUpTo}
+use Rattle.pk_model.{specs.Found.Found, specs.Steps.Step, specs.Steps.RootsUpTo}
 use Rattle.pk_plan.specs.declared.owner.Owner.TheVariants.{Values}
-use Rattle.pk_pool.specs.Blocks.{Blocks, IsShared, freed, used_by}
-use Rattle.pk_level.specs.Levels.{Levels, IsLevels}
-use Rattle.pk_level.specs.Arenas.{HasLeases, Releases}
+use Rattle.pk_pool.{specs.Blocks.Blocks, specs.Blocks.IsShared, specs.Blocks.freed, specs.Blocks.used_by, proofs.Leaving.freed_same}
+use Rattle.pk_level.{specs.Levels.Levels, specs.Levels.IsLevels, specs.Arenas.HasLeases, specs.Arenas.Releases}
 use Rattle.pk_run.specs.Kept.{Kept}
 use Rattle.pk_log.specs.State.{LogState}
 use Rattle.pk_log.specs.MergeSteps.{MayPrepare, LogPrepared, LogPrepares, LogPrepareBreaks, MayMerge, LogMerges, LogMergeBreaks}
-use Rattle.pk_schedule.specs.declared.phase.Phase.{Phase}
-use Rattle.pk_schedule.specs.declared.phase.Phase.TheVariants.{Idle, Ready}
-use Rattle.pk_schedule.specs.Exchanges.{CanEndFirst, EndsFirst, CanEndDeep, EndsDeep}
-use Rattle.pk_schedule.specs.Index.{Index, Schedule, merging, output}
+use Rattle.pk_schedule.{specs.declared.phase.Phase.Phase, specs.declared.phase.Phase.TheVariants.Idle, specs.declared.phase.Phase.TheVariants.Ready}
+use Rattle.pk_schedule.{specs.Exchanges.CanEndFirst, specs.Exchanges.EndsFirst, specs.Exchanges.CanEndDeep, specs.Exchanges.EndsDeep, proofs.Preparing.prepared_moves, proofs.Preparing.prepared_less}
+use Rattle.pk_schedule.{specs.Index.Index, specs.Index.Schedule, specs.Index.merging, specs.Index.output, proofs.Replaced.replaced_one, proofs.Replaced.replaced_deep}
 use Rattle.pk_schedule.specs.Steps.{MayWork, IndexMoves, LessIsLeft, StepsOn, Breaks}
 use Rattle.pk_schedule.proofs.Installing.{Replaced, installed_moves, installed_less, leases_are, released, released_arena}
-use Rattle.pk_schedule.proofs.Preparing.{prepared_moves, prepared_less}
-use Rattle.pk_schedule.proofs.Replaced.{replaced_one, replaced_deep}
 use Rattle.pk_schedule.proofs.Waiting as wait
-use Rattle.pk_pool.proofs.Leaving.{freed_same}
 
 same_older : (blocks : List ℕ) → blocks_or_none (older_of blocks) ≡ blocks
 same_older [] = refl

@@ -1,63 +1,33 @@
 -- The root of a merge is installed, and the runs are exchanged, over an index.
 use Rattle.std.proofs.Common.{◌≡◌, ◌⊎◌, inl, inr, ℕ, zero, suc, reverse, ◌∷◌, ◌+◌, ◌-◌, ◌<◌, ◌≤◌, Bool, true, false, ◌==◌, if◌then◌else◌, List, [], ◌++◌, length, map, slice_index, Some, None, refl}
 use Rattle.std.proofs.Common.{sym, ap, subst, ◌∙◌, arith, length-append}
-use Rattle.std.specs.Prelude.{slice_get, unwrap_or}
-use Rattle.std.specs.List.{concat, AllByRecursion}
-use Rattle.pk_base.specs.Shape.{Shape}
-use Rattle.pk_base.specs.Page.{Flash, page_at}
-use Rattle.pk_base.specs.Map.{Map}
+use Rattle.std.{specs.Prelude.slice_get, specs.Prelude.unwrap_or, specs.List.concat, specs.List.AllByRecursion, proofs.lemmas.Bool.cases_lt}
+use Rattle.pk_base.{specs.Shape.Shape, specs.Page.Flash, specs.Page.page_at, specs.Map.Map, specs.Firsts.firsts, specs.Entry.Entry, proofs.Logic.is_true}
 use Rattle.pk_buf.specs.Table.{Table}
-use Rattle.pk_law_work.specs.Rest.{Lowers, left_of, whole_merge}
-use Rattle.pk_law_work.specs.Backlog.{due_level}
-use Rattle.pk_law_work.specs.Steps.{EndsMerge}
-use Rattle.pk_law_work.proofs.Lowering.{ends}
-use Rattle.pk_plan.specs.declared.owner.Owner.{Owner}
-use Rattle.pk_plan.specs.declared.owner.Owner.TheVariants.{Journal, Meta, Values}
+use Rattle.pk_law_work.{specs.Rest.Lowers, specs.Rest.left_of, specs.Rest.whole_merge, specs.Backlog.due_level, specs.Steps.EndsMerge, proofs.Lowering.ends, proofs.Targets.next_told}
+use Rattle.pk_plan.{specs.declared.owner.Owner.Owner, specs.declared.owner.Owner.TheVariants.Journal, specs.declared.owner.Owner.TheVariants.Meta, specs.declared.owner.Owner.TheVariants.Values}
 use Rattle.pk_nand.specs.BoardState.{BoardState}
 use Rattle.pk_rootfmt.specs.Root.{Root, named}
-use Rattle.pk_root.specs.declared.next.Next.{Next}
-use Rattle.pk_root.specs.Installing.{programs_next, repeats_next}
+use Rattle.pk_root.{specs.declared.next.Next.Next, specs.Installing.programs_next, specs.Installing.repeats_next}
+use Rattle.pk_root.specs.declared.next.Next.TheVariants.{Erase, Program, Again}
 use Rattle.pk_pin.specs.Frames.{Frames}
-use Rattle.pk_model.specs.Found.{Found}
-use Rattle.pk_model.proofs.SamePages.{any_front, any_back}
-use Rattle.pk_pool.specs.declared.state.BlockState.TheVariants.{Free, Owned}
+use Rattle.pk_model.{specs.Found.Found, proofs.SamePages.any_front, proofs.SamePages.any_back, proofs.Commits.member}
+use Rattle.pk_pool.{specs.declared.state.BlockState.TheVariants.Free, specs.declared.state.BlockState.TheVariants.Owned, specs.Unready.unready, proofs.Leaving.freed_unready}
 use Rattle.pk_pool.specs.Blocks.{Blocks, IsShared, PoolOnFlash, used_by, freed}
-use Rattle.pk_pool.specs.Unready.{unready}
 use Rattle.pk_run.specs.Kept.{Kept, empty}
-use Rattle.pk_level.specs.Levels.{Levels, IsLevels, RunsOnFlash, HaveBlocks}
+use Rattle.pk_level.{specs.Levels.Levels, specs.Levels.IsLevels, specs.Levels.RunsOnFlash, specs.Levels.HaveBlocks, proofs.Releasing.bare_blocks, proofs.Releasing.bare_counts}
 use Rattle.pk_level.specs.Arenas.{HasArena, HasLeases, Releases, last_level, unfilled}
-use Rattle.pk_level.proofs.Releasing.{bare_blocks, bare_counts}
-use Rattle.pk_law_steps.specs.Merging.{IsMerged, merged_root, merged_found, freed_by, blocks_at}
-use Rattle.pk_law_steps.specs.Under.{IsUnder}
-use Rattle.pk_law_steps.specs.Next.{IsNext}
-use Rattle.pk_law_steps.proofs.FreedCounts.{freed_counted}
-use Rattle.pk_law_steps.proofs.Following.{merged_next}
-use Rattle.pk_law_steps.proofs.Freeing.{freed as freed_unread}
-use Rattle.pk_law_steps.proofs.Merging.{in_after}
-use Rattle.pk_law_steps.proofs.Places.{In, in_append}
+use Rattle.pk_law_steps.{specs.Merging.IsMerged, specs.Merging.merged_root, specs.Merging.merged_found, specs.Merging.freed_by, specs.Merging.blocks_at, specs.Under.IsUnder, specs.Next.IsNext}
+use Rattle.pk_law_steps.{proofs.FreedCounts.freed_counted, proofs.Following.merged_next, proofs.Freeing.freed as freed_unread, proofs.Merging.in_after, proofs.Places.In, proofs.Places.in_append}
 use Rattle.pk_law_steps.proofs.Standing.{installed}
 use Rattle.pk_merge.specs.Jobs.{Job, IsIdle}
 use Rattle.pk_compact.specs.FreezeSteps.{IsTaken, taken_by, install_steps}
-use Rattle.pk_log.specs.State.{LogState}
-use Rattle.pk_log.specs.Logs.{LogOnFlash}
-use Rattle.pk_log.specs.MergeSteps.{LogMerged, frozen_after}
-use Rattle.pk_schedule.specs.declared.phase.Phase.TheVariants.{Idle, Ready}
-use Rattle.pk_schedule.specs.Index.{Index, IndexOnFlash, output, HalfStands, settled}
+use Rattle.pk_log.{specs.State.LogState, specs.Logs.LogOnFlash, specs.MergeSteps.LogMerged, specs.MergeSteps.frozen_after}
+use Rattle.pk_schedule.{specs.declared.phase.Phase.TheVariants.Idle, specs.declared.phase.Phase.TheVariants.Ready, proofs.Backlogs.index_backlog, proofs.Giving.in_or_not, proofs.Giving.one_owner}
+use Rattle.pk_schedule.{specs.Index.Index, specs.Index.IndexOnFlash, specs.Index.output, specs.Index.HalfStands, specs.Index.settled, proofs.Standing.named_owned, proofs.Settled.none_there}
 use Rattle.pk_schedule.specs.Steps.{MayWork, KeepsValues, IndexMoves, LessIsLeft, backlog_of}
-use Rattle.pk_schedule.proofs.Backlogs.{index_backlog}
-use Rattle.pk_schedule.proofs.Giving.{in_or_not, one_owner}
 use Rattle.pk_schedule.proofs.Preparing.{no_freeze, pool_still, same_page, merge_is, due_now}
-use Rattle.pk_schedule.proofs.Standing.{named_owned}
 use Rattle.pk_schedule.proofs.Waiting as wait
-use Rattle.pk_root.specs.declared.next.Next.TheVariants.{Erase, Program, Again}
-use Rattle.pk_pool.proofs.Leaving.{freed_unready}
-use Rattle.pk_schedule.proofs.Settled.{none_there}
-use Rattle.pk_law_work.proofs.Targets.{next_told}
-use Rattle.std.proofs.lemmas.Bool.{cases_lt}
-use Rattle.pk_base.specs.Firsts.{firsts}
-use Rattle.pk_base.specs.Entry.{Entry}
-use Rattle.pk_model.proofs.Commits.{member}
-use Rattle.pk_base.proofs.Logic.{is_true}
 
 not_values : (pool : Blocks) (b : ℕ) → (slice_get pool.states b ≡ Some (Owned Journal)) ⊎ (slice_get pool.states b ≡ Some (Owned Meta)) → slice_get pool.states b ≡ Some (Owned Values) → ⊥
 not_values pool b (inl journal) values = let e : Journal ≡ Values = one_owner pool Journal Values b journal values in let c : ⊥ = cc in c

@@ -1,44 +1,21 @@
 -- An index is as before if others change pages and owners that are none of its own, if entries are noted, and if they are committed.
 use Rattle.std.proofs.Common.{◌≡◌, ◌⊎◌, inl, inr, ℕ, ◌*◌, ◌/◌, ◌%◌, ◌<◌, List, [], ◌∷◌, ◌++◌, length, map, slice_index, Option, Some, refl, sym, ap, subst, ◌∙◌, arith, mod-lt, div-lt_iff_lt-mul}
-use Rattle.std.specs.Prelude.{slice_get, unwrap_or}
-use Rattle.std.specs.List.{concat, AllByRecursion}
-use Rattle.std.proofs.lemmas.Nat.{div-mul-add}
-use Rattle.pk_base.specs.Shape.{Shape, IsShape, pinned}
-use Rattle.pk_base.specs.Page.{Flash, page_at}
-use Rattle.pk_base.specs.Entry.{Entry}
-use Rattle.pk_base.specs.Firsts.{firsts}
-use Rattle.pk_base.proofs.ShapeLemmas.{block_pages_positive}
+use Rattle.std.{specs.Prelude.slice_get, specs.Prelude.unwrap_or, specs.List.concat, specs.List.AllByRecursion, proofs.lemmas.Nat.div-mul-add}
+use Rattle.pk_base.{specs.Shape.Shape, specs.Shape.IsShape, specs.Shape.pinned, specs.Page.Flash, specs.Page.page_at, specs.Entry.Entry, specs.Firsts.firsts, proofs.ShapeLemmas.block_pages_positive}
 use Rattle.pk_buf.specs.Table.{Table}
 use Rattle.pk_plan.specs.declared.owner.Owner.TheVariants.{Journal, Meta}
 use Rattle.pk_rootfmt.specs.Root.{Root, named}
 use Rattle.pk_pin.specs.Frames.{Frames}
-use Rattle.pk_pool.specs.declared.state.BlockState.TheVariants.{Owned}
-use Rattle.pk_pool.specs.Blocks.{Blocks, PoolOnFlash, used_by}
-use Rattle.pk_pool.proofs.Fitting.{block_of}
-use Rattle.pk_run.specs.Kept.{Kept, RunOnFlash, page_of, empty}
-use Rattle.pk_run.proofs.Standing.{RunOnFlash-elsewhere}
-use Rattle.pk_level.specs.Levels.{Levels, RunsOnFlash, HaveBlocks, run_of}
-use Rattle.pk_level.specs.Arenas.{HasArena}
+use Rattle.pk_pool.{specs.declared.state.BlockState.TheVariants.Owned, specs.Blocks.Blocks, specs.Blocks.PoolOnFlash, specs.Blocks.used_by, proofs.Fitting.block_of}
+use Rattle.pk_run.{specs.Kept.Kept, specs.Kept.RunOnFlash, specs.Kept.page_of, specs.Kept.empty, proofs.Standing.RunOnFlash-elsewhere}
+use Rattle.pk_level.{specs.Levels.Levels, specs.Levels.RunsOnFlash, specs.Levels.HaveBlocks, specs.Levels.run_of, specs.Arenas.HasArena}
 use Rattle.pk_jrn.specs.Epochs.{JournalEpoch}
-use Rattle.pk_model.specs.Found.{Found}
-use Rattle.pk_model.specs.Laws.{AnyByRecursion}
-use Rattle.pk_model.specs.Tree.{run_at}
-use Rattle.pk_model.proofs.Commits.{member}
-use Rattle.pk_model.proofs.SamePages.{any_front, any_back}
-use Rattle.pk_law_steps.specs.Roots.{committed}
-use Rattle.pk_law_steps.proofs.FourRuns.{IsLevel, next_is_level}
-use Rattle.pk_merge.specs.Elsewhere.{IsElsewhere}
-use Rattle.pk_merge.specs.Jobs.{Job, IsIdle, pins, output_of}
-use Rattle.pk_merge.proofs.Elsewhere.{runs_elsewhere}
-use Rattle.pk_compact.specs.declared.freezing.FreezeJob.{FreezeJob}
-use Rattle.pk_compact.specs.declared.freezing.FreezeJob.TheVariants.{Idle as NoFreeze}
-use Rattle.pk_compact.specs.FreezeSteps.{IsTaken, taken_by}
-use Rattle.pk_log.specs.State.{LogState, all_committed, pushed}
-use Rattle.pk_log.specs.Logs.{LogOnFlash}
-use Rattle.pk_log.specs.Laws.{SameNamed}
-use Rattle.pk_log.proofs.Standing.{logs_elsewhere}
-use Rattle.pk_schedule.specs.declared.phase.Phase.{Phase}
-use Rattle.pk_schedule.specs.declared.phase.Phase.TheVariants.{Idle, Running, Ready}
+use Rattle.pk_model.{specs.Found.Found, specs.Laws.AnyByRecursion, specs.Tree.run_at, proofs.Commits.member, proofs.SamePages.any_front, proofs.SamePages.any_back}
+use Rattle.pk_law_steps.{specs.Roots.committed, proofs.FourRuns.IsLevel, proofs.FourRuns.next_is_level}
+use Rattle.pk_merge.{specs.Elsewhere.IsElsewhere, specs.Jobs.Job, specs.Jobs.IsIdle, specs.Jobs.pins, specs.Jobs.output_of, proofs.Elsewhere.runs_elsewhere}
+use Rattle.pk_compact.{specs.declared.freezing.FreezeJob.FreezeJob, specs.declared.freezing.FreezeJob.TheVariants.Idle as NoFreeze, specs.FreezeSteps.IsTaken, specs.FreezeSteps.taken_by}
+use Rattle.pk_log.{specs.State.LogState, specs.State.all_committed, specs.State.pushed, specs.Logs.LogOnFlash, specs.Laws.SameNamed, proofs.Standing.logs_elsewhere}
+use Rattle.pk_schedule.{specs.declared.phase.Phase.Phase, specs.declared.phase.Phase.TheVariants.Idle, specs.declared.phase.Phase.TheVariants.Running, specs.declared.phase.Phase.TheVariants.Ready}
 use Rattle.pk_schedule.specs.Index.{Index, Schedule, IndexOnFlash, MergesInto, MergeRuns, MergeWaits, MergeStands, FreezeStands, AreHeld, index, merging, output, source_at, entries_at}
 
 -- ---- runs

@@ -1,18 +1,14 @@
 -- The run of each level, and the frames that a merge into it finds free.
-use Rattle.std.proofs.Common.{◌≡◌, inl, inr, ℕ, zero, suc, ◌+◌, ◌-◌, ◌*◌, ◌<◌, ◌≤◌, Bool, true, false, T, if◌then◌else◌, List, [], ◌∷◌, ◌++◌, length, nat_le, refl, sym, ap, subst, arith, leb→le}
-use Rattle.std.proofs.Common.{take, mul-le-mul_right, le_trans}
-use Rattle.std.specs.Prelude.{slice_index_or, max, fold}
-use Rattle.std.specs.List.{AllByRecursion, concat}
-use Rattle.pk_base.specs.Shape.{Shape, cap, caps, page_entries, pinned}
-use Rattle.pk_base.specs.Merge.{room}
+use Rattle.std.proofs.Common.{◌≡◌, inl, inr, ℕ, zero, suc, ◌+◌, ◌-◌, ◌*◌, ◌<◌, ◌≤◌, Bool, true, false, T, if◌then◌else◌, List, [], ◌∷◌, ◌++◌, length, nat_le, refl, sym, ap, subst, arith, leb→le, take}
+use Rattle.std.proofs.Common.{mul-le-mul_right, le_trans}
+use Rattle.std.{specs.Prelude.slice_index_or, specs.Prelude.max, specs.Prelude.fold, specs.List.AllByRecursion, specs.List.concat}
+use Rattle.pk_base.{specs.Shape.Shape, specs.Shape.cap, specs.Shape.caps, specs.Shape.page_entries, specs.Shape.pinned, specs.Merge.room}
 use Rattle.pk_model.proofs.SamePages.{any_front, any_back}
 use Rattle.pk_pin.specs.Frames.{Frames, free_frames}
 use Rattle.pk_run.specs.Kept.{Kept, IsKept}
-use Rattle.pk_level.specs.Levels.{Levels, IsLevels, IsOfLevel, AreOfLevels, HaveBlocks, run_of}
-use Rattle.pk_level.specs.Arenas.{HasArena}
+use Rattle.pk_level.{specs.Levels.Levels, specs.Levels.IsLevels, specs.Levels.IsOfLevel, specs.Levels.AreOfLevels, specs.Levels.HaveBlocks, specs.Levels.run_of, specs.Arenas.HasArena}
 use Rattle.pk_level.proofs.Filling.{frames_fit}
-use Rattle.pk_law_steps.proofs.FourRuns.{four_of, IsLevel}
-use Rattle.pk_law_steps.proofs.Places.{In}
+use Rattle.pk_law_steps.{proofs.FourRuns.four_of, proofs.FourRuns.IsLevel, proofs.Places.In}
 
 -- a run of a level, which keeps within it
 pub record Fit (shape : Shape) (level : ℕ) (r : Kept) : Type 0 where

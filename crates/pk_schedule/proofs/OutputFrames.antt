@@ -1,14 +1,9 @@
 -- How many frames the output of a merge may have.
 use Rattle.std.proofs.Common.{◌≡◌, inl, inr, ℕ, ◌+◌, ◌-◌, ◌*◌, ◌<◌, ◌≤◌, Bool, true, false, ◌==◌, ◌||◌, if◌then◌else◌, nat_le, nat_lt, List, [], ◌++◌, length, map, refl, sym, ap, subst, ◌∙◌, arith}
 use Rattle.std.proofs.Common.{length-append, le_trans}
-use Rattle.std.proofs.lemmas.Bool.{cases_lt}
-use Rattle.std.proofs.lemmas.Bool.Decides.{nat_tests}
-use Rattle.pk_base.specs.Shape.{Shape, IsShape, cap, page_entries, pinned, run_pages}
-use Rattle.pk_base.specs.Merge.{room}
-use Rattle.pk_base.specs.Page.{Flash}
-use Rattle.pk_base.specs.Map.{Map}
-use Rattle.pk_base.specs.Entry.{Entry}
-use Rattle.pk_base.specs.Firsts.{firsts}
+use Rattle.std.{proofs.lemmas.Bool.cases_lt, proofs.lemmas.Bool.Decides.nat_tests}
+use Rattle.pk_base.{specs.Shape.Shape, specs.Shape.IsShape, specs.Shape.cap, specs.Shape.page_entries, specs.Shape.pinned, specs.Shape.run_pages, specs.Merge.room, specs.Page.Flash, specs.Map.Map}
+use Rattle.pk_base.{specs.Entry.Entry, specs.Firsts.firsts}
 use Rattle.pk_rootfmt.specs.Root.{Root}
 use Rattle.pk_pin.specs.Frames.{Frames}
 use Rattle.pk_model.specs.Found.{Found}
@@ -16,14 +11,9 @@ use Rattle.pk_run.specs.Kept.{Kept, RunOnFlash}
 use Rattle.pk_level.specs.Arenas.{IsPinnedIf}
 use Rattle.pk_merge.specs.Jobs.{pins}
 use Rattle.pk_law_work.proofs.Paging.{few_pages}
-use Rattle.pk_law_steps.specs.Under.{IsUnder}
-use Rattle.pk_law_steps.specs.Merging.{output_of as whole_output}
-use Rattle.pk_law_steps.proofs.FourRuns.{IsLevel, next_is_level}
-use Rattle.pk_law_steps.proofs.Outputs.{output_fits}
-use Rattle.pk_schedule.specs.declared.phase.Phase.{Phase}
-use Rattle.pk_schedule.specs.declared.phase.Phase.TheVariants.{Idle, Running, Ready}
-use Rattle.pk_schedule.specs.Index.{Index, IndexOnFlash, MergesInto, MergeStands, merging, output}
-use Rattle.pk_schedule.proofs.Keeping.{idle_leases}
+use Rattle.pk_law_steps.{specs.Under.IsUnder, specs.Merging.output_of as whole_output, proofs.FourRuns.IsLevel, proofs.FourRuns.next_is_level, proofs.Outputs.output_fits}
+use Rattle.pk_schedule.{specs.declared.phase.Phase.Phase, specs.declared.phase.Phase.TheVariants.Idle, specs.declared.phase.Phase.TheVariants.Running, specs.declared.phase.Phase.TheVariants.Ready}
+use Rattle.pk_schedule.{specs.Index.Index, specs.Index.IndexOnFlash, specs.Index.MergesInto, specs.Index.MergeStands, specs.Index.merging, specs.Index.output, proofs.Keeping.idle_leases}
 
 -- a merge into a pinned level has frames for the pages of its output
 abbrev pub most_output : Shape → ℕ → ℕ → ℕ

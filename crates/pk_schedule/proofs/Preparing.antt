@@ -1,46 +1,25 @@
 -- The erase before the root of a merge, over an index.
 use Rattle.std.proofs.Common.{◌≡◌, inl, ℕ, ◌+◌, ◌/◌, ◌<◌, true, false, List, [], length, map, Some, None, refl, sym, ap, subst, ◌∙◌, arith, mul-le-mul_right}
-use Rattle.std.specs.Prelude.{slice_get}
-use Rattle.std.specs.List.{AllByRecursion}
-use Rattle.pk_base.specs.Shape.{Shape}
-use Rattle.pk_base.specs.Merge.{next_merge}
-use Rattle.pk_base.specs.Page.{Flash, page_at, SameBehind}
-use Rattle.pk_base.specs.Map.{Map}
-use Rattle.pk_base.proofs.ShapeLemmas.{block_pages_positive}
-use Rattle.pk_law_work.specs.Rest.{Lowers, left_of, whole_merge}
-use Rattle.pk_law_work.specs.Steps.{MovesMerge}
-use Rattle.pk_law_work.proofs.Lowering.{moves}
-use Rattle.pk_plan.specs.declared.owner.Owner.{Owner}
-use Rattle.pk_plan.specs.declared.owner.Owner.TheVariants.{Meta, Values}
+use Rattle.std.{specs.Prelude.slice_get, specs.List.AllByRecursion}
+use Rattle.pk_base.{specs.Shape.Shape, specs.Merge.next_merge, specs.Page.Flash, specs.Page.page_at, specs.Page.SameBehind, specs.Map.Map, proofs.ShapeLemmas.block_pages_positive}
+use Rattle.pk_law_work.{specs.Rest.Lowers, specs.Rest.left_of, specs.Rest.whole_merge, specs.Steps.MovesMerge, proofs.Lowering.moves}
+use Rattle.pk_plan.{specs.declared.owner.Owner.Owner, specs.declared.owner.Owner.TheVariants.Meta, specs.declared.owner.Owner.TheVariants.Values}
 use Rattle.pk_nand.specs.BoardState.{BoardState}
 use Rattle.pk_rootfmt.specs.Root.{Root}
-use Rattle.pk_root.specs.declared.next.Next.{Next}
-use Rattle.pk_root.specs.Installing.{erases_next, programs_next, repeats_next}
-use Rattle.pk_model.specs.Found.{Found}
-use Rattle.pk_model.specs.Laws.{AnyByRecursion}
-use Rattle.pk_pool.specs.declared.state.BlockState.TheVariants.{Owned, Ready as ReadyBlock}
-use Rattle.pk_pool.specs.Blocks.{Blocks, IsShared, PoolOnFlash}
-use Rattle.pk_pool.proofs.Fitting.{PoolOnFlash-same}
-use Rattle.pk_pool.proofs.Sharing.{behind_roots}
-use Rattle.pk_pool.proofs.States.{ready_is_not_root}
-use Rattle.pk_pool.specs.Unready.{unready}
-use Rattle.pk_run.specs.Kept.{Kept, RunOnFlash}
-use Rattle.pk_level.specs.Levels.{IsLevels, RunsOnFlash}
-use Rattle.pk_level.specs.Arenas.{unfilled}
-use Rattle.pk_law_steps.specs.Merging.{output_of as whole_output}
-use Rattle.pk_compact.specs.FreezeSteps.{IsTaken, taken_by, install_steps}
-use Rattle.pk_compact.specs.declared.freezing.FreezeJob.{FreezeJob}
-use Rattle.pk_log.specs.MergeSteps.{LogPrepared}
-use Rattle.pk_schedule.specs.declared.phase.Phase.TheVariants.{Ready}
-use Rattle.pk_schedule.specs.Index.{Index, IndexOnFlash, MergeWaits, MergeStands, output, IsSettled}
-use Rattle.pk_schedule.specs.Steps.{MayWork, IndexMoves, LessIsLeft, backlog_of, merge_left, freeze_rest_of}
-use Rattle.pk_schedule.proofs.Backlogs.{frozen_is, entries_are}
-use Rattle.pk_schedule.proofs.Keeping.{RunOnFlash-same, RunsOnFlash-same}
-use Rattle.pk_schedule.proofs.Standing.{owned_beyond}
-use Rattle.pk_schedule.proofs.Waiting.{waits, none_taken}
+use Rattle.pk_root.{specs.declared.next.Next.Next, specs.Installing.erases_next, specs.Installing.programs_next, specs.Installing.repeats_next}
 use Rattle.pk_root.specs.declared.next.Next.TheVariants.{Erase, Program, Again}
-use Rattle.pk_compact.proofs.NextRoot.{programs_whole}
-use Rattle.pk_schedule.proofs.Settled.{stands_settled, values_settled}
+use Rattle.pk_model.{specs.Found.Found, specs.Laws.AnyByRecursion}
+use Rattle.pk_pool.{specs.declared.state.BlockState.TheVariants.Owned, specs.declared.state.BlockState.TheVariants.Ready as ReadyBlock, proofs.Fitting.PoolOnFlash-same, proofs.Sharing.behind_roots}
+use Rattle.pk_pool.{specs.Blocks.Blocks, specs.Blocks.IsShared, specs.Blocks.PoolOnFlash, proofs.States.ready_is_not_root, specs.Unready.unready}
+use Rattle.pk_run.specs.Kept.{Kept, RunOnFlash}
+use Rattle.pk_level.{specs.Levels.IsLevels, specs.Levels.RunsOnFlash, specs.Arenas.unfilled}
+use Rattle.pk_law_steps.specs.Merging.{output_of as whole_output}
+use Rattle.pk_compact.{specs.FreezeSteps.IsTaken, specs.FreezeSteps.taken_by, specs.FreezeSteps.install_steps, specs.declared.freezing.FreezeJob.FreezeJob, proofs.NextRoot.programs_whole}
+use Rattle.pk_log.specs.MergeSteps.{LogPrepared}
+use Rattle.pk_schedule.{specs.declared.phase.Phase.TheVariants.Ready, proofs.Backlogs.frozen_is, proofs.Backlogs.entries_are, proofs.Keeping.RunOnFlash-same, proofs.Keeping.RunsOnFlash-same}
+use Rattle.pk_schedule.{specs.Index.Index, specs.Index.IndexOnFlash, specs.Index.MergeWaits, specs.Index.MergeStands, specs.Index.output, specs.Index.IsSettled, proofs.Standing.owned_beyond}
+use Rattle.pk_schedule.specs.Steps.{MayWork, IndexMoves, LessIsLeft, backlog_of, merge_left, freeze_rest_of}
+use Rattle.pk_schedule.{proofs.Waiting.waits, proofs.Waiting.none_taken, proofs.Settled.stands_settled, proofs.Settled.values_settled}
 
 -- a block that counts as erased is after the root blocks
 pub pool_behind : (pool : Blocks) (old new : Flash) → IsShared pool.shape pool.states → SameBehind pool.shape old new → PoolOnFlash pool old → PoolOnFlash pool new

@@ -1,47 +1,24 @@
 -- What the exchange of runs leaves after a merge: into level 1, and into a deeper one.
 use Rattle.std.proofs.Common.{◌≡◌, ◌⊎◌, inl, inr, ℕ, ◌+◌, ◌-◌, ◌<◌, ◌≤◌, Bool, true, false, ◌==◌, nat_le, if◌then◌else◌, List, [], ◌++◌, length, map, slice_set, slice_index, slice_index_or, Some}
 use Rattle.std.proofs.Common.{None, refl, sym, ap, subst, ◌∙◌, arith, length-append, append-nil}
-use Rattle.std.specs.Prelude.{slice_get}
-use Rattle.std.specs.List.{concat}
-use Rattle.std.proofs.lemmas.Bool.Decides.{nat_tests}
-use Rattle.std.proofs.lemmas.List.{length-set, length-map}
-use Rattle.pk_base.specs.Shape.{Shape}
-use Rattle.pk_base.specs.Entry.{Entry}
-use Rattle.pk_base.specs.Map.{Map}
-use Rattle.pk_base.specs.Page.{SameBehind}
+use Rattle.std.{specs.Prelude.slice_get, specs.List.concat, proofs.lemmas.Bool.Decides.nat_tests, proofs.lemmas.List.length-set, proofs.lemmas.List.length-map}
+use Rattle.pk_base.{specs.Shape.Shape, specs.Entry.Entry, specs.Map.Map, specs.Page.SameBehind, proofs.Logic.is_true}
 use Rattle.pk_plan.specs.declared.owner.Owner.TheVariants.{Journal, Meta, Values}
 use Rattle.pk_nand.specs.BoardState.{BoardState}
 use Rattle.pk_rootfmt.specs.Root.{Root, named}
-use Rattle.pk_pin.specs.Frames.{Frames, AreLeases, times}
-use Rattle.pk_pin.proofs.Leases.{times-append}
-use Rattle.pk_model.specs.Found.{Found}
-use Rattle.pk_model.specs.Tree.{merged, blocks_after}
-use Rattle.pk_model.proofs.SamePages.{any_front, any_back}
-use Rattle.pk_pool.specs.declared.state.BlockState.TheVariants.{Free}
-use Rattle.pk_pool.specs.Blocks.{Blocks, IsShared, used_by, given_back}
-use Rattle.pk_pool.specs.Unready.{unready}
-use Rattle.pk_run.specs.Kept.{Kept, empty}
-use Rattle.pk_run.proofs.Standing.{RunOnFlash-empty}
+use Rattle.pk_pin.{specs.Frames.Frames, specs.Frames.AreLeases, specs.Frames.times, proofs.Leases.times-append}
+use Rattle.pk_model.{specs.Found.Found, specs.Tree.merged, specs.Tree.blocks_after, proofs.SamePages.any_front, proofs.SamePages.any_back}
+use Rattle.pk_pool.{specs.declared.state.BlockState.TheVariants.Free, specs.Blocks.Blocks, specs.Blocks.IsShared, specs.Blocks.used_by, specs.Blocks.given_back, specs.Unready.unready}
+use Rattle.pk_run.{specs.Kept.Kept, specs.Kept.empty, proofs.Standing.RunOnFlash-empty, specs.Leases.LeavesOthers, proofs.Leasing.are_apart, proofs.Leasing.given_bytes, proofs.Leasing.given_size}
 use Rattle.pk_level.specs.Levels.{Levels, IsLevels, RunsOnFlash, HaveBlocks, run_of, with_run}
 use Rattle.pk_level.specs.Arenas.{HasLeases, leases_of}
-use Rattle.pk_law_steps.specs.Merging.{merged_root, output_of, freed_by, blocks_at}
-use Rattle.pk_law_steps.proofs.FourRuns.{IsLevel}
-use Rattle.pk_law_steps.proofs.FreedCounts.{freed_counted}
+use Rattle.pk_law_steps.{specs.Merging.merged_root, specs.Merging.output_of, specs.Merging.freed_by, specs.Merging.blocks_at, proofs.FourRuns.IsLevel, proofs.FreedCounts.freed_counted}
 use Rattle.pk_law_steps.proofs.Places.{In, in_append}
-use Rattle.pk_run.specs.Leases.{LeavesOthers}
-use Rattle.pk_merge.specs.Jobs.{Job, IsIdle, taken_from, given_to, ended}
-use Rattle.pk_merge.proofs.Ending.{idle_one}
-use Rattle.pk_run.proofs.Leasing.{are_apart, given_bytes, given_size}
-use Rattle.pk_schedule.specs.declared.phase.Phase.TheVariants.{Ready}
-use Rattle.pk_schedule.specs.Exchanges.{CanExchange, Exchanges, EndsFirst, EndsDeep}
-use Rattle.pk_schedule.specs.Index.{Index, output}
-use Rattle.pk_schedule.specs.Steps.{MayWork}
-use Rattle.pk_schedule.proofs.Ended.{SecondRun}
-use Rattle.pk_schedule.proofs.Giving.{GivesBack, gives_back, one_owner}
-use Rattle.pk_schedule.proofs.Installing.{Replaced}
+use Rattle.pk_merge.{specs.Jobs.Job, specs.Jobs.IsIdle, specs.Jobs.taken_from, specs.Jobs.given_to, specs.Jobs.ended, proofs.Ending.idle_one}
+use Rattle.pk_schedule.{specs.declared.phase.Phase.TheVariants.Ready, specs.Exchanges.CanExchange, specs.Exchanges.Exchanges, specs.Exchanges.EndsFirst, specs.Exchanges.EndsDeep, specs.Steps.MayWork}
+use Rattle.pk_schedule.{specs.Index.Index, specs.Index.output, proofs.Ended.SecondRun, proofs.Giving.GivesBack, proofs.Giving.gives_back, proofs.Giving.one_owner, proofs.Installing.Replaced}
 use Rattle.pk_schedule.proofs.Preparing.{output_stands, runs_stand}
 use Rattle.pk_schedule.proofs.Replacing.{RunsOnFlash-set, HaveBlocks-set, RunsOnFlash-given, at_set, at_other, map_set}
-use Rattle.pk_base.proofs.Logic.{is_true}
 use Rattle.pk_schedule.proofs.Waiting as wait
 
 -- ---- lists after a merge

@@ -1,19 +1,13 @@
 -- A run that replaces another, in lists of runs.
 use Rattle.std.proofs.Common.{◌≡◌, inl, ℕ, zero, suc, ◌+◌, ◌≤◌, ◌<◌, T, List, [], ◌∷◌, length, map, slice_set, slice_index_or, Some, refl, sym, ap, subst, ◌∙◌, arith}
-use Rattle.std.specs.Prelude.{slice_get}
-use Rattle.std.proofs.lemmas.Option.{same_Some}
-use Rattle.pk_base.specs.Shape.{Shape}
-use Rattle.pk_base.specs.Page.{Flash}
-use Rattle.pk_base.specs.Entry.{Entry}
-use Rattle.pk_pin.specs.Frames.{Frames, times}
-use Rattle.pk_pin.proofs.Leases.{times-append}
+use Rattle.std.{specs.Prelude.slice_get, proofs.lemmas.Option.same_Some}
+use Rattle.pk_base.{specs.Shape.Shape, specs.Page.Flash, specs.Entry.Entry}
+use Rattle.pk_pin.{specs.Frames.Frames, specs.Frames.times, proofs.Leases.times-append}
 use Rattle.pk_rootfmt.specs.Root.{differ}
-use Rattle.pk_run.specs.Kept.{Kept, RunOnFlash, empty}
-use Rattle.pk_level.specs.Levels.{RunsOnFlash, HaveBlocks, AreOfLevels, IsOfLevel}
-use Rattle.pk_level.specs.Arenas.{leases_of}
+use Rattle.pk_run.{specs.Kept.Kept, specs.Kept.RunOnFlash, specs.Kept.empty, specs.Leases.LeavesOthers}
+use Rattle.pk_level.{specs.Levels.RunsOnFlash, specs.Levels.HaveBlocks, specs.Levels.AreOfLevels, specs.Levels.IsOfLevel, specs.Arenas.leases_of}
 use Rattle.pk_model.proofs.Commits.{apart, rest_differs}
 use Rattle.pk_law_steps.proofs.Places.{In}
-use Rattle.pk_run.specs.Leases.{LeavesOthers}
 use Rattle.pk_merge.specs.Jobs.{all_spare, spare_of, without, with_spare}
 use Rattle.pk_schedule.proofs.Grown.{got_in}
 

@@ -1,62 +1,31 @@
 -- A step of the job of a merge that runs: the index matches the flash after it, with the same map, wherever the step is cut.
 use Rattle.std.proofs.Common.{◌≡◌, ◌≢◌, ◌⊎◌, inl, inr, ℕ, ◌*◌, ◌/◌, ◌<◌, ◌≤◌, List, [], ◌∷◌, ◌++◌, length, Option, Some, None, refl, sym, ap, subst, ◌∙◌, arith, div-lt_iff_lt-mul}
-use Rattle.std.specs.Prelude.{slice_get, slice_index}
-use Rattle.std.specs.List.{concat, AllByRecursion}
-use Rattle.pk_base.specs.Shape.{Shape, IsShape}
-use Rattle.pk_base.specs.Entry.{Entry}
-use Rattle.pk_base.specs.Page.{Flash, page_at}
-use Rattle.pk_base.specs.Map.{Map}
-use Rattle.pk_base.proofs.ShapeLemmas.{block_pages_positive}
-use Rattle.pk_nand.specs.BoardState.{BoardState}
-use Rattle.pk_nand.specs.Calls.{IsReady}
-use Rattle.pk_nand.specs.Operations.{after_read}
-use Rattle.pk_nand.specs.declared.types.Fault.TheVariants.{Stopped}
-use Rattle.pk_nand.proofs.Reaching.{Reached-start}
+use Rattle.std.{specs.Prelude.slice_get, specs.Prelude.slice_index, specs.List.concat, specs.List.AllByRecursion}
+use Rattle.pk_base.{specs.Shape.Shape, specs.Shape.IsShape, specs.Entry.Entry, specs.Page.Flash, specs.Page.page_at, specs.Map.Map, proofs.ShapeLemmas.block_pages_positive, proofs.Logic.is_true}
+use Rattle.pk_nand.{specs.BoardState.BoardState, specs.Calls.IsReady, specs.Operations.after_read, specs.declared.types.Fault.TheVariants.Stopped, proofs.Reaching.Reached-start}
 use Rattle.pk_pin.specs.Frames.{Frames}
-use Rattle.pk_plan.specs.declared.owner.Owner.{Owner}
-use Rattle.pk_plan.specs.declared.owner.Owner.TheVariants.{Journal, Meta, Values}
+use Rattle.pk_plan.{specs.declared.owner.Owner.Owner, specs.declared.owner.Owner.TheVariants.Journal, specs.declared.owner.Owner.TheVariants.Meta, specs.declared.owner.Owner.TheVariants.Values}
 use Rattle.pk_rootfmt.specs.Root.{Root, named}
 use Rattle.pk_pool.specs.declared.state.BlockState.TheVariants.{Free, Ready as ReadyBlock, Owned}
-use Rattle.pk_pool.specs.Blocks.{Blocks, IsShared, IsSpare}
-use Rattle.pk_pool.proofs.States.{free_is_not_root, ready_is_not_root, owned_is_not_root}
-use Rattle.pk_pool.proofs.Sharing.{behind_roots}
-use Rattle.pk_pool.proofs.Fitting.{block_of}
+use Rattle.pk_pool.{specs.Blocks.Blocks, specs.Blocks.IsShared, specs.Blocks.IsSpare, proofs.States.free_is_not_root, proofs.States.ready_is_not_root, proofs.States.owned_is_not_root}
+use Rattle.pk_pool.{proofs.Sharing.behind_roots, proofs.Fitting.block_of}
 use Rattle.pk_run.specs.Kept.{Kept, page_of, after_look}
-use Rattle.pk_level.specs.Levels.{run_of}
-use Rattle.pk_level.specs.Arenas.{leases_of}
-use Rattle.pk_model.specs.Found.{Found}
-use Rattle.pk_model.specs.Growth.{Grows, Goes}
-use Rattle.pk_model.specs.Crashes.{CrashFinds, background}
-use Rattle.pk_model.specs.Tree.{run_at}
+use Rattle.pk_level.{specs.Levels.run_of, specs.Arenas.leases_of}
+use Rattle.pk_model.{specs.Found.Found, specs.Growth.Grows, specs.Growth.Goes, specs.Crashes.CrashFinds, specs.Crashes.background, specs.Tree.run_at}
 use Rattle.pk_model.proofs.SamePages.{any_back, newest_root_same}
 use Rattle.pk_root.specs.Laws.{SameFront}
-use Rattle.pk_law_steps.specs.Under.{IsUnder, IsValuePage, places}
-use Rattle.pk_law_steps.proofs.Untouched.{under_reads}
-use Rattle.pk_law_steps.proofs.Places.{In, in_append}
-use Rattle.pk_merge.specs.Cursors.{Cursor, own_page}
-use Rattle.pk_merge.specs.declared.source.Source.{Source}
-use Rattle.pk_merge.specs.declared.source.Source.TheVariants.{Frozen, Run}
-use Rattle.pk_merge.specs.declared.next.Next.{Next}
+use Rattle.pk_law_steps.{specs.Under.IsUnder, specs.Under.IsValuePage, specs.Under.places, proofs.Untouched.under_reads, proofs.Places.In, proofs.Places.in_append}
+use Rattle.pk_merge.{specs.Cursors.Cursor, specs.Cursors.own_page, specs.declared.source.Source.Source, specs.declared.source.Source.TheVariants.Frozen, specs.declared.source.Source.TheVariants.Run}
+use Rattle.pk_merge.{specs.declared.next.Next.Next, specs.Sources.after_look_at, specs.Merging.Merger, specs.Merging.Tells, specs.Running.Running, specs.Steps.Acts, specs.Steps.Fails}
 use Rattle.pk_merge.specs.declared.next.Next.TheVariants.{LoadSource, LoadTarget, Gather, TakeBlock, Program, End}
-use Rattle.pk_merge.specs.Sources.{after_look_at}
-use Rattle.pk_merge.specs.Merging.{Merger, Tells}
-use Rattle.pk_merge.specs.Running.{Running}
-use Rattle.pk_merge.specs.Steps.{Acts, Fails}
-use Rattle.pk_merge.specs.Elsewhere.{IsForOutput, LeavesRuns, LeavesLeases}
-use Rattle.pk_merge.specs.Jobs.{Job, JobRuns, pins, output_of}
+use Rattle.pk_merge.{specs.Elsewhere.IsForOutput, specs.Elsewhere.LeavesRuns, specs.Elsewhere.LeavesLeases, specs.Jobs.Job, specs.Jobs.JobRuns, specs.Jobs.pins, specs.Jobs.output_of}
 use Rattle.pk_merge.proofs.Places.{block_there, block_of_page}
-use Rattle.pk_compact.specs.Laws.{IsUnread, CallLeaves}
-use Rattle.pk_compact.specs.FreezeSteps.{IsTaken, taken_by}
-use Rattle.pk_compact.proofs.Touching.{program_unread, erase_unread}
-use Rattle.pk_log.specs.Laws.{SameNamed}
-use Rattle.pk_log.proofs.Standing.{logs_elsewhere}
-use Rattle.pk_schedule.specs.declared.phase.Phase.{Phase}
+use Rattle.pk_compact.{specs.Laws.IsUnread, specs.Laws.CallLeaves, specs.FreezeSteps.IsTaken, specs.FreezeSteps.taken_by, proofs.Touching.program_unread, proofs.Touching.erase_unread}
+use Rattle.pk_log.{specs.Laws.SameNamed, proofs.Standing.logs_elsewhere}
+use Rattle.pk_schedule.{specs.declared.phase.Phase.Phase, specs.Steps.MayWork, specs.Steps.IndexMoves, proofs.Settled.stands_settled, proofs.Settled.values_settled}
 use Rattle.pk_schedule.specs.Index.{Index, IndexOnFlash, MergesInto, MergeStands, output, source_at, entries_at, IsSettled}
-use Rattle.pk_schedule.specs.Steps.{MayWork, IndexMoves}
 use Rattle.pk_schedule.proofs.Grown.{Grew, SameEnd, got_in, in_got, differ_of, owned_not_spare, grew_shape, grew_kept, grew_no_more, grew_size, grew_used, grew_meta, grew_from, same_page, runs_leave}
 use Rattle.pk_schedule.proofs.Grown.{grew_none_leaves}
-use Rattle.pk_schedule.proofs.Settled.{stands_settled, values_settled}
-use Rattle.pk_base.proofs.Logic.{is_true}
 
 -- what holds of each of a list is shown of it and the ones that remain
 all_of : (P Q : ℕ → Type 0) (xs : List ℕ) → ((x : ℕ) → P x → Q x) → AllByRecursion P xs → AllByRecursion Q xs

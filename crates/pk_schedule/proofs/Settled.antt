@@ -1,20 +1,13 @@
 -- An index that is whole is unchanged, and what a step of one leaves.
 use Rattle.std.proofs.Common.{◌≡◌, ℕ, ◌-◌, sym, ap, subst, ◌∙◌, ◌||◌, ◌==◌, List, [], length, nat_le, Ok}
-use Rattle.pk_base.specs.Shape.{Shape}
-use Rattle.pk_base.specs.Page.{Page, Flash, page_in}
-use Rattle.pk_base.specs.Refusal.{ensure}
+use Rattle.pk_base.{specs.Shape.Shape, specs.Page.Page, specs.Page.Flash, specs.Page.page_in, specs.Refusal.ensure, proofs.Logic.ok_same}
 use Rattle.pk_rootfmt.specs.Root.{Root}
 use Rattle.pk_jrnfmt.specs.Epoch.{epoch}
-use Rattle.pk_pool.specs.declared.state.BlockState.{BlockState}
-use Rattle.pk_pool.specs.Blocks.{Blocks, NoneLeaves, with_state, freed, freed_state}
+use Rattle.pk_pool.{specs.declared.state.BlockState.BlockState, specs.Blocks.Blocks, specs.Blocks.NoneLeaves, specs.Blocks.with_state, specs.Blocks.freed, specs.Blocks.freed_state}
 use Rattle.pk_pool.proofs.Leaving.{freed_same, freed_set, none_leaves}
-use Rattle.pk_model.specs.Found.{Found, older_epoch, newest_epoch, runs_from, found_under}
-use Rattle.pk_model.proofs.StrangePages.{bind_ok}
-use Rattle.pk_schedule.specs.Index.{Index, IndexOnFlash, IsSettled, settled}
-use Rattle.pk_schedule.specs.Steps.{KeepsValues}
-use Rattle.pk_base.proofs.Logic.{ok_same}
+use Rattle.pk_model.{specs.Found.Found, specs.Found.older_epoch, specs.Found.newest_epoch, specs.Found.runs_from, specs.Found.found_under, proofs.StrangePages.bind_ok, specs.RootLimits.root_spaces}
+use Rattle.pk_schedule.{specs.Index.Index, specs.Index.IndexOnFlash, specs.Index.IsSettled, specs.Index.settled, specs.Steps.KeepsValues}
 use Rattle.pk_law_steps.proofs.Freezing.{no_blocks}
-use Rattle.pk_model.specs.RootLimits.{root_spaces}
 
 -- no block leaves, also if one has another owner or is erased
 pub none_leaves_set : (p : Blocks) (b : ℕ) (s : BlockState) → freed_state s ≡ s → NoneLeaves p → NoneLeaves (with_state p b s)

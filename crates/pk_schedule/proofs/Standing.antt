@@ -1,26 +1,16 @@
 -- What an index is before a step: its owners, its pages, and the merge that does not run.
 use Rattle.std.proofs.Common.{◌≡◌, ◌⊎◌, inl, inr, ℕ, ◌*◌, ◌/◌, ◌<◌, ◌≤◌, true, ◌++◌, Some, refl, subst, arith, mul-le-mul_right}
-use Rattle.std.specs.Prelude.{slice_get}
-use Rattle.std.specs.List.{concat}
-use Rattle.pk_base.specs.Page.{Flash}
-use Rattle.pk_base.specs.Map.{Map}
-use Rattle.pk_base.proofs.ShapeLemmas.{block_pages_positive}
-use Rattle.pk_plan.specs.declared.owner.Owner.{Owner}
-use Rattle.pk_plan.specs.declared.owner.Owner.TheVariants.{Journal, Meta, Values}
+use Rattle.std.{specs.Prelude.slice_get, specs.List.concat}
+use Rattle.pk_base.{specs.Page.Flash, specs.Map.Map, proofs.ShapeLemmas.block_pages_positive}
+use Rattle.pk_plan.{specs.declared.owner.Owner.Owner, specs.declared.owner.Owner.TheVariants.Journal, specs.declared.owner.Owner.TheVariants.Meta, specs.declared.owner.Owner.TheVariants.Values}
 use Rattle.pk_rootfmt.specs.Root.{Root, named}
 use Rattle.pk_model.specs.Found.{Found}
-use Rattle.pk_pool.specs.declared.state.BlockState.TheVariants.{Owned}
-use Rattle.pk_pool.specs.Blocks.{IsShared}
-use Rattle.pk_pool.proofs.Sharing.{behind_roots}
-use Rattle.pk_pool.proofs.States.{owned_is_not_root}
+use Rattle.pk_pool.{specs.declared.state.BlockState.TheVariants.Owned, specs.Blocks.IsShared, proofs.Sharing.behind_roots, proofs.States.owned_is_not_root}
 use Rattle.pk_law_steps.proofs.Places.{In, in_append}
 use Rattle.pk_merge.specs.Jobs.{IsIdle}
 use Rattle.pk_compact.specs.Freezing.{IsApart}
-use Rattle.pk_schedule.specs.declared.phase.Phase.{Phase}
-use Rattle.pk_schedule.specs.declared.phase.Phase.TheVariants.{Idle, Running, Ready}
-use Rattle.pk_schedule.specs.Index.{Index, MergeStands}
-use Rattle.pk_schedule.specs.Steps.{MayWork, is_between}
-use Rattle.pk_schedule.proofs.Giving.{not_spare}
+use Rattle.pk_schedule.{specs.declared.phase.Phase.Phase, specs.declared.phase.Phase.TheVariants.Idle, specs.declared.phase.Phase.TheVariants.Running, specs.declared.phase.Phase.TheVariants.Ready}
+use Rattle.pk_schedule.{specs.Index.Index, specs.Index.MergeStands, specs.Steps.MayWork, specs.Steps.is_between, proofs.Giving.not_spare}
 
 -- a page of a block after the root blocks is after them
 pub beyond : (n k : ℕ) → 0 < n → 2 ≤ k / n → 2 * n ≤ k

@@ -1,58 +1,29 @@
 -- What the step of a merge's job leaves of an index, whether it was done or a call of it failed.
 use Rattle.std.proofs.Common.{◌≡◌, inl, inr, ℕ, ◌+◌, ◌≤◌, Bool, true, false, List, length, map, Option, Some, Result, Err, refl, sym, ap, subst, ◌∙◌, arith}
 use Rattle.std.specs.Prelude.{unwrap_or, IsTrue, ◌↔◌}
-use Rattle.pk_base.specs.Shape.{Shape, cap}
-use Rattle.pk_base.specs.Entry.{Entry}
-use Rattle.pk_base.specs.Map.{Map}
-use Rattle.pk_base.specs.Merge.{next_merge}
-use Rattle.pk_base.specs.Page.{Flash}
-use Rattle.pk_nand.specs.BoardState.{BoardState}
-use Rattle.pk_nand.specs.Calls.{IsReady}
-use Rattle.pk_nand.specs.Effects.{OnlyReading}
-use Rattle.pk_nand.specs.declared.types.Fault.TheVariants.{Reading, Stopped}
+use Rattle.pk_base.{specs.Shape.Shape, specs.Shape.cap, specs.Entry.Entry, specs.Map.Map, specs.Merge.next_merge, specs.Page.Flash, proofs.Logic.not_both}
+use Rattle.pk_nand.{specs.BoardState.BoardState, specs.Calls.IsReady, specs.Effects.OnlyReading, specs.declared.types.Fault.TheVariants.Reading, specs.declared.types.Fault.TheVariants.Stopped}
 use Rattle.pk_nand.specs.declared.types.Fault.{Fault}
 use Rattle.pk_pin.specs.Frames.{Frames}
 use Rattle.pk_rootfmt.specs.Root.{Root}
-use Rattle.pk_pool.specs.Blocks.{Blocks, IsShared}
-use Rattle.pk_pool.specs.Unready.{unready}
-use Rattle.pk_law_work.specs.Rest.{Lowers, left_of, whole_merge}
-use Rattle.pk_law_work.specs.Steps.{MovesMerge}
-use Rattle.pk_law_work.proofs.Lowering.{moves as merge_moves}
+use Rattle.pk_pool.{specs.Blocks.Blocks, specs.Blocks.IsShared, specs.Unready.unready}
+use Rattle.pk_law_work.{specs.Rest.Lowers, specs.Rest.left_of, specs.Rest.whole_merge, specs.Steps.MovesMerge, proofs.Lowering.moves as merge_moves}
 use Rattle.pk_run.specs.Kept.{Kept, RunOnFlash, empty, most_pages, most_blocks}
-use Rattle.pk_level.specs.Levels.{run_of}
-use Rattle.pk_level.specs.Arenas.{unfilled}
-use Rattle.pk_model.specs.Found.{Found}
-use Rattle.pk_model.specs.Growth.{Goes}
-use Rattle.pk_model.specs.Crashes.{CrashFinds, background}
-use Rattle.pk_model.specs.Tree.{run_at}
-use Rattle.pk_model.specs.Wear.{roots}
-use Rattle.pk_law_steps.specs.Merging.{output_of as whole_output}
-use Rattle.pk_law_steps.proofs.FourRuns.{next_is_level}
-use Rattle.pk_merge.specs.declared.source.Source.{Source}
-use Rattle.pk_merge.specs.declared.source.Source.TheVariants.{Frozen, Run}
-use Rattle.pk_merge.specs.Cursors.{Cursor}
-use Rattle.pk_merge.specs.Sources.{wants_page_in}
-use Rattle.pk_merge.specs.Merging.{Merger, IsDone, can_gather}
-use Rattle.pk_merge.specs.Running.{IsOutputWhole, merged}
-use Rattle.pk_merge.specs.Steps.{Steps, Fails, FailsToRead}
-use Rattle.pk_merge.specs.Elsewhere.{LeavesRuns, LeavesLeases, StepReaches, StepWent}
-use Rattle.pk_merge.specs.Remaining.{steps_left, LowersTo}
-use Rattle.pk_merge.specs.Jobs.{Job, JobRuns, RunsOn, Completes, pins, output_of}
-use Rattle.pk_merge.proofs.Leasing.{kept_leases}
-use Rattle.pk_compact.specs.Laws.{CallLeaves}
-use Rattle.pk_compact.proofs.NextRoot.{roots_same}
-use Rattle.pk_compact.proofs.Numbering.{same_front}
-use Rattle.pk_compact.specs.FreezeSteps.{install_steps}
-use Rattle.pk_schedule.specs.declared.phase.Phase.{Phase}
-use Rattle.pk_schedule.specs.declared.phase.Phase.TheVariants.{Running, Ready}
+use Rattle.pk_level.{specs.Levels.run_of, specs.Arenas.unfilled}
+use Rattle.pk_model.{specs.Found.Found, specs.Growth.Goes, specs.Crashes.CrashFinds, specs.Crashes.background, specs.Tree.run_at, specs.Wear.roots}
+use Rattle.pk_law_steps.{specs.Merging.output_of as whole_output, proofs.FourRuns.next_is_level}
+use Rattle.pk_merge.{specs.declared.source.Source.Source, specs.declared.source.Source.TheVariants.Frozen, specs.declared.source.Source.TheVariants.Run, specs.Cursors.Cursor}
+use Rattle.pk_merge.{specs.Sources.wants_page_in, specs.Merging.Merger, specs.Merging.IsDone, specs.Merging.can_gather, specs.Running.IsOutputWhole, specs.Running.merged, proofs.Leasing.kept_leases}
+use Rattle.pk_merge.{specs.Steps.Steps, specs.Steps.Fails, specs.Steps.FailsToRead, specs.Elsewhere.LeavesRuns, specs.Elsewhere.LeavesLeases, specs.Elsewhere.StepReaches, specs.Elsewhere.StepWent}
+use Rattle.pk_merge.{specs.Remaining.steps_left, specs.Remaining.LowersTo, specs.Jobs.Job, specs.Jobs.JobRuns, specs.Jobs.RunsOn, specs.Jobs.Completes, specs.Jobs.pins, specs.Jobs.output_of}
+use Rattle.pk_compact.{specs.Laws.CallLeaves, proofs.NextRoot.roots_same, proofs.Numbering.same_front, specs.FreezeSteps.install_steps}
+use Rattle.pk_schedule.{specs.declared.phase.Phase.Phase, specs.declared.phase.Phase.TheVariants.Running, specs.declared.phase.Phase.TheVariants.Ready, specs.Sources.ShowsSame}
 use Rattle.pk_schedule.specs.Index.{Index, IndexOnFlash, MergesInto, MergeRuns, MergeStands, output, source_at, entries_at}
 use Rattle.pk_schedule.specs.Steps.{MayWork, IndexMoves, LessIsLeft, Unmoved, merge_left, backlog_of}
-use Rattle.pk_schedule.specs.Sources.{ShowsSame}
 use Rattle.pk_schedule.proofs.Carried.{Shown, shown, same_shown, job_carried, left_same, done_same}
 use Rattle.pk_schedule.proofs.Grown.{Grew, SameEnd, acts_grow, acts_frames, reached_end, went_end}
 use Rattle.pk_schedule.proofs.Entries.{output_same, frozen_many, counts_same}
 use Rattle.pk_schedule.proofs.Running.{job_leaves, job_breaks, same_leaves, front_same, into_then, index_then, moves_then}
-use Rattle.pk_base.proofs.Logic.{not_both}
 
 -- the fault of an answer
 pub fault_is : {Y : Type 0} (a b : Fault) → ◌≡◌ {A = Result Y Fault} (Err a) (Err b) → a ≡ b

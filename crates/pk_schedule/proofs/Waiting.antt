@@ -1,59 +1,29 @@
 -- A merge whose output is complete: what its install requires.
 use Rattle.std.proofs.Common.{◌≡◌, inl, inr, ℕ, zero, suc, ◌-◌, ◌/◌, ◌<◌, ◌≤◌, true, T, List, [], ◌∷◌, ◌++◌, length, map, slice_set, slice_index_or, Some, None, Ok, refl, sym, ap, subst, ◌∙◌, arith}
 use Rattle.std.proofs.Common.{le→leb}
-use Rattle.std.specs.Prelude.{slice_get}
-use Rattle.std.proofs.lemmas.List.{length-set}
-use Rattle.std.specs.List.{concat, AllByRecursion}
-use Rattle.pk_base.specs.Shape.{Shape, IsShape, run_blocks}
-use Rattle.pk_base.specs.Entry.{Entry}
-use Rattle.pk_base.specs.Firsts.{firsts}
-use Rattle.pk_base.specs.Merge.{room, next_merge}
-use Rattle.pk_base.specs.Page.{page_at}
-use Rattle.pk_base.specs.Map.{Map}
+use Rattle.std.{specs.Prelude.slice_get, proofs.lemmas.List.length-set, specs.List.concat, specs.List.AllByRecursion}
+use Rattle.pk_base.{specs.Shape.Shape, specs.Shape.IsShape, specs.Shape.run_blocks, specs.Entry.Entry, specs.Firsts.firsts, specs.Merge.room, specs.Merge.next_merge, specs.Page.page_at, specs.Map.Map}
+use Rattle.pk_base.{proofs.Logic.is_true, specs.declared.sizes.TheConstants.MOST_SPACES}
 use Rattle.pk_meta.specs.Run.{run}
 use Rattle.pk_plan.specs.declared.owner.Owner.TheVariants.{Journal, Meta, Values}
 use Rattle.pk_nand.specs.BoardState.{BoardState}
 use Rattle.pk_rootfmt.specs.Root.{Root, is_root, named, differ}
-use Rattle.pk_pin.specs.Frames.{Frames, AreLeases, times}
-use Rattle.pk_pin.proofs.Leases.{times-append}
-use Rattle.pk_model.specs.Found.{Found}
-use Rattle.pk_model.proofs.Commits.{blocks_of_root, differ_front, apart}
-use Rattle.pk_model.proofs.SamePages.{any_back}
-use Rattle.pk_pool.specs.declared.state.BlockState.TheVariants.{Owned}
-use Rattle.pk_pool.specs.Blocks.{given_back, Blocks, IsShared}
-use Rattle.pk_pool.proofs.Sharing.{behind_roots, exists}
+use Rattle.pk_pin.{specs.Frames.Frames, specs.Frames.AreLeases, specs.Frames.times, proofs.Leases.times-append}
+use Rattle.pk_model.{specs.Found.Found, proofs.Commits.blocks_of_root, proofs.Commits.differ_front, proofs.Commits.apart, proofs.SamePages.any_back, specs.RootLimits.root_spaces}
+use Rattle.pk_pool.{specs.declared.state.BlockState.TheVariants.Owned, specs.Blocks.given_back, specs.Blocks.Blocks, specs.Blocks.IsShared, proofs.Sharing.behind_roots, proofs.Sharing.exists}
 use Rattle.pk_pool.proofs.States.{owned_is_not_root}
-use Rattle.pk_run.specs.Kept.{Kept, empty}
-use Rattle.pk_level.specs.Levels.{Levels, IsLevels, run_of, with_run}
-use Rattle.pk_level.specs.Arenas.{leases_of, IsPinnedIf}
-use Rattle.pk_law_steps.specs.Merging.{IsMerged, output_of, blocks_at}
-use Rattle.pk_law_steps.proofs.FourRuns.{IsLevel, next_is_level}
-use Rattle.pk_law_steps.proofs.Freeing.{in_one}
-use Rattle.pk_law_steps.proofs.NewestBlocks.{valid_root}
-use Rattle.pk_law_steps.proofs.Outputs.{output_fits}
-use Rattle.pk_law_steps.proofs.Places.{In, differ_back}
-use Rattle.pk_law_steps.proofs.Spelling.{merged_grammar}
-use Rattle.pk_run.specs.Leases.{AreLeased}
+use Rattle.pk_run.{specs.Kept.Kept, specs.Kept.empty, specs.Leases.AreLeased, proofs.Leasing.are_leased, proofs.Pieces.run_in}
+use Rattle.pk_level.{specs.Levels.Levels, specs.Levels.IsLevels, specs.Levels.run_of, specs.Levels.with_run, specs.Arenas.leases_of, specs.Arenas.IsPinnedIf}
+use Rattle.pk_law_steps.{specs.Merging.IsMerged, specs.Merging.output_of, specs.Merging.blocks_at, proofs.FourRuns.IsLevel, proofs.FourRuns.next_is_level, proofs.Freeing.in_one}
+use Rattle.pk_law_steps.{proofs.NewestBlocks.valid_root, proofs.Outputs.output_fits, proofs.Places.In, proofs.Places.differ_back, proofs.Spelling.merged_grammar, proofs.OutputSpaces.output_in_spaces}
 use Rattle.pk_merge.specs.Jobs.{Job, IsIdle, AreOwned, all_spare, held_at, taken_from, given_to, pins}
-use Rattle.pk_merge.specs.Laws.{IsFormer, done_with}
-use Rattle.pk_merge.proofs.Ending.{idle_one}
-use Rattle.pk_run.proofs.Leasing.{are_leased}
+use Rattle.pk_merge.{specs.Laws.IsFormer, specs.Laws.done_with, proofs.Ending.idle_one}
 use Rattle.pk_compact.specs.FreezeSteps.{taken_by}
 use Rattle.pk_log.specs.MergeSteps.{MayPrepare, MayMerge}
-use Rattle.pk_schedule.specs.declared.phase.Phase.TheVariants.{Ready}
-use Rattle.pk_schedule.specs.Exchanges.{CanExchange, Exchanges, CanFree, CanEndFirst, CanEndDeep}
-use Rattle.pk_schedule.specs.Index.{Index, MergeStands, MergeWaits, output}
-use Rattle.pk_schedule.specs.Steps.{MayWork}
-use Rattle.pk_schedule.proofs.Backlogs.{frozen_is}
-use Rattle.pk_schedule.proofs.Ended.{SecondRun, second_run}
-use Rattle.pk_schedule.proofs.Giving.{GivesBack, gives_back, one_owner}
+use Rattle.pk_schedule.{specs.declared.phase.Phase.TheVariants.Ready, specs.Index.Index, specs.Index.MergeStands, specs.Index.MergeWaits, specs.Index.output, specs.Steps.MayWork, proofs.Grown.got_in}
+use Rattle.pk_schedule.{specs.Exchanges.CanExchange, specs.Exchanges.Exchanges, specs.Exchanges.CanFree, specs.Exchanges.CanEndFirst, specs.Exchanges.CanEndDeep, proofs.Backlogs.frozen_is}
+use Rattle.pk_schedule.{proofs.Ended.SecondRun, proofs.Ended.second_run, proofs.Giving.GivesBack, proofs.Giving.gives_back, proofs.Giving.one_owner}
 use Rattle.pk_schedule.proofs.Replacing.{blocks_at_level, of_level, at_other, leases_set, places_differ}
-use Rattle.pk_base.proofs.Logic.{is_true}
-use Rattle.pk_schedule.proofs.Grown.{got_in}
-use Rattle.pk_run.proofs.Pieces.{run_in}
-use Rattle.pk_base.specs.declared.sizes.TheConstants.{MOST_SPACES}
-use Rattle.pk_model.specs.RootLimits.{root_spaces}
-use Rattle.pk_law_steps.proofs.OutputSpaces.{output_in_spaces}
 
 -- ---- different runs
 

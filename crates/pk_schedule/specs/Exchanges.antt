@@ -4,13 +4,10 @@ use Rattle.std.specs.List.{AllByRecursion}
 use Rattle.pk_base.specs.Page.{Flash}
 use Rattle.pk_pin.specs.Frames.{Frames, AreLeases}
 use Rattle.pk_plan.specs.declared.owner.Owner.TheVariants.{Journal}
-use Rattle.pk_pool.specs.declared.state.BlockState.TheVariants.{Owned}
-use Rattle.pk_pool.specs.Blocks.{given_back, Blocks, PoolOnFlash}
-use Rattle.pk_pool.specs.Unready.{unready}
+use Rattle.pk_pool.{specs.declared.state.BlockState.TheVariants.Owned, specs.Blocks.given_back, specs.Blocks.Blocks, specs.Blocks.PoolOnFlash, specs.Unready.unready}
 use Rattle.pk_rootfmt.specs.Root.{differ}
-use Rattle.pk_run.specs.Kept.{Kept}
+use Rattle.pk_run.{specs.Kept.Kept, specs.Leases.AreLeased, specs.Leases.LeavesOthers, specs.Leases.given_all}
 use Rattle.pk_level.specs.Levels.{Levels, IsOfLevel, run_of, with_run}
-use Rattle.pk_run.specs.Leases.{AreLeased, LeavesOthers, given_all}
 use Rattle.pk_merge.specs.Jobs.{Job, AreOwned, held_at, taken_from, given_to, ended}
 
 -- The job has this run for the level, which may be there, and what the former one has may be freed.

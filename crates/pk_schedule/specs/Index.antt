@@ -1,39 +1,22 @@
 -- The index of a drive, which records where the value of each key is: its log and its runs, the blocks of both, and the jobs that keep the lists short.
 use Rattle.std.specs.Prelude.{◌≡◌, ◌⊎◌, ℕ, ◌+◌, ◌-◌, ◌<◌, List, [], length, map, ◌==◌, ◌++◌, if◌then◌else◌, slice_get, Some, true, false}
-use Rattle.std.specs.Borrow.{Bor}
-use Rattle.std.specs.List.{concat, AllByRecursion}
-use Rattle.pk_base.specs.Shape.{Shape, pinned}
-use Rattle.pk_base.specs.Entry.{Entry}
-use Rattle.pk_base.specs.Firsts.{firsts}
-use Rattle.pk_base.specs.Merge.{next_merge}
-use Rattle.pk_base.specs.Page.{Flash}
-use Rattle.pk_plan.specs.declared.owner.Owner.{Owner}
-use Rattle.pk_plan.specs.declared.owner.Owner.TheVariants.{Journal, Meta, Values}
+use Rattle.std.{specs.Borrow.Bor, specs.List.concat, specs.List.AllByRecursion}
+use Rattle.pk_base.{specs.Shape.Shape, specs.Shape.pinned, specs.Entry.Entry, specs.Firsts.firsts, specs.Merge.next_merge, specs.Page.Flash, specs.Map.Map}
+use Rattle.pk_plan.{specs.declared.owner.Owner.Owner, specs.declared.owner.Owner.TheVariants.Journal, specs.declared.owner.Owner.TheVariants.Meta, specs.declared.owner.Owner.TheVariants.Values}
 use Rattle.pk_rootfmt.specs.Root.{Root, named, differ}
 use Rattle.pk_pin.specs.Frames.{Frames}
 use Rattle.pk_pool.specs.declared.state.BlockState.TheVariants.{Owned, Free}
 use Rattle.pk_pool.specs.Blocks.{Blocks, PoolOnFlash, NoneLeaves, used_by, freed}
 use Rattle.pk_run.specs.Kept.{Kept}
-use Rattle.pk_level.specs.Levels.{Levels, RunsOnFlash, HaveBlocks, run_of}
-use Rattle.pk_level.specs.Arenas.{HasArena}
-use Rattle.pk_model.specs.Found.{Found}
-use Rattle.pk_model.specs.Laws.{AnyByRecursion}
-use Rattle.pk_model.specs.Tree.{run_at}
+use Rattle.pk_level.{specs.Levels.Levels, specs.Levels.RunsOnFlash, specs.Levels.HaveBlocks, specs.Levels.run_of, specs.Arenas.HasArena}
+use Rattle.pk_model.{specs.Found.Found, specs.Laws.AnyByRecursion, specs.Tree.run_at}
 use Rattle.pk_law_steps.specs.Merging.{output_of as whole_output}
-use Rattle.pk_merge.specs.declared.source.Source.{Source}
-use Rattle.pk_merge.specs.declared.source.Source.TheVariants.{Frozen, Run}
-use Rattle.pk_merge.specs.Jobs.{Job, JobRuns, IsIdle, all_spare, without, pins, output_of}
-use Rattle.pk_merge.specs.Merging.{IsDone}
-use Rattle.pk_merge.specs.Running.{IsOutputWhole}
-use Rattle.pk_compact.specs.declared.freezing.FreezeJob.{FreezeJob}
-use Rattle.pk_compact.specs.FreezeSteps.{IsTaken, taken_by}
-use Rattle.pk_compact.specs.Installing.{IsHalf}
+use Rattle.pk_merge.{specs.declared.source.Source.Source, specs.declared.source.Source.TheVariants.Frozen, specs.declared.source.Source.TheVariants.Run, specs.Merging.IsDone}
+use Rattle.pk_merge.{specs.Jobs.Job, specs.Jobs.JobRuns, specs.Jobs.IsIdle, specs.Jobs.all_spare, specs.Jobs.without, specs.Jobs.pins, specs.Jobs.output_of, specs.Running.IsOutputWhole}
+use Rattle.pk_compact.{specs.declared.freezing.FreezeJob.FreezeJob, specs.FreezeSteps.IsTaken, specs.FreezeSteps.taken_by, specs.Installing.IsHalf}
 use Rattle.pk_root.specs.Installing.{repeats_next}
-use Rattle.pk_base.specs.Map.{Map}
-use Rattle.pk_schedule.specs.declared.phase.Phase.{Phase}
-use Rattle.pk_schedule.specs.declared.phase.Phase.TheVariants.{Idle, Running, Ready}
-use Rattle.pk_log.specs.State.{LogState}
-use Rattle.pk_log.specs.Logs.{LogOnFlash}
+use Rattle.pk_schedule.{specs.declared.phase.Phase.Phase, specs.declared.phase.Phase.TheVariants.Idle, specs.declared.phase.Phase.TheVariants.Running, specs.declared.phase.Phase.TheVariants.Ready}
+use Rattle.pk_log.{specs.State.LogState, specs.Logs.LogOnFlash}
 
 -- The job of merges, how far the merge that runs is, and how far the freeze is.
 pub record Schedule : Type 0 where

@@ -1,7 +1,6 @@
 -- Two sources of merges that show the same.
 use Rattle.std.specs.Prelude.{◌≡◌}
-use Rattle.pk_merge.specs.declared.source.Source.{Source}
-use Rattle.pk_merge.specs.declared.source.Source.TheVariants.{Frozen, Run}
+use Rattle.pk_merge.{specs.declared.source.Source.Source, specs.declared.source.Source.TheVariants.Frozen, specs.declared.source.Source.TheVariants.Run}
 
 -- the same buffer, or the same run
 abbrev pub ShowsSame : {X Y : Type 0} → Source X → Source Y → Type 0

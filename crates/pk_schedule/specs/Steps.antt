@@ -1,37 +1,22 @@
 -- What a step of the jobs asks of an index and its flash, and what it leaves.
 use Rattle.std.specs.Prelude.{◌≡◌, ◌⊎◌, ℕ, ◌+◌, ◌/◌, ◌<◌, ◌≤◌, [], length, map, Bool, true, false, ◌==◌, ◌&&◌, if◌then◌else◌, slice_get, Option, Some, None}
-use Rattle.pk_base.specs.Shape.{Shape}
-use Rattle.pk_base.specs.Page.{Flash, page_at}
-use Rattle.pk_base.specs.Map.{Map}
-use Rattle.pk_law_work.specs.Backlog.{Backlog, due_level}
-use Rattle.pk_law_work.specs.Rest.{Lowers}
-use Rattle.pk_law_work.specs.Work.{work, merging_left}
-use Rattle.pk_nand.specs.BoardState.{BoardState}
-use Rattle.pk_nand.specs.Calls.{IsReady, Rose}
-use Rattle.pk_nand.specs.Effects.{AtMostOneCall, OnlyFlash, OnlyReading}
+use Rattle.pk_base.{specs.Shape.Shape, specs.Page.Flash, specs.Page.page_at, specs.Map.Map}
+use Rattle.pk_law_work.{specs.Backlog.Backlog, specs.Backlog.due_level, specs.Rest.Lowers, specs.Work.work, specs.Work.merging_left}
+use Rattle.pk_nand.{specs.BoardState.BoardState, specs.Calls.IsReady, specs.Calls.Rose, specs.Effects.AtMostOneCall, specs.Effects.OnlyFlash, specs.Effects.OnlyReading}
 use Rattle.pk_plan.specs.declared.owner.Owner.TheVariants.{Values}
 use Rattle.pk_rootfmt.specs.Root.{Root, last_number}
-use Rattle.pk_pool.specs.declared.state.BlockState.TheVariants.{Owned}
-use Rattle.pk_pool.specs.Blocks.{Blocks, used_by, freed}
-use Rattle.pk_pool.specs.Unready.{unready}
-use Rattle.pk_root.specs.declared.next.Next.{Next}
-use Rattle.pk_root.specs.Installing.{repeats_next}
+use Rattle.pk_pool.{specs.declared.state.BlockState.TheVariants.Owned, specs.Blocks.Blocks, specs.Blocks.used_by, specs.Blocks.freed, specs.Unready.unready}
+use Rattle.pk_root.{specs.declared.next.Next.Next, specs.Installing.repeats_next}
 use Rattle.pk_run.specs.Kept.{most_pages, most_blocks}
-use Rattle.pk_level.specs.Levels.{run_of}
-use Rattle.pk_level.specs.Arenas.{unfilled}
-use Rattle.pk_model.specs.Found.{Found}
-use Rattle.pk_model.specs.Growth.{Grows, Reaches, Goes}
-use Rattle.pk_model.specs.Wear.{roots, root_number}
-use Rattle.pk_model.specs.Crashes.{CrashFinds, background}
+use Rattle.pk_level.{specs.Levels.run_of, specs.Arenas.unfilled}
+use Rattle.pk_model.{specs.Found.Found, specs.Growth.Grows, specs.Growth.Reaches, specs.Growth.Goes, specs.Wear.roots, specs.Wear.root_number, specs.Crashes.CrashFinds, specs.Crashes.background}
 use Rattle.pk_law_steps.specs.Under.{IsUnder, IsValuePage, places}
 use Rattle.pk_merge.specs.Remaining.{steps_left}
-use Rattle.pk_compact.specs.declared.freezing.FreezeJob.{FreezeJob}
-use Rattle.pk_compact.specs.declared.freezing.FreezeJob.TheVariants.{Idle as NoFreeze}
+use Rattle.pk_compact.{specs.declared.freezing.FreezeJob.FreezeJob, specs.declared.freezing.FreezeJob.TheVariants.Idle as NoFreeze}
 use Rattle.pk_compact.specs.FreezeSteps.{freeze_left, install_steps, taken_by}
-use Rattle.pk_schedule.specs.declared.phase.Phase.{Phase}
-use Rattle.pk_schedule.specs.declared.phase.Phase.TheVariants.{Idle, Running, Ready}
-pub use Rattle.pk_log.specs.MergeSteps.{KeepsActive}
+use Rattle.pk_schedule.{specs.declared.phase.Phase.Phase, specs.declared.phase.Phase.TheVariants.Idle, specs.declared.phase.Phase.TheVariants.Running, specs.declared.phase.Phase.TheVariants.Ready}
 use Rattle.pk_schedule.specs.Index.{Index, IndexOnFlash, IsSettled, HalfStands, settled, output, source_at}
+pub use Rattle.pk_log.specs.MergeSteps.{KeepsActive}
 
 -- ---- what remains
 

@@ -1,15 +1,9 @@
 -- A block that was just erased.
 use Rattle.std.proofs.Common.{◌≡◌, ◌<◌, ◌≤◌, ◌+◌, ◌-◌, ◌*◌, ◌/◌, ◌%◌, ℕ, suc, length, subst, arith, zero-add}
-use Rattle.std.proofs.Math.Nat.{suc-mul, mul-le-mul_right, mul-mod_left}
-use Rattle.std.proofs.lemmas.Nat.{div-mul-add}
-use Rattle.pk_base.specs.Shape.{Shape, page_count}
-use Rattle.pk_base.specs.Page.{Flash, page_at, erased}
-use Rattle.pk_base.specs.Mark.{erase, after}
-use Rattle.pk_nand.specs.BoardState.{BoardState}
-use Rattle.pk_nand.specs.Calls.{IsReady}
-use Rattle.pk_nand.specs.Operations.{InOrder, after_erase}
+use Rattle.std.{proofs.Math.Nat.suc-mul, proofs.Math.Nat.mul-le-mul_right, proofs.Math.Nat.mul-mod_left, proofs.lemmas.Nat.div-mul-add}
+use Rattle.pk_base.{specs.Shape.Shape, specs.Shape.page_count, specs.Page.Flash, specs.Page.page_at, specs.Page.erased, specs.Mark.erase, specs.Mark.after}
+use Rattle.pk_nand.{specs.BoardState.BoardState, specs.Calls.IsReady, specs.Operations.InOrder, specs.Operations.after_erase, proofs.Writing.shape_is}
 use Rattle.pk_nand.proofs.Leaving.{page-erased_in, IsFlash-after, full_erase}
-use Rattle.pk_nand.proofs.Writing.{shape_is}
 
 erased_page : (shape : Shape) (flash : Flash) (b k : ℕ) → length flash ≡ page_count shape → b < shape.blocks → b * shape.block_pages ≤ k → k < b * shape.block_pages + shape.block_pages
     → page_at (after shape (erase b) flash) k ≡ erased

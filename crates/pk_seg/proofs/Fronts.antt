@@ -1,18 +1,10 @@
 -- A prefix of a value by its pages.
 use Rattle.std.proofs.Common.{◌≡◌, ◌⊎◌, inl, inr, ◌<◌, ◌≤◌, ◌+◌, ◌-◌, ◌*◌, ℕ, zero, suc, List, ◌++◌, length, take, drop, refl, sym, ◌∙◌, ap, subst, arith}
-use Rattle.std.specs.Prelude.{min}
-use Rattle.std.proofs.Math.Nat.{lt_of_mul-lt-mul_right}
-use Rattle.std.proofs.Math.Seq.{take-add, take-take, drop-drop}
+use Rattle.std.{specs.Prelude.min, proofs.Math.Nat.lt_of_mul-lt-mul_right, proofs.Math.Seq.take-add, proofs.Math.Seq.take-take, proofs.Math.Seq.drop-drop, proofs.lemmas.Bool.cases_lt}
 use Rattle.std.proofs.lemmas.List.{append_assoc, drop-take, take-append-le, length-take, take_all, drop_at}
-use Rattle.std.proofs.lemmas.Bool.{cases_lt}
-use Rattle.pk_base.specs.Fields.{zeros}
-use Rattle.pk_base.specs.Key.{Key, IsKey}
-use Rattle.pk_base.specs.Shape.{Shape, IsShape, charge, fetched}
+use Rattle.pk_base.{specs.Fields.zeros, specs.Key.Key, specs.Key.IsKey, specs.Shape.Shape, specs.Shape.IsShape, specs.Shape.charge, specs.Shape.fetched, proofs.Tables.length-padded}
 use Rattle.pk_base.proofs.ShapeLemmas.{fetched_needed, charge_room}
-use Rattle.pk_base.proofs.Tables.{length-padded}
-use Rattle.pk_segfmt.specs.Value.{head_bytes, value_bytes}
-use Rattle.pk_segfmt.specs.Stored.{page_of}
-use Rattle.pk_segfmt.proofs.StoredLemmas.{length-head_bytes, page_is}
+use Rattle.pk_segfmt.{specs.Value.head_bytes, specs.Value.value_bytes, specs.Stored.page_of, proofs.StoredLemmas.length-head_bytes, proofs.StoredLemmas.page_is}
 
 -- a piece that is cut from a page of a text, if the text goes on after the first h bytes
 cut_piece : (h d s p a m : ℕ) (text : List ℕ) → s + a ≡ h + d → s ≤ p → take m (drop s (take p (drop a text))) ≡ take m (take (p - s) (drop d (drop h text)))

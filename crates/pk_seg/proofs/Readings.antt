@@ -1,23 +1,12 @@
 -- Boards that are read.
 use Rattle.std.proofs.Common.{◌≡◌, ◌<◌, ◌≤◌, ◌+◌, ◌-◌, ◌*◌, ℕ, zero, suc, List, [], ◌∷◌, ◌++◌, length, length-drop, take, drop, refl, sym, ◌∙◌, ap, subst, arith}
-use Rattle.std.specs.Prelude.{min}
-use Rattle.std.proofs.Math.Nat.{add-mul, mul-le-mul_right}
-use Rattle.std.proofs.lemmas.List.{take_all, length-take-le}
-use Rattle.std.proofs.lemmas.Slice.{take-put_mid}
+use Rattle.std.{specs.Prelude.min, proofs.Math.Nat.add-mul, proofs.Math.Nat.mul-le-mul_right, proofs.lemmas.List.take_all, proofs.lemmas.List.length-take-le, proofs.lemmas.Slice.take-put_mid}
 use borrow.Rule.Slice.PartMut.{put_mid}
-use Rattle.pk_base.specs.Key.{Key}
-use Rattle.pk_base.specs.Shape.{Shape, IsShape, fetched}
-use Rattle.pk_base.specs.Page.{Flash, page_at, whole, torn}
-use Rattle.pk_nand.specs.BoardState.{BoardState}
-use Rattle.pk_nand.specs.Calls.{IsReady}
-use Rattle.pk_nand.specs.Operations.{after_read, ReadFailed}
-use Rattle.pk_segfmt.specs.Value.{value_bytes}
-use Rattle.pk_segfmt.specs.Stored.{page_of}
-use Rattle.pk_nand.specs.Counts.{after_reads}
-use Rattle.pk_seg.specs.Counts.{ReadsFailed}
-use Rattle.pk_seg.specs.Stored.{IsFront, BringsPiece}
+use Rattle.pk_base.{specs.Key.Key, specs.Shape.Shape, specs.Shape.IsShape, specs.Shape.fetched, specs.Page.Flash, specs.Page.page_at, specs.Page.whole, specs.Page.torn}
 use Rattle.pk_base.proofs.ShapeLemmas.{fetched_needed, fetched_room}
-use Rattle.pk_seg.proofs.Fronts.{front_next, value_front, fetched_within}
+use Rattle.pk_nand.{specs.BoardState.BoardState, specs.Calls.IsReady, specs.Operations.after_read, specs.Operations.ReadFailed, specs.Counts.after_reads}
+use Rattle.pk_segfmt.{specs.Value.value_bytes, specs.Stored.page_of}
+use Rattle.pk_seg.{specs.Counts.ReadsFailed, specs.Stored.IsFront, specs.Stored.BringsPiece, proofs.Fronts.front_next, proofs.Fronts.value_front, proofs.Fronts.fetched_within}
 
 whole_not_torn : (bytes : List ℕ) → torn ≡ whole bytes → ⊥
 whole_not_torn bytes e = cc

@@ -1,9 +1,6 @@
 -- Consecutive reads.
 use Rattle.std.specs.Prelude.{ℕ, ◌+◌, ◌<◌}
-use Rattle.pk_nand.specs.BoardState.{BoardState}
-use Rattle.pk_nand.specs.Calls.{Rose}
-use Rattle.pk_nand.specs.Operations.{ReadFailed}
-use Rattle.pk_nand.specs.Counts.{after_reads}
+use Rattle.pk_nand.{specs.BoardState.BoardState, specs.Calls.Rose, specs.Operations.ReadFailed, specs.Counts.after_reads}
 
 -- of n reads from this page on one failed, after others that did not
 pub record ReadsFailed (old new : BoardState) (page n : ℕ) : Type 0 where

@@ -1,14 +1,8 @@
 -- Values on a board, and the board while one is written.
 use Rattle.std.specs.Prelude.{◌≡◌, ℕ, zero, suc, ◌+◌, ◌-◌, ◌*◌, ◌<◌, ◌≤◌, List, ◌++◌, length, take, drop, min}
-use Rattle.pk_base.specs.declared.sizes.TheConstants.{HEAD_BYTES}
-use Rattle.pk_base.specs.Key.{Key}
-use Rattle.pk_base.specs.Shape.{Shape, charge}
-use Rattle.pk_base.specs.Page.{Flash, page_at, whole}
-use Rattle.pk_nand.specs.BoardState.{BoardState}
-use Rattle.pk_nand.specs.Calls.{Rose, after_program, ProgramFailed}
-use Rattle.pk_segfmt.specs.Head.{IsHead}
-use Rattle.pk_segfmt.specs.Value.{head_bytes}
-use Rattle.pk_segfmt.specs.Stored.{page_of, IsStored}
+use Rattle.pk_base.{specs.declared.sizes.TheConstants.HEAD_BYTES, specs.Key.Key, specs.Shape.Shape, specs.Shape.charge, specs.Page.Flash, specs.Page.page_at, specs.Page.whole}
+use Rattle.pk_nand.{specs.BoardState.BoardState, specs.Calls.Rose, specs.Calls.after_program, specs.Calls.ProgramFailed}
+use Rattle.pk_segfmt.{specs.Head.IsHead, specs.Value.head_bytes, specs.Stored.page_of, specs.Stored.IsStored}
 
 -- from this page on are the pages of a value of at least n bytes
 pub record IsFront (shape : Shape) (flash : Flash) (page n : ℕ) (key : Key) (value : List ℕ) : Type 0 where

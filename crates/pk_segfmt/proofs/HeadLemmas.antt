@@ -1,20 +1,12 @@
 -- The check of a head passes exactly the bytes of heads.
 use Rattle.std.proofs.Common.{◌≡◌, ℕ, ◌+◌, ◌-◌, ◌^◌, ◌<◌, ◌≤◌, true, List, [], ◌∷◌, length, take, drop, get_or, refl, sym, ap, subst, ◌∙◌, arith, length-drop, Some, None}
 use Rattle.std.specs.Prelude.{nat_eq, nat_le, nat_lt, ◌&&◌, Result, Ok, Err, IfOk, MatchResult}
-use Rattle.std.proofs.lemmas.Bool.Decides.{nat_tests}
-use Rattle.std.proofs.lemmas.List.{drop_more, drop_all, length-take-le}
-use Rattle.pk_base.specs.Fields.{number_at, u32, padded, zeros}
-use Rattle.pk_base.specs.FieldFaults.{unlike}
-use Rattle.pk_base.specs.Shape.{Shape, IsShape, greatest}
-use Rattle.pk_base.specs.Key.{Key, IsKey, space_of, bytes_of}
-use Rattle.pk_base.specs.EntryBytes.{cell_key}
-use Rattle.pk_base.specs.declared.sizes.TheConstants.{MOST_SPACES}
-use Rattle.pk_base.proofs.ShapeLemmas.{greatest_most}
+use Rattle.std.{proofs.lemmas.Bool.Decides.nat_tests, proofs.lemmas.List.drop_more, proofs.lemmas.List.drop_all, proofs.lemmas.List.length-take-le}
+use Rattle.pk_base.{specs.Fields.number_at, specs.Fields.u32, specs.Fields.padded, specs.Fields.zeros, specs.FieldFaults.unlike, specs.Shape.Shape, specs.Shape.IsShape, specs.Shape.greatest}
+use Rattle.pk_base.{specs.Key.Key, specs.Key.IsKey, specs.Key.space_of, specs.Key.bytes_of, specs.EntryBytes.cell_key, specs.declared.sizes.TheConstants.MOST_SPACES, proofs.ShapeLemmas.greatest_most}
 use Rattle.pk_base.proofs.Tables.{◌⊕◌, field_none, none_field, AllNone, all_none, first_none, unless_true, true_unless, unlike_stands, stands_byte, stands_unlike, number_stands, stands_number, Stand}
 use Rattle.pk_base.proofs.Tables.{AreSized, stand_spelled, spelled_stand, padded_stands, stands_padded, length-padded}
-use Rattle.pk_segfmt.specs.declared.found.Head.{Head}
-use Rattle.pk_segfmt.specs.declared.found.BadHead.{BadHead}
-use Rattle.pk_segfmt.specs.Head.{value_magic, IsHead, head_checks, head_fault}
+use Rattle.pk_segfmt.{specs.declared.found.Head.Head, specs.declared.found.BadHead.BadHead, specs.Head.value_magic, specs.Head.IsHead, specs.Head.head_checks, specs.Head.head_fault}
 use Rattle.pk_segfmt.specs.Value.{head_bytes}
 
 rows : Key → ℕ → List (ℕ × List ℕ)

@@ -1,7 +1,6 @@
 -- Pages are cut from a text that zeros fill up.
 use Rattle.std.proofs.Common.{◌≡◌, ℕ, zero, suc, ◌+◌, ◌-◌, ◌≤◌, List, [], ◌∷◌, ◌++◌, length, take, drop, refl, sym, ap, ◌∙◌, arith, length-append, length-drop}
-use Rattle.std.specs.Prelude.{min}
-use Rattle.std.proofs.lemmas.List.{append_assoc, take-replicate, drop-replicate, length-take}
+use Rattle.std.{specs.Prelude.min, proofs.lemmas.List.append_assoc, proofs.lemmas.List.take-replicate, proofs.lemmas.List.drop-replicate, proofs.lemmas.List.length-take}
 use Rattle.pk_base.specs.Fields.{padded, zeros}
 
 pub drop_past : (n : ℕ) (xs ys : List ℕ) → drop n (xs ++ ys) ≡ drop n xs ++ drop (n - length xs) ys

@@ -1,19 +1,11 @@
 -- The pages that a value has are the pages in which the reading of a flash finds it.
 use Rattle.std.proofs.Common.{◌≡◌, ℕ, zero, suc, ◌+◌, ◌-◌, ◌*◌, ◌<◌, ◌≤◌, Bool, true, false, List, [], ◌∷◌, ◌++◌, length, take, drop, refl, sym, ap, ◌∙◌, arith, length-append, length-drop}
-use Rattle.std.specs.Prelude.{min, nat_eq, ◌==◌, Result, Ok, Err}
-use Rattle.std.specs.List.{list_all, starts_with}
-use Rattle.std.proofs.lemmas.Bool.Decides.{Decides-eqb, nat_tests}
-use Rattle.std.proofs.lemmas.Slice.Eq.{starts_is}
+use Rattle.std.{specs.Prelude.min, specs.Prelude.nat_eq, specs.Prelude.◌==◌, specs.Prelude.Result, specs.Prelude.Ok, specs.Prelude.Err, specs.List.list_all, specs.List.starts_with}
+use Rattle.std.{proofs.lemmas.Bool.Decides.Decides-eqb, proofs.lemmas.Bool.Decides.nat_tests, proofs.lemmas.Slice.Eq.starts_is}
 use Rattle.std.proofs.lemmas.List.{take_all, drop_all, drop-drop, drop-replicate, length-take, length-replicate, take-append-drop, append_cancel_left, nil_from_length, append-nil}
-use Rattle.pk_base.specs.Fields.{padded, zeros}
-use Rattle.pk_base.specs.Shape.{Shape}
-use Rattle.pk_base.specs.Page.{Page, erased, whole, torn}
-use Rattle.pk_base.specs.Refusal.{Refusal, ◌>>=◌, ensure}
-use Rattle.pk_base.proofs.Tables.{length-padded}
-use Rattle.pk_segfmt.specs.Value.{value_page, value_from}
-use Rattle.pk_segfmt.specs.Stored.{AreFull}
-use Rattle.pk_segfmt.proofs.PageLemmas.{drop_past, take_past}
-use Rattle.pk_base.proofs.Logic.{both_true}
+use Rattle.pk_base.{specs.Fields.padded, specs.Fields.zeros, specs.Shape.Shape, specs.Page.Page, specs.Page.erased, specs.Page.whole, specs.Page.torn, proofs.Tables.length-padded}
+use Rattle.pk_base.{specs.Refusal.Refusal, specs.Refusal.◌>>=◌, specs.Refusal.ensure, proofs.Logic.both_true}
+use Rattle.pk_segfmt.{specs.Value.value_page, specs.Value.value_from, specs.Stored.AreFull, proofs.PageLemmas.drop_past, proofs.PageLemmas.take_past}
 
 -- ---- the tests of the reading
 

@@ -1,10 +1,7 @@
 -- The head of a value: what it holds, and the first field that is wrong.
 use Rattle.std.specs.Prelude.{ℕ, ◌+◌, ◌-◌, ◌≤◌, List, [], ◌∷◌, slice_index, ◌==◌, ◌&&◌, nat_le, nat_lt, Option}
-use Rattle.pk_base.specs.declared.sizes.TheConstants.{KEY_BYTES, MOST_SPACES}
-use Rattle.pk_base.specs.Fields.{number_at, field, zeros}
-use Rattle.pk_base.specs.FieldFaults.{unlike, unless, first_fault}
-use Rattle.pk_base.specs.Shape.{Shape, greatest}
-use Rattle.pk_base.specs.Key.{Key, IsKey}
+use Rattle.pk_base.{specs.declared.sizes.TheConstants.KEY_BYTES, specs.declared.sizes.TheConstants.MOST_SPACES, specs.Fields.number_at, specs.Fields.field, specs.Fields.zeros}
+use Rattle.pk_base.{specs.FieldFaults.unlike, specs.FieldFaults.unless, specs.FieldFaults.first_fault, specs.Shape.Shape, specs.Shape.greatest, specs.Key.Key, specs.Key.IsKey}
 use Rattle.pk_segfmt.specs.declared.heads.TheConstants.{KIND}
 
 -- PINKDATA

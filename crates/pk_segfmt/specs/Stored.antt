@@ -1,12 +1,7 @@
 -- The pages of a value, each by its number, and a flash that has them.
 use Rattle.std.specs.Prelude.{◌≡◌, ℕ, ◌+◌, ◌*◌, ◌<◌, List, length, take, drop, Ok}
-use Rattle.pk_base.specs.declared.sizes.TheConstants.{HEAD_BYTES}
-use Rattle.pk_base.specs.Key.{Key}
-use Rattle.pk_base.specs.Shape.{Shape, IsShape, charge}
-use Rattle.pk_base.specs.Entry.{Place}
-use Rattle.pk_base.specs.Page.{Page, whole}
-use Rattle.pk_segfmt.specs.Value.{head_bytes, value_bytes, value_at}
-use Rattle.pk_segfmt.specs.Head.{IsHead}
+use Rattle.pk_base.{specs.declared.sizes.TheConstants.HEAD_BYTES, specs.Key.Key, specs.Shape.Shape, specs.Shape.IsShape, specs.Shape.charge, specs.Entry.Place, specs.Page.Page, specs.Page.whole}
+use Rattle.pk_segfmt.{specs.Value.head_bytes, specs.Value.value_bytes, specs.Value.value_at, specs.Head.IsHead}
 
 -- page i of a value
 unfoldable pub page_of : Shape → Key → List ℕ → ℕ → List ℕ

@@ -1,12 +1,8 @@
 -- No answer on a map is an unrecovered read error.
 use Rattle.std.proofs.Common.{arith, unwrap_or, ◌≡◌, ◌≢◌, ℕ, List, length, Option, Some, None, refl, ap, Bool, true, false, nat_le, replicate, ◌&&◌, ◌||◌, not}
 use Rattle.std.specs.FinMap.{contains_key}
-use Rattle.pk_base.specs.Choices.{or_else}
-use Rattle.pk_base.specs.Shape.{Shape, greatest}
-use Rattle.pk_nvme.specs.Command.{Command, key, must_exist, must_be_new}
-use Rattle.pk_base.specs.Map.{Map}
-use Rattle.pk_nvme.specs.Opcode.{op_of}
-use Rattle.pk_nvme.specs.declared.opcode.Opcode.{Opcode}
+use Rattle.pk_base.{specs.Choices.or_else, specs.Shape.Shape, specs.Shape.greatest, specs.Map.Map}
+use Rattle.pk_nvme.{specs.Command.Command, specs.Command.key, specs.Command.must_exist, specs.Command.must_be_new, specs.Opcode.op_of, specs.declared.opcode.Opcode.Opcode}
 use Rattle.pk_nvme.specs.declared.opcode.Opcode.TheVariants.{Flush, Store, Retrieve, List as ListKeys, Delete, Exist, Tick, Report}
 use Rattle.pk_model.specs.Answer.{check, is_namespace, is_key_length, size_fault, fault_of, early, late_of, live_after, refused, reply, reply_of, Answer, map_after}
 use Rattle.pk_model.specs.Spaces.{Terms, limit_of, in_space}

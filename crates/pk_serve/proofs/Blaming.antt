@@ -1,15 +1,10 @@
 -- What the counts of faults show, whatever the drive represents.
 use Rattle.std.proofs.Common.{◌≡◌, ℕ, sym, subst, ap, ◌∙◌, Bool, List}
 use Rattle.pk_base.specs.Shape.{Shape}
-use Rattle.pk_nand.specs.BoardState.{BoardState}
-use Rattle.pk_nand.specs.Calls.{Rose}
-use Rattle.pk_nand.specs.Operations.{after_post}
-use Rattle.pk_nand.specs.Effects.{OnlyFlash}
-use Rattle.pk_serve.specs.Ends.{HasCause, NoFaults, IsFault, Blames}
+use Rattle.pk_nand.{specs.BoardState.BoardState, specs.Calls.Rose, specs.Operations.after_post, specs.Effects.OnlyFlash, proofs.Effects.rose_from}
+use Rattle.pk_serve.{specs.Ends.HasCause, specs.Ends.NoFaults, specs.Ends.IsFault, specs.Ends.Blames, specs.declared.end.End.End}
 use Rattle.pk_serve.specs.Input.{Entered, Valued, NoValue, TookFailed, NoEntry}
-use Rattle.pk_serve.specs.declared.end.End.{End}
 use Rattle.pk_serve.specs.declared.end.End.TheVariants.{Done, Truncated, Input, Output, Flash, Worn}
-use Rattle.pk_nand.proofs.Effects.{rose_from}
 
 pub quiet-then : (a b c : BoardState) → NoFaults a b → NoFaults b c → NoFaults a c
 quiet-then a b c p q = record { output = q.output ∙ p.output; stop = q.stop ∙ p.stop }

@@ -1,12 +1,9 @@
 -- Counts of flash operations.
 use Rattle.std.proofs.Common.{◌≡◌, ◌≢◌, ℕ, zero, suc, ◌+◌, ◌≤◌, List, [], ◌∷◌, ◌++◌, take, Some, refl, ap, subst, arith}
-use Rattle.pk_base.specs.Shape.{Shape, commit_programs}
-use Rattle.pk_base.specs.Entry.{Entry}
+use Rattle.pk_base.{specs.Shape.Shape, specs.Shape.commit_programs, specs.Entry.Entry}
 use Rattle.pk_nvme.specs.Command.{Command}
-use Rattle.pk_nand.specs.BoardState.{BoardState, shape_of, shape_or_none}
-use Rattle.pk_nand.specs.Counts.{counted_by}
-use Rattle.pk_call.specs.Calling.{FewCalls, most_calls_of}
-use Rattle.pk_call.specs.Commit.{ProgramsOfCommit}
+use Rattle.pk_nand.{specs.BoardState.BoardState, specs.BoardState.shape_of, specs.BoardState.shape_or_none, specs.Counts.counted_by}
+use Rattle.pk_call.{specs.Calling.FewCalls, specs.Calling.most_calls_of, specs.Commit.ProgramsOfCommit}
 use Rattle.pk_serve.specs.Calling.{calls_of, owed, most_calls_of_all}
 
 -- ---- one call of the drive

@@ -1,39 +1,18 @@
 -- The end of a run, and what it says of the whole run.
 use Rattle.std.proofs.Common.{◌≡◌, ◌≢◌, ◌⊎◌, inl, inr, ℕ, ◌≤◌, ◌+◌, List, [], ◌∷◌, ◌++◌, length, refl, sym, ◌∙◌, ap, subst, arith, append-nil, append_assoc, Option, Some, None, Ok}
-use Rattle.pk_base.specs.Shape.{Shape}
-use Rattle.pk_base.specs.Entry.{Entry}
-use Rattle.pk_nvme.specs.Command.{Command}
-use Rattle.pk_nand.specs.BoardState.{BoardState}
-use Rattle.pk_base.specs.Mark.{all_posted}
-use Rattle.pk_nand.specs.Calls.{Rose, longer, put_back, AtEnd}
-use Rattle.pk_base.specs.Map.{Map}
-use Rattle.pk_model.specs.Reading.{reading}
-use Rattle.pk_model.specs.Script.{script}
-use Rattle.pk_model.specs.Run.{Exchange, commands}
 use Rattle.std.proofs.lemmas.List.{length-map}
-use Rattle.pk_call.specs.Sight.{Sight}
-use Rattle.pk_model.specs.Growth.{Goes}
-use Rattle.pk_model.specs.Wear.{is_worn, roots}
+use Rattle.pk_base.{specs.Shape.Shape, specs.Entry.Entry, specs.Mark.all_posted, specs.Map.Map}
+use Rattle.pk_nvme.specs.Command.{Command}
+use Rattle.pk_nand.{specs.BoardState.BoardState, specs.Calls.Rose, specs.Calls.longer, specs.Calls.put_back, specs.Calls.AtEnd}
+use Rattle.pk_model.{specs.Reading.reading, specs.Script.script, specs.Run.Exchange, specs.Run.commands, specs.Growth.Goes, specs.Wear.is_worn, specs.Wear.roots, specs.Kept.rise, specs.Spaces.Terms}
 use Rattle.pk_model.proofs.Growing.{Goes-reaches, weaken_went}
-use Rattle.pk_serve.specs.Ends.{IsFault}
-use Rattle.pk_serve.specs.Serving.{Serving, KeptAt, Flushed, ServingBroken}
-use Rattle.pk_serve.specs.Answered.{Answered, installs}
-use Rattle.pk_model.specs.Kept.{rise}
-use Rattle.pk_serve.specs.Input.{Spells, IsPart, script_after}
-use Rattle.pk_serve.specs.Loop.{Finished, Failed, Finish, Ends}
-use Rattle.pk_serve.specs.Script.{Runs}
-use Rattle.pk_serve.specs.Calling.{calls_of, most_calls_of_all}
+use Rattle.pk_call.{specs.Sight.Sight, specs.Meter.meter}
+use Rattle.pk_serve.{specs.Ends.IsFault, specs.Serving.Serving, specs.Serving.KeptAt, specs.Serving.Flushed, specs.Serving.ServingBroken, specs.Answered.Answered, specs.Answered.installs}
+use Rattle.pk_serve.{specs.Input.Spells, specs.Input.IsPart, specs.Input.script_after, specs.Loop.Finished, specs.Loop.Failed, specs.Loop.Finish, specs.Loop.Ends, specs.Script.Runs}
+use Rattle.pk_serve.{specs.Calling.calls_of, specs.Calling.most_calls_of_all, specs.declared.end.End.End, proofs.Counting.metered-roots, proofs.Counting.metered-unworn, proofs.Counting.few_unworn}
 use Rattle.pk_serve.specs.Run.{Served, ServedBy, KeepsScript, KeepsSome, Answers, ServedSome, Causes, CallsWithin}
-use Rattle.pk_nand.specs.Calls.{put_back, AtEnd}
-use Rattle.pk_serve.specs.declared.end.End.{End}
 use Rattle.pk_serve.specs.declared.end.End.TheVariants.{Done, Truncated, Input, Output, Flash, Worn}
-use Rattle.pk_call.specs.Meter.{meter}
-use Rattle.pk_serve.proofs.Counting.{metered-roots, metered-unworn, few_unworn}
-use Rattle.pk_serve.proofs.Serves.{kept-more}
-use Rattle.pk_serve.proofs.Commanding.{answered-more}
-use Rattle.pk_serve.proofs.Calling.{most_calls-append, most_calls-front}
-use Rattle.pk_serve.proofs.Scripts.{IsPart-entry}
-use Rattle.pk_model.specs.Spaces.{Terms}
+use Rattle.pk_serve.{proofs.Serves.kept-more, proofs.Commanding.answered-more, proofs.Calling.most_calls-append, proofs.Calling.most_calls-front, proofs.Scripts.IsPart-entry}
 
 -- ---- what is held is posted at the end
 

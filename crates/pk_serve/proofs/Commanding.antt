@@ -1,33 +1,15 @@
 -- One command, from what is held before it to what is held after it.
 use Rattle.std.proofs.Common.{◌≡◌, ◌≢◌, inl, inr, refl, ℕ, suc, ◌+◌, ◌≤◌, ◌<◌, List, [], ◌∷◌, ◌++◌, length, sym, ap, ◌∙◌, subst, append-nil, append_assoc, arith}
-use Rattle.pk_base.specs.Shape.{Shape}
-use Rattle.pk_base.specs.Map.{Map}
-use Rattle.pk_nvme.specs.Command.{Command}
-use Rattle.pk_nvme.specs.Reply.{Reply, reply_record}
-use Rattle.pk_nand.specs.BoardState.{BoardState}
-use Rattle.pk_nand.specs.Calls.{Rose}
-use Rattle.pk_model.specs.Run.{Exchange, commands}
-use Rattle.pk_call.specs.Sight.{Sight}
-use Rattle.pk_nand.specs.Effects.{OnlyFlash}
-use Rattle.pk_model.specs.Wear.{roots}
-use Rattle.pk_call.specs.Meter.{reads_after}
-use Rattle.pk_model.specs.Crashes.{CrashFinds, command}
-use Rattle.pk_model.specs.Growth.{Reaches, Goes}
-use Rattle.pk_call.specs.Call.{CallReaches, CallGoes}
-use Rattle.pk_call.specs.Exec.{ExecStands, most_installs}
-use Rattle.pk_model.proofs.Growing.{weaken_went}
+use Rattle.pk_base.{specs.Shape.Shape, specs.Map.Map}
+use Rattle.pk_nvme.{specs.Command.Command, specs.Reply.Reply, specs.Reply.reply_record}
+use Rattle.pk_nand.{specs.BoardState.BoardState, specs.BoardState.shape_of, specs.Calls.Rose, specs.Effects.OnlyFlash, proofs.Effects.rose_from}
+use Rattle.pk_model.{specs.Run.Exchange, specs.Run.commands, specs.Wear.roots, specs.Crashes.CrashFinds, specs.Crashes.command, specs.Growth.Reaches, specs.Growth.Goes, proofs.Growing.weaken_went}
+use Rattle.pk_model.{specs.Kept.rise, specs.Spaces.Terms}
+use Rattle.pk_call.{specs.Sight.Sight, specs.Meter.reads_after, specs.Call.CallReaches, specs.Call.CallGoes, specs.Exec.ExecStands, specs.Exec.most_installs}
 use Rattle.pk_call.specs.Calling.{FewCalls, most_calls_of}
-use Rattle.pk_nand.specs.BoardState.{shape_of}
 use Rattle.pk_serve.specs.Serving.{Serving, Cutoff, Next, ServingBroken, Keeps, CommandServed, CommandStops, KeptAt}
-use Rattle.pk_serve.specs.Answered.{Answered}
-use Rattle.pk_model.specs.Kept.{rise}
-use Rattle.pk_serve.specs.declared.end.End.{End}
-use Rattle.pk_serve.specs.declared.end.End.TheVariants.{Flash as FlashFailed}
-use Rattle.pk_serve.proofs.Serves.{Serving-exec, Cutoff-exec, kept-more}
-use Rattle.pk_serve.proofs.Counting.{commands-push}
-use Rattle.pk_serve.proofs.Calling.{command_calls, most_calls-more}
-use Rattle.pk_nand.proofs.Effects.{rose_from}
-use Rattle.pk_model.specs.Spaces.{Terms}
+use Rattle.pk_serve.{specs.Answered.Answered, specs.declared.end.End.End, specs.declared.end.End.TheVariants.Flash as FlashFailed, proofs.Counting.commands-push}
+use Rattle.pk_serve.{proofs.Serves.Serving-exec, proofs.Serves.Cutoff-exec, proofs.Serves.kept-more, proofs.Calling.command_calls, proofs.Calling.most_calls-more}
 use Rattle.pk_serve.proofs.Limiting.{limits_on, limits_held}
 
 append-some : (xs ys : List Command) → xs ≢ [] → xs ++ ys ≢ []

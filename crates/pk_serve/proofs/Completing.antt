@@ -1,37 +1,17 @@
 -- If nothing fails, the whole script is served.
 use Rattle.std.proofs.Common.{◌≡◌, ◌≢◌, ◌⊎◌, inl, inr, ℕ, zero, suc, ◌+◌, ◌-◌, ◌*◌, ◌≤◌, ◌<◌, List, [], ◌∷◌, ◌++◌, length, refl, sym, ◌∙◌, ap, subst, arith, length-append, Some, None, Bool, true}
 use Rattle.std.proofs.Common.{false, ◌==◌, if◌then◌else◌, nat_le, Ok}
-use Rattle.std.proofs.lemmas.Bool.Decides.{nat_tests}
-use Rattle.std.specs.List.{FoldsTo}
-use Rattle.pk_base.specs.Shape.{Shape}
-use Rattle.pk_base.specs.Map.{Map}
-use Rattle.pk_nvme.specs.Command.{Command}
-use Rattle.pk_nvme.specs.Reply.{Reply}
-use Rattle.pk_nand.specs.BoardState.{BoardState}
-use Rattle.pk_nand.specs.Calls.{Rose, last_count}
-use Rattle.pk_nvme.specs.Opcode.{op_of}
-use Rattle.pk_nvme.specs.declared.opcode.Opcode.TheVariants.{Retrieve}
-use Rattle.pk_model.specs.Answer.{Answer}
-use Rattle.pk_model.specs.Bounds.{most_reads}
-use Rattle.pk_model.specs.Run.{Exchange, Step, commands, faults, map_after_all}
-use Rattle.pk_model.specs.Reading.{reading}
-use Rattle.pk_model.specs.Script.{script, commands_in, begins_whole}
-use Rattle.pk_model.specs.Kept.{AtMost, rise}
-use Rattle.pk_call.specs.Sight.{Sight}
-use Rattle.pk_call.specs.Exec.{most_installs, most_store_roots}
-use Rattle.pk_model.specs.Wear.{is_worn, roots}
-use Rattle.pk_serve.specs.Answered.{installs}
-use Rattle.pk_serve.specs.Run.{Served}
-use Rattle.pk_serve.specs.Complete.{ticks, Complete, IsServable, RunCompletes}
-use Rattle.pk_serve.specs.declared.end.End.{End}
+use Rattle.std.{proofs.lemmas.Bool.Decides.nat_tests, specs.List.FoldsTo}
+use Rattle.pk_base.{specs.Shape.Shape, specs.Map.Map}
+use Rattle.pk_nvme.{specs.Command.Command, specs.Reply.Reply, specs.Opcode.op_of, specs.declared.opcode.Opcode.TheVariants.Retrieve}
+use Rattle.pk_nand.{specs.BoardState.BoardState, specs.Calls.Rose, specs.Calls.last_count}
+use Rattle.pk_model.{specs.Answer.Answer, specs.Bounds.most_reads, specs.Run.Exchange, specs.Run.Step, specs.Run.commands, specs.Run.faults, specs.Run.map_after_all, specs.Reading.reading}
+use Rattle.pk_model.{specs.Script.script, specs.Script.commands_in, specs.Script.begins_whole, specs.Kept.AtMost, specs.Kept.rise, specs.Wear.is_worn, specs.Wear.roots, specs.Spaces.Terms}
+use Rattle.pk_call.{specs.Sight.Sight, specs.Exec.most_installs, specs.Exec.most_store_roots, specs.Meter.meter}
+use Rattle.pk_serve.{specs.Answered.installs, specs.Run.Served, specs.Complete.ticks, specs.Complete.Complete, specs.Complete.IsServable, specs.Complete.RunCompletes, specs.declared.end.End.End}
 use Rattle.pk_serve.specs.declared.end.End.TheVariants.{Done, Truncated, Input, Output, Flash, Worn}
-use Rattle.pk_call.specs.Meter.{meter}
-use Rattle.pk_serve.proofs.Counting.{faults-one, metered-roots}
-use Rattle.pk_serve.specs.Ends.{IsFault}
-use Rattle.pk_serve.specs.Input.{script_after}
-use Rattle.pk_serve.specs.Loop.{Ends, Finish}
+use Rattle.pk_serve.{proofs.Counting.faults-one, proofs.Counting.metered-roots, specs.Ends.IsFault, specs.Input.script_after, specs.Loop.Ends, specs.Loop.Finish}
 use Rattle.pk_serve.proofs.Closing.{told, script_is, front_none, served_by, size_of}
-use Rattle.pk_model.specs.Spaces.{Terms}
 
 -- ---- answers without a read error
 

@@ -1,15 +1,10 @@
 -- What was taken of a script, whatever the drive represents.
 use Rattle.std.proofs.Common.{◌≡◌, ◌⊎◌, inl, inr, ℕ, ◌+◌, List, [], ◌∷◌, ◌++◌, length, refl, sym, ◌∙◌, ap, subst, arith, append-nil, append_assoc, length-append, true, Bool}
-use Rattle.pk_nand.specs.BoardState.{BoardState}
-use Rattle.pk_model.specs.Script.{script}
+use Rattle.pk_nand.{specs.BoardState.BoardState, specs.Calls.put_back, specs.Calls.AtEnd}
+use Rattle.pk_model.{specs.Script.script, specs.Wear.is_worn}
 use Rattle.pk_call.specs.Sight.{Sight}
-use Rattle.pk_model.specs.Wear.{is_worn}
-use Rattle.pk_serve.specs.Ends.{IsFault}
-use Rattle.pk_serve.specs.Input.{InputAdvances, NoEntry, Quits}
-use Rattle.pk_nand.specs.Calls.{put_back, AtEnd}
-use Rattle.pk_serve.specs.Further.{most_entries}
+use Rattle.pk_serve.{specs.Ends.IsFault, specs.Input.InputAdvances, specs.Input.NoEntry, specs.Input.Quits, specs.Further.most_entries, specs.declared.end.End.End}
 use Rattle.pk_serve.specs.Script.{Consumed, Consumes, SaysOfScript}
-use Rattle.pk_serve.specs.declared.end.End.{End}
 use Rattle.pk_serve.specs.declared.end.End.TheVariants.{Done, Truncated, Input, Output, Flash, Worn}
 use Rattle.pk_serve.proofs.Scripts.{taken-append, put_back-nil, Spells-none, Spells-append}
 use Rattle.pk_serve.proofs.Closing.{told, script_is, script_of, script_none, script_whole, front_none}

@@ -2,13 +2,10 @@
 use Rattle.std.proofs.Common.{◌≢◌, ◌⊎◌, inl, inr, ◌≡◌, ℕ, suc, ◌+◌, ◌-◌, ◌≤◌, ◌<◌, List, [], ◌∷◌, ◌++◌, length, Option, Some, None, refl, sym, ◌∙◌, ap, arith, append_assoc, append-nil, Bool, true}
 use Rattle.std.proofs.Common.{false, ◌==◌, if◌then◌else◌, nat_le}
 use Rattle.std.proofs.lemmas.Bool.Decides.{nat_tests}
-use Rattle.pk_nand.specs.Calls.{Rose}
+use Rattle.pk_nand.{specs.Calls.Rose, specs.BoardState.BoardState}
 use Rattle.pk_nvme.specs.Reply.{reply_record}
-use Rattle.pk_model.specs.Kept.{AtMost, rise}
-use Rattle.pk_model.specs.Run.{Exchange, commands, records, faults}
-use Rattle.pk_nand.specs.BoardState.{BoardState}
+use Rattle.pk_model.{specs.Kept.AtMost, specs.Kept.rise, specs.Run.Exchange, specs.Run.commands, specs.Run.records, specs.Run.faults, specs.Wear.is_worn, specs.Wear.roots}
 use Rattle.pk_call.specs.Meter.{Meter, MeteredAll}
-use Rattle.pk_model.specs.Wear.{is_worn, roots}
 use Rattle.pk_serve.specs.Answered.{installs}
 
 pub at_most-zero : (n : Option ℕ) → AtMost n 0

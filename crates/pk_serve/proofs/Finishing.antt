@@ -1,18 +1,12 @@
 -- The record of a command is held, or posted.
 use Rattle.std.proofs.Common.{◌≡◌, ℕ, ◌≤◌, List, [], ◌∷◌, ◌++◌, length, take, sym, ◌∙◌, ap, subst, append-nil, append_assoc, length-take-le}
-use Rattle.pk_base.specs.Fields.{u32}
+use Rattle.pk_base.{specs.Fields.u32, specs.Shape.Shape, specs.Map.Map}
 use Rattle.pk_nvme.specs.Reply.{reply_record, completion}
 use Rattle.pk_nand.specs.BoardState.{BoardState}
 use Rattle.pk_queue.specs.Queue.{bytes_of}
-use Rattle.pk_base.specs.Shape.{Shape}
-use Rattle.pk_base.specs.Map.{Map}
-use Rattle.pk_model.specs.Run.{Exchange}
-use Rattle.pk_call.specs.Sight.{Sight}
-use Rattle.pk_call.specs.Seen.{reply_of}
-use Rattle.pk_call.specs.declared.types.Outcome.{Outcome}
-use Rattle.pk_serve.specs.Serving.{Serving, Flushed, ServingBroken, Posts, PostBreaks, Keeps}
-use Rattle.pk_serve.specs.declared.end.End.{End}
-use Rattle.pk_model.specs.Spaces.{Terms}
+use Rattle.pk_model.{specs.Run.Exchange, specs.Spaces.Terms}
+use Rattle.pk_call.{specs.Sight.Sight, specs.Seen.reply_of, specs.declared.types.Outcome.Outcome}
+use Rattle.pk_serve.{specs.Serving.Serving, specs.Serving.Flushed, specs.Serving.ServingBroken, specs.Serving.Posts, specs.Serving.PostBreaks, specs.Serving.Keeps, specs.declared.end.End.End}
 
 pub bytes_of-push : (heads : List (List ℕ)) (head : List ℕ) → bytes_of (heads ++ head ∷ []) ≡ bytes_of heads ++ head
 bytes_of-push [] head = append-nil head

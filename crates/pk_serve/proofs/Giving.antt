@@ -1,25 +1,12 @@
 -- Commits, and the posts after them.
 use Rattle.std.proofs.Common.{◌≡◌, ℕ, List, [], ◌++◌, refl, sym, subst, append_assoc, ap, arith, ◌∙◌}
-use Rattle.pk_base.specs.Shape.{Shape}
-use Rattle.pk_base.specs.Map.{Map}
-use Rattle.pk_nand.specs.BoardState.{BoardState}
-use Rattle.pk_nand.specs.Calls.{Rose}
-use Rattle.pk_nand.specs.Operations.{after_post, PostFailed}
-use Rattle.pk_model.specs.Run.{Exchange}
-use Rattle.pk_call.specs.Sight.{Sight}
-use Rattle.pk_nand.specs.Effects.{OnlyFlash}
-use Rattle.pk_model.specs.Wear.{roots}
-use Rattle.pk_model.specs.Crashes.{commit}
-use Rattle.pk_call.specs.Call.{KeepsMap, CallReaches, CallGoes}
-use Rattle.pk_call.specs.Commit.{CommitPrograms}
-use Rattle.pk_serve.specs.Calling.{owed}
-use Rattle.pk_serve.specs.Serving.{Serving, Flushed, ServingBroken, Posts, PostBreaks}
-use Rattle.pk_serve.specs.declared.end.End.{End}
-use Rattle.pk_serve.specs.declared.end.End.TheVariants.{Output, Flash}
-use Rattle.pk_serve.proofs.Calling.{commit_calls}
+use Rattle.pk_base.{specs.Shape.Shape, specs.Map.Map}
+use Rattle.pk_nand.{specs.BoardState.BoardState, specs.Calls.Rose, specs.Operations.after_post, specs.Operations.PostFailed, specs.Effects.OnlyFlash, proofs.Effects.rose_from}
+use Rattle.pk_model.{specs.Run.Exchange, specs.Wear.roots, specs.Crashes.commit, specs.Spaces.Terms}
+use Rattle.pk_call.{specs.Sight.Sight, specs.Call.KeepsMap, specs.Call.CallReaches, specs.Call.CallGoes, specs.Commit.CommitPrograms}
+use Rattle.pk_serve.{specs.Calling.owed, specs.Serving.Serving, specs.Serving.Flushed, specs.Serving.ServingBroken, specs.Serving.Posts, specs.Serving.PostBreaks, specs.declared.end.End.End}
+use Rattle.pk_serve.{specs.declared.end.End.TheVariants.Output, specs.declared.end.End.TheVariants.Flash, proofs.Calling.commit_calls}
 use Rattle.pk_serve.proofs.Serves.{Serving-commit, Cutoff-commit, Serving-post, Cutoff-post}
-use Rattle.pk_nand.proofs.Effects.{rose_from}
-use Rattle.pk_model.specs.Spaces.{Terms}
 
 -- ---- posts
 

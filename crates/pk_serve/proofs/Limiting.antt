@@ -1,24 +1,12 @@
 -- The limits of a drive on its board.
 use Rattle.std.proofs.Common.{◌≡◌, ◌≤◌, ◌-◌, List, ℕ, [], ◌∷◌, length, ◌&&◌, nat_le, T, Ok, sym, ap, subst, ◌∙◌, arith, leb→le}
-use Rattle.pk_base.specs.Shape.{Shape, limit}
-use Rattle.pk_base.specs.declared.sizes.TheConstants.{MOST_SPACES}
-use Rattle.pk_base.proofs.Logic.{left_part, right_part}
-use Rattle.pk_base.specs.Page.{Flash, page_at}
-use Rattle.pk_base.specs.Entry.{Entry}
-use Rattle.pk_base.specs.Map.{Map}
-use Rattle.pk_base.specs.Refusal.{some_or, not_formatted}
+use Rattle.pk_base.{specs.Shape.Shape, specs.Shape.limit, specs.declared.sizes.TheConstants.MOST_SPACES, proofs.Logic.left_part, proofs.Logic.right_part, specs.Page.Flash, specs.Page.page_at}
+use Rattle.pk_base.{specs.Entry.Entry, specs.Map.Map, specs.Refusal.some_or, specs.Refusal.not_formatted}
 use Rattle.pk_nand.specs.BoardState.{BoardState, shape_of, shape_or_none}
-use Rattle.pk_rootfmt.specs.Root.{has_limits_room, fit_in, are_limits, limits_of, is_laid_out}
-use Rattle.pk_rootfmt.specs.Newest.{newest_root}
-use Rattle.pk_model.specs.Reading.{reading, reading_of}
-use Rattle.pk_model.specs.RootLimits.{root_limits}
-use Rattle.pk_model.specs.Spaces.{Terms, limits_at, limit_of}
-use Rattle.pk_model.proofs.Commits.{root_valid}
-use Rattle.pk_model.proofs.Roots.{newest_sound}
-use Rattle.pk_model.proofs.RootLimits.{limits_under}
-use Rattle.pk_model.proofs.StrangePages.{bind_ok, some_ok}
-use Rattle.pk_call.specs.Sight.{Sight}
-use Rattle.pk_call.specs.Drive.{HoldsMap}
+use Rattle.pk_rootfmt.{specs.Root.has_limits_room, specs.Root.fit_in, specs.Root.are_limits, specs.Root.limits_of, specs.Root.is_laid_out, specs.Newest.newest_root}
+use Rattle.pk_model.{specs.Reading.reading, specs.Reading.reading_of, specs.RootLimits.root_limits, specs.Spaces.Terms, specs.Spaces.limits_at, specs.Spaces.limit_of, proofs.Commits.root_valid}
+use Rattle.pk_model.{proofs.Roots.newest_sound, proofs.RootLimits.limits_under, proofs.StrangePages.bind_ok, proofs.StrangePages.some_ok}
+use Rattle.pk_call.{specs.Sight.Sight, specs.Drive.HoldsMap}
 
 some_of : (shape : Shape) (limits : List ℕ) → 1 ≤ length (limits_of shape limits)
 some_of shape [] = omega arith

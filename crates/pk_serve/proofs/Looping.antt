@@ -1,26 +1,14 @@
 -- The loop over the commands of the input.
 use Rattle.std.proofs.Common.{◌≡◌, ◌⊎◌, inl, inr, ℕ, ◌+◌, ◌<◌, List, [], ◌∷◌, ◌++◌, refl, sym, ◌∙◌, ap, subst, arith, append-nil, length-append, true, false, Bool, length}
-use Rattle.pk_base.specs.Shape.{Shape}
-use Rattle.pk_base.specs.Map.{Map}
+use Rattle.pk_base.{specs.Shape.Shape, specs.Map.Map}
 use Rattle.pk_nvme.specs.Command.{Command}
-use Rattle.pk_nand.specs.BoardState.{BoardState}
-use Rattle.pk_nand.specs.Calls.{Rose, put_back}
-use Rattle.pk_model.specs.Run.{commands}
-use Rattle.pk_call.specs.Sight.{Sight}
-use Rattle.pk_call.specs.Drive.{HoldsMap}
-use Rattle.pk_model.specs.Wear.{is_worn}
-use Rattle.pk_serve.specs.Ends.{IsFault}
-use Rattle.pk_serve.specs.Serving.{Serving}
-use Rattle.pk_serve.specs.Input.{Spells, InputAdvances, InputFails, NoEntry, Quits}
-use Rattle.pk_serve.specs.Loop.{Looping, Finished, Failed, Finish}
-use Rattle.pk_serve.specs.Further.{most_entries}
-use Rattle.pk_nand.specs.Calls.{put_back}
-use Rattle.pk_serve.specs.declared.end.End.{End}
+use Rattle.pk_nand.{specs.BoardState.BoardState, specs.Calls.Rose, specs.Calls.put_back}
+use Rattle.pk_model.{specs.Run.commands, specs.Wear.is_worn, specs.Spaces.Terms}
+use Rattle.pk_call.{specs.Sight.Sight, specs.Drive.HoldsMap}
+use Rattle.pk_serve.{specs.Ends.IsFault, specs.Serving.Serving, specs.Input.Spells, specs.Input.InputAdvances, specs.Input.InputFails, specs.Input.NoEntry, specs.Input.Quits}
+use Rattle.pk_serve.{specs.Loop.Looping, specs.Loop.Finished, specs.Loop.Failed, specs.Loop.Finish, specs.Further.most_entries, specs.declared.end.End.End, proofs.Counting.commands-push}
 use Rattle.pk_serve.specs.declared.end.End.TheVariants.{Done, Truncated, Input, Output, Flash, Worn}
-use Rattle.pk_serve.proofs.Serves.{Serving-start, Serving-inputs}
-use Rattle.pk_serve.proofs.Scripts.{taken-append, put_back-nil, Spells-none, Spells-append}
-use Rattle.pk_serve.proofs.Counting.{commands-push}
-use Rattle.pk_model.specs.Spaces.{Terms}
+use Rattle.pk_serve.{proofs.Serves.Serving-start, proofs.Serves.Serving-inputs, proofs.Scripts.taken-append, proofs.Scripts.put_back-nil, proofs.Scripts.Spells-none, proofs.Scripts.Spells-append}
 
 pub Looping-start : (shape : Shape) (terms : Terms) (start : Map) (a : BoardState) (drive : Sight) (held : List ℕ)
     → held ≡ [] → HoldsMap shape terms a drive start → drive.pending ≡ [] → Looping shape terms start a a drive held 0

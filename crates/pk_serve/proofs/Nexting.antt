@@ -1,27 +1,13 @@
 -- A command is taken, entry and value.
 use Rattle.std.proofs.Common.{◌≡◌, ◌≢◌, ℕ, List, [], ◌++◌, length, sym, ◌∙◌, ap, subst, arith, length-append, ◌==◌, if◌then◌else◌, Bool, Option, Some, nat_le, inl}
-use Rattle.pk_base.specs.Shape.{Shape}
-use Rattle.pk_nvme.specs.Command.{Command, command}
-use Rattle.pk_nvme.specs.Seen.{command_of as command_seen}
-use Rattle.pk_nvme.specs.declared.request.Request.{Request}
-use Rattle.pk_base.specs.Page.{Flash}
-use Rattle.pk_nand.specs.BoardState.{BoardState, shape_or_none}
-use Rattle.pk_model.specs.Wear.{root_number, is_worn}
-use Rattle.pk_nand.specs.Calls.{Rose, put_back}
-use Rattle.pk_base.specs.Map.{Map}
-use Rattle.pk_model.specs.Script.{value_follows as value_bytes}
-use Rattle.pk_model.specs.Run.{Exchange}
-use Rattle.pk_call.specs.Sight.{Sight}
-use Rattle.pk_call.specs.Exec.{IsValue}
-use Rattle.pk_serve.specs.Serving.{Serving, CommandServed, CommandStops}
-use Rattle.pk_serve.specs.declared.end.End.{End}
-use Rattle.pk_serve.specs.Ends.{IsFault}
+use Rattle.pk_base.{specs.Shape.Shape, specs.Page.Flash, specs.Map.Map}
+use Rattle.pk_nvme.{specs.Command.Command, specs.Command.command, specs.Seen.command_of as command_seen, specs.declared.request.Request.Request}
+use Rattle.pk_nand.{specs.BoardState.BoardState, specs.BoardState.shape_or_none, specs.Calls.Rose, specs.Calls.put_back}
+use Rattle.pk_model.{specs.Wear.root_number, specs.Wear.is_worn, specs.Script.value_follows as value_bytes, specs.Run.Exchange, specs.Spaces.Terms}
+use Rattle.pk_call.{specs.Sight.Sight, specs.Exec.IsValue}
+use Rattle.pk_serve.{specs.Serving.Serving, specs.Serving.CommandServed, specs.Serving.CommandStops, specs.declared.end.End.End, specs.Ends.IsFault, proofs.Serves.Serving-inputs}
 use Rattle.pk_serve.specs.Input.{TookFailed, Entered, Valued, NoValue, InputAdvances, InputFails, BreaksOff, FailsAt, NoEntry, Quits}
-use Rattle.pk_nand.specs.Calls.{put_back}
-use Rattle.pk_serve.proofs.Serves.{Serving-inputs}
-use Rattle.pk_serve.proofs.Scripts.{taken-append, Spells-one, IsPart-value}
-use Rattle.pk_serve.proofs.Entering.{input_too, failed_too, both_too}
-use Rattle.pk_model.specs.Spaces.{Terms}
+use Rattle.pk_serve.{proofs.Scripts.taken-append, proofs.Scripts.Spells-one, proofs.Scripts.IsPart-value, proofs.Entering.input_too, proofs.Entering.failed_too, proofs.Entering.both_too}
 
 -- the bytes of the value, by the entry and by the request
 value_size : (entry : List ℕ) (r : Request) → ((v : List ℕ) → command_seen r v ≡ command entry v) → value_bytes entry ≡ (if r.opcode == 0x01 then r.size else 0)

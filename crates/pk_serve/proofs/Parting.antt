@@ -1,14 +1,9 @@
 -- Parts of the serving loop, one after another.
 use Rattle.std.proofs.Common.{◌≡◌, sym, subst, Option}
-use Rattle.pk_base.specs.Shape.{Shape}
-use Rattle.pk_base.specs.Page.{Flash as Pages}
+use Rattle.pk_base.{specs.Shape.Shape, specs.Page.Flash as Pages}
 use Rattle.pk_nand.specs.BoardState.{BoardState}
-use Rattle.pk_call.specs.Sight.{Sight}
-use Rattle.pk_serve.specs.Ends.{NoFaults}
-use Rattle.pk_call.specs.Running.{DriveRuns}
-use Rattle.pk_serve.specs.Part.{KeepsRunning, Faulted}
-use Rattle.pk_serve.specs.declared.end.End.{End}
-use Rattle.pk_serve.proofs.Blaming.{quiet-then, cause-then}
+use Rattle.pk_call.{specs.Sight.Sight, specs.Running.DriveRuns}
+use Rattle.pk_serve.{specs.Ends.NoFaults, specs.Part.KeepsRunning, specs.Part.Faulted, specs.declared.end.End.End, proofs.Blaming.quiet-then, proofs.Blaming.cause-then}
 
 -- the flash is unchanged
 pub running-still : (agreeing : Option Shape → Pages → Type 0) (drive : Sight) (b c : BoardState) → (c.shape ≡ b.shape) × (c.pages ≡ b.pages) → DriveRuns agreeing drive b → DriveRuns agreeing drive c

@@ -1,9 +1,7 @@
 -- Scripts taken command by command.
 use Rattle.std.proofs.Common.{◌≡◌, ℕ, zero, suc, ◌+◌, ◌-◌, ◌≤◌, ◌<◌, List, [], ◌∷◌, ◌++◌, length, take, drop, refl, sym, ◌∙◌, ap, arith, append_assoc, Option, Some, None, length-append, length-drop}
-use Rattle.std.proofs.Common.{Bool, true, false, if◌then◌else◌, nat_le, ◌&&◌, ◌==◌}
-use Rattle.std.proofs.lemmas.Bool.Decides.{nat_tests}
-use Rattle.std.proofs.lemmas.List.{drop_at, take_at, drop-append-le, get_or_append_left}
-use Rattle.std.proofs.Common.{get_or, ◌*◌}
+use Rattle.std.proofs.Common.{Bool, true, false, if◌then◌else◌, nat_le, ◌&&◌, ◌==◌, get_or, ◌*◌}
+use Rattle.std.{proofs.lemmas.Bool.Decides.nat_tests, proofs.lemmas.List.drop_at, proofs.lemmas.List.take_at, proofs.lemmas.List.drop-append-le, proofs.lemmas.List.get_or_append_left}
 use Rattle.byteorder.specs.Endian.{little_from}
 use Rattle.pk_nvme.specs.Command.{Command, command}
 use Rattle.pk_model.specs.Script.{script, commands_in, begins_whole, first_command, value_follows}

@@ -2,41 +2,19 @@
 use Rattle.std.proofs.Common.{◌≡◌, ◌≢◌, ◌⊎◌, inl, inr, ℕ, suc, ◌+◌, ◌≤◌, ◌<◌, List, [], ◌∷◌, ◌++◌, length, take, Option, Some, None, Ok, refl, sym, ◌∙◌, ap, subst, arith, append_assoc, append-nil}
 use Rattle.std.proofs.Common.{replicate}
 use Rattle.std.proofs.lemmas.Fn.{FoldsTo-push}
-use Rattle.pk_base.specs.Shape.{Shape, commit_programs}
-use Rattle.pk_base.specs.Page.{Flash}
-use Rattle.pk_base.specs.Entry.{Entry}
-use Rattle.pk_base.specs.Mark.{Mark, post, all_posted}
-use Rattle.pk_base.specs.Map.{Map}
-use Rattle.pk_nvme.specs.Command.{Command}
-use Rattle.pk_nvme.specs.Reply.{Reply, reply_record}
-use Rattle.pk_nand.specs.BoardState.{BoardState, shape_or_none}
-use Rattle.pk_nand.specs.Cut.{Cut}
-use Rattle.pk_nand.specs.Calls.{Rose, longer}
-use Rattle.pk_nand.specs.Operations.{after_post, PostFailed}
-use Rattle.pk_nand.specs.Crash.{ReachedBy}
-use Rattle.pk_nand.proofs.Reaching.{Reached-start, Reached-post, Reached-then}
-use Rattle.pk_nand.proofs.CutLemmas.{posted-append}
-use Rattle.pk_model.specs.Answer.{reply, map_after}
-use Rattle.pk_model.specs.Run.{Exchange, commands, faults}
-use Rattle.pk_model.specs.Reading.{reading}
-use Rattle.pk_model.specs.Kept.{AtMost, rise}
-use Rattle.pk_call.specs.Sight.{Sight}
-use Rattle.pk_call.specs.Drive.{HoldsMap}
-use Rattle.pk_nand.specs.Effects.{OnlyFlash}
-use Rattle.pk_model.specs.Wear.{roots}
-use Rattle.pk_model.specs.Growth.{GrowsAlong, Reaches, Goes}
-use Rattle.pk_call.specs.Meter.{Meter, Metered, MeteredAll, meter, reads_after}
-use Rattle.pk_call.specs.Exec.{Executed, most_installs}
-use Rattle.pk_model.specs.Crashes.{CrashFinds, commit, command}
+use Rattle.pk_base.{specs.Shape.Shape, specs.Shape.commit_programs, specs.Page.Flash, specs.Entry.Entry, specs.Mark.Mark, specs.Mark.post, specs.Mark.all_posted, specs.Map.Map}
+use Rattle.pk_nvme.{specs.Command.Command, specs.Reply.Reply, specs.Reply.reply_record}
+use Rattle.pk_nand.{specs.BoardState.BoardState, specs.BoardState.shape_or_none, specs.Cut.Cut, specs.Calls.Rose, specs.Calls.longer, specs.Operations.after_post, specs.Operations.PostFailed}
+use Rattle.pk_nand.{specs.Crash.ReachedBy, proofs.Reaching.Reached-start, proofs.Reaching.Reached-post, proofs.Reaching.Reached-then, proofs.CutLemmas.posted-append, specs.Effects.OnlyFlash}
+use Rattle.pk_model.{specs.Answer.reply, specs.Answer.map_after, specs.Run.Exchange, specs.Run.commands, specs.Run.faults, specs.Reading.reading, specs.Kept.AtMost, specs.Kept.rise, specs.Wear.roots}
+use Rattle.pk_model.{specs.Growth.GrowsAlong, specs.Growth.Reaches, specs.Growth.Goes, specs.Crashes.CrashFinds, specs.Crashes.commit, specs.Crashes.command}
 use Rattle.pk_model.proofs.Growing.{weaken, at_end, grows_behind, Goes-then, GrowsAlong-post, Goes-post_failed, Limited, Goes-limited, cut_limits}
-use Rattle.pk_call.specs.Calling.{most_calls_of}
-use Rattle.pk_serve.specs.Calling.{calls_of, owed, most_calls_of_all}
-use Rattle.pk_serve.specs.Serving.{KeptAt, Serving, Cutoff, Next, StepWithin}
-use Rattle.pk_serve.specs.Answered.{Answered}
-use Rattle.pk_serve.proofs.Calling.{owed_most, most_calls-append}
-use Rattle.pk_serve.proofs.Counting.{at_most-zero, at_most-more, at_most-one, commands-push, records-push, faults-push, faults-one}
-use Rattle.pk_serve.proofs.Answering.{reply_other, answers}
 use Rattle.pk_model.specs.Spaces.{Terms, limits_at}
+use Rattle.pk_call.{specs.Sight.Sight, specs.Drive.HoldsMap, specs.Meter.Meter, specs.Meter.Metered, specs.Meter.MeteredAll, specs.Meter.meter, specs.Meter.reads_after, specs.Calling.most_calls_of}
+use Rattle.pk_call.specs.Exec.{Executed, most_installs}
+use Rattle.pk_serve.{specs.Calling.calls_of, specs.Calling.owed, specs.Calling.most_calls_of_all, specs.Answered.Answered, proofs.Calling.owed_most, proofs.Calling.most_calls-append}
+use Rattle.pk_serve.{specs.Serving.KeptAt, specs.Serving.Serving, specs.Serving.Cutoff, specs.Serving.Next, specs.Serving.StepWithin, proofs.Answering.reply_other, proofs.Answering.answers}
+use Rattle.pk_serve.proofs.Counting.{at_most-zero, at_most-more, at_most-one, commands-push, records-push, faults-push, faults-one}
 
 -- more commands and more faults
 pub kept-more : (shape : Shape) (terms : Terms) (start : Map) (cs more : List Command) (n later : Option ℕ) → ((k : ℕ) → AtMost n k → AtMost later k)

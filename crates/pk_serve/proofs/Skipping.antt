@@ -1,24 +1,14 @@
 -- A Store that is too large is refused whatever its value is.
 use Rattle.std.proofs.Common.{◌≡◌, ◌≢◌, inl, inr, ℕ, ◌<◌, List, [], length, Option, Some, None, refl, sym, ◌∙◌, ap, subst, arith, false, nat_le, Ok}
 use Rattle.std.proofs.lemmas.Bool.Decides.{nat_tests}
-use Rattle.pk_base.specs.Choices.{or_else}
-use Rattle.pk_base.specs.Shape.{Shape, greatest}
-use Rattle.pk_base.specs.Page.{Flash}
-use Rattle.pk_nvme.specs.Command.{Command}
-use Rattle.pk_nvme.specs.Reply.{Reply, refusal}
-use Rattle.pk_nand.specs.BoardState.{BoardState, shape_or_none}
-use Rattle.pk_base.specs.Map.{Map}
-use Rattle.pk_nvme.specs.Opcode.{op_of}
+use Rattle.pk_base.{specs.Choices.or_else, specs.Shape.Shape, specs.Shape.greatest, specs.Page.Flash, specs.Map.Map}
+use Rattle.pk_nvme.{specs.Command.Command, specs.Reply.Reply, specs.Reply.refusal, specs.Opcode.op_of}
 use Rattle.pk_nvme.specs.declared.opcode.Opcode.TheVariants.{Store, Retrieve}
+use Rattle.pk_nand.specs.BoardState.{BoardState, shape_or_none}
 use Rattle.pk_model.specs.Answer.{check, is_namespace, is_key_length, fault_of, early, late_of, refused, reply, map_after}
-use Rattle.pk_model.specs.Run.{Step}
-use Rattle.pk_call.specs.Sight.{Sight}
-use Rattle.pk_model.specs.Growth.{Reaches, Goes}
-use Rattle.pk_model.specs.Crashes.{CrashFinds, command}
-use Rattle.pk_call.specs.Call.{CallReaches, CallGoes}
-use Rattle.pk_call.specs.Exec.{Executed, ExecStands, IsValue}
-use Rattle.pk_model.proofs.Growing.{weaken, weaken_went}
+use Rattle.pk_model.{specs.Run.Step, specs.Growth.Reaches, specs.Growth.Goes, specs.Crashes.CrashFinds, specs.Crashes.command, proofs.Growing.weaken, proofs.Growing.weaken_went}
 use Rattle.pk_model.specs.Spaces.{Terms, limit_of, in_space}
+use Rattle.pk_call.{specs.Sight.Sight, specs.Call.CallReaches, specs.Call.CallGoes, specs.Exec.Executed, specs.Exec.ExecStands, specs.Exec.IsValue}
 
 abbrev store_early : ℕ → Shape → ℕ → ℕ → ℕ → Option ℕ
 store_early spaces shape namespace key_len size =

@@ -1,26 +1,12 @@
 -- One command on a drive with nothing pending.
 use Rattle.std.proofs.Common.{◌≡◌, ◌⊎◌, inl, inr, ℕ, List, [], ◌++◌, refl, ◌∙◌, ap, subst, Ok}
-use Rattle.pk_base.specs.Shape.{Shape}
-use Rattle.pk_base.specs.Page.{Flash}
-use Rattle.pk_base.specs.Entry.{Entry}
-use Rattle.pk_nvme.specs.Command.{Command}
-use Rattle.pk_nvme.specs.Reply.{Reply}
+use Rattle.pk_base.{specs.Shape.Shape, specs.Page.Flash, specs.Entry.Entry, specs.Mark.all_posted, specs.Map.Map}
+use Rattle.pk_nvme.{specs.Command.Command, specs.Reply.Reply}
 use Rattle.pk_nand.specs.BoardState.{BoardState}
-use Rattle.pk_base.specs.Mark.{all_posted}
-use Rattle.pk_base.specs.Map.{Map}
-use Rattle.pk_model.specs.Answer.{map_after}
-use Rattle.pk_model.specs.Run.{Step}
-use Rattle.pk_model.specs.Reading.{reading, Holds}
-use Rattle.pk_call.specs.Sight.{Sight}
-use Rattle.pk_call.specs.Drive.{HoldsMap}
-use Rattle.pk_model.specs.Growth.{Reaches}
-use Rattle.pk_model.specs.Crashes.{CrashFinds, commit, command}
-use Rattle.pk_call.specs.Call.{KeepsMap, CallReaches, CallGoes}
-use Rattle.pk_call.specs.Exec.{ExecStands}
-use Rattle.pk_model.proofs.Growing.{weaken, weaken_went, at_end, Reaches-then, Goes-then}
-use Rattle.pk_serve.specs.Port.{StepCut, Submits, SubmitStops}
-use Rattle.pk_model.specs.Spaces.{Terms}
-use Rattle.pk_serve.proofs.Limiting.{limits_on, limits_held}
+use Rattle.pk_model.{specs.Answer.map_after, specs.Run.Step, specs.Reading.reading, specs.Reading.Holds, specs.Growth.Reaches, specs.Crashes.CrashFinds, specs.Crashes.commit, specs.Crashes.command}
+use Rattle.pk_model.{proofs.Growing.weaken, proofs.Growing.weaken_went, proofs.Growing.at_end, proofs.Growing.Reaches-then, proofs.Growing.Goes-then, specs.Spaces.Terms}
+use Rattle.pk_call.{specs.Sight.Sight, specs.Drive.HoldsMap, specs.Call.KeepsMap, specs.Call.CallReaches, specs.Call.CallGoes, specs.Exec.ExecStands}
+use Rattle.pk_serve.{specs.Port.StepCut, specs.Port.Submits, specs.Port.SubmitStops, proofs.Limiting.limits_on, proofs.Limiting.limits_held}
 
 module _ (a b : BoardState) (d : Sight) (c : Command) (shape : Shape) (terms : Terms) (m : Map) (s : HoldsMap shape terms a d m) (none : d.pending ≡ []) where
   held : Holds shape a.pages m

@@ -1,15 +1,11 @@
 -- What was answered of a script, and how many roots were installed meanwhile.
 use Rattle.std.specs.Prelude.{◌≡◌, ◌≢◌, ◌⊎◌, ℕ, ◌+◌, ◌≤◌, List, [], ◌∷◌, ◌++◌, take}
-use Rattle.pk_base.specs.Shape.{Shape}
-use Rattle.pk_base.specs.Map.{Map}
+use Rattle.pk_base.{specs.Shape.Shape, specs.Map.Map}
 use Rattle.pk_nvme.specs.Command.{Command}
-use Rattle.pk_nand.specs.BoardState.{BoardState}
-use Rattle.pk_nand.specs.Calls.{longer}
-use Rattle.pk_model.specs.Run.{Exchange, RunWithin, commands, records}
-use Rattle.pk_call.specs.Meter.{Meter, meter, MeteredAll, reads_after}
-use Rattle.pk_call.specs.Exec.{most_installs}
+use Rattle.pk_nand.{specs.BoardState.BoardState, specs.Calls.longer}
+use Rattle.pk_model.{specs.Run.Exchange, specs.Run.RunWithin, specs.Run.commands, specs.Run.records, specs.Spaces.Terms}
+use Rattle.pk_call.{specs.Meter.Meter, specs.Meter.meter, specs.Meter.MeteredAll, specs.Meter.reads_after, specs.Exec.most_installs}
 use Rattle.pk_serve.specs.Calling.{calls_of, most_calls_of_all}
-use Rattle.pk_model.specs.Spaces.{Terms}
 
 -- most roots that these commands install
 abbrev pub installs : List Command → ℕ

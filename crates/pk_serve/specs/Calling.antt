@@ -1,7 +1,6 @@
 -- How many flash operations serving makes.
 use Rattle.std.specs.Prelude.{ℕ, ◌+◌, List, [], ◌∷◌}
-use Rattle.pk_base.specs.Shape.{Shape, commit_programs}
-use Rattle.pk_base.specs.Entry.{Entry}
+use Rattle.pk_base.{specs.Shape.Shape, specs.Shape.commit_programs, specs.Entry.Entry}
 use Rattle.pk_nvme.specs.Command.{Command}
 use Rattle.pk_nand.specs.BoardState.{BoardState}
 use Rattle.pk_call.specs.Calling.{most_calls_of}

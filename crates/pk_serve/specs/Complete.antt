@@ -1,22 +1,13 @@
 -- When every command of a script is served.
 use Rattle.std.specs.Prelude.{◌≡◌, ◌<◌, ◌+◌, ℕ, List, [], ◌∷◌, length, Some, ◌==◌, if◌then◌else◌}
 use Rattle.std.specs.List.{FoldsTo}
-use Rattle.pk_nvme.specs.declared.opcode.TheConstants.{TICK}
-use Rattle.pk_base.specs.Shape.{Shape}
-use Rattle.pk_base.specs.Map.{Map}
-use Rattle.pk_nvme.specs.Command.{Command}
-use Rattle.pk_nand.specs.BoardState.{BoardState}
-use Rattle.pk_nand.specs.Calls.{Rose, longer}
-use Rattle.pk_model.specs.Answer.{Answer}
-use Rattle.pk_model.specs.Run.{Exchange, commands, records, map_after_all}
-use Rattle.pk_model.specs.Reading.{Holds}
-use Rattle.pk_model.specs.Script.{script}
-use Rattle.pk_call.specs.Sight.{Sight}
-use Rattle.pk_call.specs.Drive.{HoldsMap}
-use Rattle.pk_model.specs.Wear.{roots}
-use Rattle.pk_serve.specs.declared.end.End.{End}
-use Rattle.pk_serve.specs.declared.end.End.TheVariants.{Done}
+use Rattle.pk_nvme.{specs.declared.opcode.TheConstants.TICK, specs.Command.Command}
+use Rattle.pk_base.{specs.Shape.Shape, specs.Map.Map}
+use Rattle.pk_nand.{specs.BoardState.BoardState, specs.Calls.Rose, specs.Calls.longer}
+use Rattle.pk_model.{specs.Answer.Answer, specs.Run.Exchange, specs.Run.commands, specs.Run.records, specs.Run.map_after_all, specs.Reading.Holds, specs.Script.script, specs.Wear.roots}
 use Rattle.pk_model.specs.Spaces.{Terms}
+use Rattle.pk_call.{specs.Sight.Sight, specs.Drive.HoldsMap}
+use Rattle.pk_serve.{specs.declared.end.End.End, specs.declared.end.End.TheVariants.Done}
 
 -- the steps that the Ticks of these commands ask for
 abbrev pub ticks : List Command → ℕ

@@ -1,7 +1,6 @@
 -- How serving ends, and why.
 use Rattle.std.specs.Prelude.{◌≡◌}
-use Rattle.pk_nand.specs.BoardState.{BoardState}
-use Rattle.pk_nand.specs.Calls.{Rose}
+use Rattle.pk_nand.{specs.BoardState.BoardState, specs.Calls.Rose}
 use Rattle.pk_serve.specs.declared.end.End.{End}
 use Rattle.pk_serve.specs.declared.end.End.TheVariants.{Done, Truncated, Input, Output, Flash, Worn}
 

@@ -1,18 +1,11 @@
 -- What is taken of the input.
 use Rattle.std.specs.Prelude.{◌≡◌, ◌≢◌, ◌⊎◌, ℕ, ◌<◌, ◌≤◌, ◌+◌, ◌-◌, take, List, [], ◌∷◌, ◌++◌, length, true, false, Bool, ◌==◌, if◌then◌else◌}
-use Rattle.pk_nvme.specs.declared.opcode.TheConstants.{STORE}
-use Rattle.pk_nvme.specs.Command.{Command}
-use Rattle.pk_nand.specs.BoardState.{BoardState}
-use Rattle.pk_nand.specs.Calls.{Rose, put_back, AtEnd}
-use Rattle.pk_model.specs.Script.{script}
+use Rattle.pk_nvme.{specs.declared.opcode.TheConstants.STORE, specs.Command.Command}
+use Rattle.pk_nand.{specs.BoardState.BoardState, specs.Calls.Rose, specs.Calls.put_back, specs.Calls.AtEnd}
+use Rattle.pk_model.{specs.Script.script, specs.Wear.is_worn}
 use Rattle.pk_base.specs.Shape.{Shape}
-use Rattle.pk_call.specs.Sight.{Sight}
-use Rattle.pk_model.specs.Wear.{is_worn}
-use Rattle.pk_call.specs.Exec.{IsValue}
-use Rattle.pk_serve.specs.Ends.{IsFault}
-use Rattle.pk_call.specs.Running.{PassesValue}
-use Rattle.pk_serve.specs.Serving.{CommandServed, CommandStops}
-use Rattle.pk_serve.specs.declared.end.End.{End}
+use Rattle.pk_call.{specs.Sight.Sight, specs.Exec.IsValue, specs.Running.PassesValue}
+use Rattle.pk_serve.{specs.Ends.IsFault, specs.Serving.CommandServed, specs.Serving.CommandStops, specs.declared.end.End.End}
 use Rattle.pk_serve.specs.declared.end.End.TheVariants.{Done, Truncated, Input, Output, Flash, Worn}
 
 -- a script after these commands

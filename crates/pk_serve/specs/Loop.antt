@@ -1,21 +1,13 @@
 -- A run over the input while it goes on, and how it ends.
 use Rattle.std.specs.Prelude.{◌≡◌, ◌≢◌, ◌⊎◌, ◌≤◌, ℕ, List, [], ◌++◌, length, true}
-use Rattle.pk_base.specs.Shape.{Shape}
-use Rattle.pk_base.specs.Map.{Map}
+use Rattle.pk_base.{specs.Shape.Shape, specs.Map.Map}
 use Rattle.pk_nvme.specs.Command.{Command}
-use Rattle.pk_nand.specs.BoardState.{BoardState}
-use Rattle.pk_nand.specs.Calls.{Rose, put_back, AtEnd}
-use Rattle.pk_model.specs.Run.{Exchange, commands}
-use Rattle.pk_call.specs.Sight.{Sight}
-use Rattle.pk_call.specs.Drive.{HoldsMap}
-use Rattle.pk_model.specs.Wear.{is_worn}
-use Rattle.pk_serve.specs.Ends.{HasCause}
-use Rattle.pk_serve.specs.Serving.{Serving, Cutoff}
-use Rattle.pk_serve.specs.Input.{Spells, IsPart}
-use Rattle.pk_serve.specs.declared.end.End.{End}
+use Rattle.pk_nand.{specs.BoardState.BoardState, specs.Calls.Rose, specs.Calls.put_back, specs.Calls.AtEnd}
+use Rattle.pk_model.{specs.Run.Exchange, specs.Run.commands, specs.Wear.is_worn, specs.Spaces.Terms}
+use Rattle.pk_call.{specs.Sight.Sight, specs.Drive.HoldsMap}
+use Rattle.pk_serve.{specs.Ends.HasCause, specs.Serving.Serving, specs.Serving.Cutoff, specs.Input.Spells, specs.Input.IsPart, specs.declared.end.End.End}
 use Rattle.pk_serve.specs.declared.end.End.TheVariants.{Done, Truncated, Input, Output, Flash, Worn}
 use Rattle.pk_serve.specs.Further.{TakesMore, most_entries}
-use Rattle.pk_model.specs.Spaces.{Terms}
 
 -- This many commands were taken from the input and served.
 pub record Looping (shape : Shape) (terms : Terms) (start : Map) (a b : BoardState) (drive : Sight) (held : List ℕ) (taken : ℕ) : Type 0 where

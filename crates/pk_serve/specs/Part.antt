@@ -1,13 +1,10 @@
 -- What a part of the serving loop asks of the drive, the board and the buffers, and what it leaves.
 use Rattle.std.specs.Prelude.{◌≡◌, ℕ, ◌<◌, ◌≤◌, List, [], length, Option, Some}
-use Rattle.pk_base.specs.Shape.{Shape, greatest}
-use Rattle.pk_base.specs.Page.{Flash as Pages}
+use Rattle.pk_base.{specs.Shape.Shape, specs.Shape.greatest, specs.Page.Flash as Pages}
 use Rattle.pk_nand.specs.BoardState.{BoardState}
-use Rattle.pk_call.specs.Sight.{Sight}
+use Rattle.pk_call.{specs.Sight.Sight, specs.Running.DriveRuns, specs.Running.HasRoomForData}
 use Rattle.pk_model.specs.Wear.{roots}
-use Rattle.pk_call.specs.Running.{DriveRuns, HasRoomForData}
-use Rattle.pk_serve.specs.Ends.{NoFaults, HasCause, IsFault}
-use Rattle.pk_serve.specs.declared.end.End.{End}
+use Rattle.pk_serve.{specs.Ends.NoFaults, specs.Ends.HasCause, specs.Ends.IsFault, specs.declared.end.End.End}
 
 -- ---- what is asked
 

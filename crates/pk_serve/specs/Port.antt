@@ -1,29 +1,11 @@
 -- One command on a drive with nothing pending.
 use Rattle.std.specs.Prelude.{◌≡◌, ◌≢◌, ◌⊎◌, ◌+◌, ◌≤◌, ℕ, List, [], Some, Result, OnOk, OnErr, IfOk}
-use Rattle.pk_base.specs.Shape.{Shape}
-use Rattle.pk_base.specs.Page.{Flash}
-use Rattle.pk_base.specs.Map.{Map}
-use Rattle.pk_nvme.specs.Command.{Command}
-use Rattle.pk_nvme.specs.Reply.{Reply}
-use Rattle.pk_nvme.specs.Opcode.{op_of}
-use Rattle.pk_nvme.specs.declared.opcode.Opcode.TheVariants.{Retrieve}
-use Rattle.pk_nvme.specs.declared.request.Request.{Request}
+use Rattle.pk_base.{specs.Shape.Shape, specs.Page.Flash, specs.Map.Map}
+use Rattle.pk_nvme.{specs.Command.Command, specs.Reply.Reply, specs.Opcode.op_of, specs.declared.opcode.Opcode.TheVariants.Retrieve, specs.declared.request.Request.Request}
 use Rattle.pk_nvme.specs.declared.status.TheConstants.{UNRECOVERED_ERROR}
-use Rattle.pk_nand.specs.BoardState.{BoardState}
-use Rattle.pk_nand.specs.Calls.{Rose}
-use Rattle.pk_nand.specs.declared.types.NandFault.{NandFault}
-use Rattle.pk_model.specs.Answer.{map_after}
-use Rattle.pk_model.specs.Run.{Step}
-use Rattle.pk_model.specs.Bounds.{most_reads}
-use Rattle.pk_model.specs.Reading.{Holds}
-use Rattle.pk_call.specs.Sight.{Sight}
-use Rattle.pk_model.specs.Wear.{roots}
-use Rattle.pk_call.specs.Drive.{HoldsMap}
-use Rattle.pk_call.specs.Exec.{most_installs, most_unheld_reads}
-use Rattle.pk_call.specs.Meter.{reads_after}
-use Rattle.pk_call.specs.declared.types.Outcome.{Outcome}
-use Rattle.pk_model.specs.Growth.{Reaches, Goes}
-use Rattle.pk_model.specs.Spaces.{Terms}
+use Rattle.pk_nand.{specs.BoardState.BoardState, specs.Calls.Rose, specs.declared.types.NandFault.NandFault}
+use Rattle.pk_model.{specs.Answer.map_after, specs.Run.Step, specs.Bounds.most_reads, specs.Reading.Holds, specs.Wear.roots, specs.Growth.Reaches, specs.Growth.Goes, specs.Spaces.Terms}
+use Rattle.pk_call.{specs.Sight.Sight, specs.Drive.HoldsMap, specs.Exec.most_installs, specs.Exec.most_unheld_reads, specs.Meter.reads_after, specs.declared.types.Outcome.Outcome}
 
 -- wherever it is cut the flash holds the map before the command or the one after it within these limits
 abbrev pub StepCut : Shape → List ℕ → Map → Command → Flash → List ℕ → Type 0

@@ -1,27 +1,14 @@
 -- What is said of a run as a whole.
 use Rattle.std.specs.Prelude.{◌≡◌, ◌≢◌, ◌⊎◌, ◌≤◌, ◌+◌, ℕ, List, [], ◌++◌, length, Some, true, false}
-use Rattle.pk_base.specs.Shape.{Shape}
-use Rattle.pk_base.specs.Map.{Map}
+use Rattle.pk_base.{specs.Shape.Shape, specs.Map.Map}
 use Rattle.pk_nvme.specs.Command.{Command}
-use Rattle.pk_nand.specs.BoardState.{BoardState}
-use Rattle.pk_nand.specs.Calls.{Rose, longer, AtEnd}
-use Rattle.pk_model.specs.Run.{Exchange, RunWithin, commands, records, faults}
-use Rattle.pk_model.specs.Reading.{Holds}
-use Rattle.pk_model.specs.Kept.{AtMost, rise}
-use Rattle.pk_model.specs.Script.{script}
-use Rattle.pk_call.specs.Sight.{Sight}
-use Rattle.pk_call.specs.Drive.{HoldsMap}
-use Rattle.pk_model.specs.Wear.{is_worn, roots}
-use Rattle.pk_model.specs.Growth.{Goes}
-use Rattle.pk_call.specs.Meter.{meter, MeteredAll}
-use Rattle.pk_serve.specs.Ends.{NoFaults}
-use Rattle.pk_serve.specs.Serving.{KeptAt}
-use Rattle.pk_serve.specs.Answered.{Answered, installs}
-use Rattle.pk_serve.specs.Calling.{calls_of, most_calls_of_all}
-use Rattle.pk_serve.specs.declared.end.End.{End}
+use Rattle.pk_nand.{specs.BoardState.BoardState, specs.Calls.Rose, specs.Calls.longer, specs.Calls.AtEnd}
+use Rattle.pk_model.{specs.Run.Exchange, specs.Run.RunWithin, specs.Run.commands, specs.Run.records, specs.Run.faults, specs.Reading.Holds, specs.Kept.AtMost, specs.Kept.rise, specs.Script.script}
+use Rattle.pk_model.{specs.Wear.is_worn, specs.Wear.roots, specs.Growth.Goes, specs.Spaces.Terms}
+use Rattle.pk_call.{specs.Sight.Sight, specs.Drive.HoldsMap, specs.Meter.meter, specs.Meter.MeteredAll}
+use Rattle.pk_serve.{specs.Ends.NoFaults, specs.Serving.KeptAt, specs.Answered.Answered, specs.Answered.installs, specs.Calling.calls_of, specs.Calling.most_calls_of_all, specs.declared.end.End.End}
 use Rattle.pk_serve.specs.declared.end.End.TheVariants.{Done, Truncated, Input, Output, Flash, Worn}
 use Rattle.pk_serve.specs.Further.{most_entries, TakesMore}
-use Rattle.pk_model.specs.Spaces.{Terms}
 
 -- The headline: every cut keeps what was served of the script, and from each state of the trail to the next the tree grows.
 abbrev pub KeepsScript : BoardState → BoardState → Sight → Type 0

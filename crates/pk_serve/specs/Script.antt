@@ -1,17 +1,11 @@
 -- What was taken of a script, whatever the drive represents.
 use Rattle.std.specs.Prelude.{◌≡◌, ◌≢◌, ◌⊎◌, ℕ, List, [], ◌++◌, length, Some, true}
 use Rattle.pk_nvme.specs.Command.{Command}
-use Rattle.pk_nand.specs.BoardState.{BoardState}
-use Rattle.pk_model.specs.Script.{script}
-use Rattle.pk_model.specs.Wear.{is_worn}
-use Rattle.pk_serve.specs.Input.{Spells, IsPart}
-use Rattle.pk_nand.specs.Calls.{put_back, AtEnd}
-use Rattle.pk_call.specs.Sight.{Sight}
-use Rattle.pk_serve.specs.Ends.{Blames}
-use Rattle.pk_serve.specs.Loop.{Ends}
-use Rattle.pk_serve.specs.Further.{most_entries}
-use Rattle.pk_serve.specs.declared.end.End.{End}
+use Rattle.pk_nand.{specs.BoardState.BoardState, specs.Calls.put_back, specs.Calls.AtEnd}
+use Rattle.pk_model.{specs.Script.script, specs.Wear.is_worn}
+use Rattle.pk_serve.{specs.Input.Spells, specs.Input.IsPart, specs.Ends.Blames, specs.Loop.Ends, specs.Further.most_entries, specs.declared.end.End.End}
 use Rattle.pk_serve.specs.declared.end.End.TheVariants.{Done, Truncated, Input, Output, Flash, Worn}
+use Rattle.pk_call.specs.Sight.{Sight}
 
 -- This many commands were taken whole, and then this part of another one.
 pub record Consumed (a b : BoardState) (taken : ℕ) (part : List ℕ) : Type 0 where

@@ -1,27 +1,13 @@
 -- What holds after some commands were served.
 use Rattle.std.specs.Prelude.{◌≡◌, ℕ, ◌+◌, ◌≤◌, List, [], ◌∷◌, ◌++◌, length, Option, Some}
-use Rattle.pk_base.specs.Shape.{Shape}
-use Rattle.pk_base.specs.Page.{Flash}
-use Rattle.pk_base.specs.Mark.{Mark, all_posted}
-use Rattle.pk_base.specs.Map.{Map}
-use Rattle.pk_nvme.specs.Command.{Command}
-use Rattle.pk_nand.specs.BoardState.{BoardState}
-use Rattle.pk_nand.specs.Crash.{ReachedBy}
-use Rattle.pk_nvme.specs.Opcode.{op_of}
-use Rattle.pk_nvme.specs.declared.opcode.Opcode.TheVariants.{Retrieve}
-use Rattle.pk_model.specs.Bounds.{most_reads}
-use Rattle.pk_model.specs.Run.{Exchange, Step, RunWithin, commands, records, faults}
-use Rattle.pk_model.specs.Kept.{Kept, AtMost, rise}
-use Rattle.pk_call.specs.Sight.{Sight}
-use Rattle.pk_call.specs.Drive.{HoldsMap}
-use Rattle.pk_model.specs.Growth.{GrowsAlong, Goes}
-use Rattle.pk_call.specs.Meter.{meter, MeteredAll}
-use Rattle.pk_serve.specs.Ends.{NoFaults, HasCause}
-use Rattle.pk_serve.specs.Part.{Faulted}
-use Rattle.pk_serve.specs.Calling.{calls_of, owed, most_calls_of_all}
-use Rattle.pk_serve.specs.declared.end.End.{End}
+use Rattle.pk_base.{specs.Shape.Shape, specs.Page.Flash, specs.Mark.Mark, specs.Mark.all_posted, specs.Map.Map}
+use Rattle.pk_nvme.{specs.Command.Command, specs.Opcode.op_of, specs.declared.opcode.Opcode.TheVariants.Retrieve}
+use Rattle.pk_nand.{specs.BoardState.BoardState, specs.Crash.ReachedBy}
+use Rattle.pk_model.{specs.Bounds.most_reads, specs.Run.Exchange, specs.Run.Step, specs.Run.RunWithin, specs.Run.commands, specs.Run.records, specs.Run.faults, specs.Spaces.Terms}
+use Rattle.pk_model.{specs.Kept.Kept, specs.Kept.AtMost, specs.Kept.rise, specs.Growth.GrowsAlong, specs.Growth.Goes}
+use Rattle.pk_call.{specs.Sight.Sight, specs.Drive.HoldsMap, specs.Meter.meter, specs.Meter.MeteredAll}
+use Rattle.pk_serve.{specs.Ends.NoFaults, specs.Ends.HasCause, specs.Part.Faulted, specs.Calling.calls_of, specs.Calling.owed, specs.Calling.most_calls_of_all, specs.declared.end.End.End}
 use Rattle.pk_serve.specs.Answered.{Answered}
-use Rattle.pk_model.specs.Spaces.{Terms}
 
 -- what every cut keeps, of these commands
 abbrev pub KeptAt : Shape → Terms → Map → List Command → Option ℕ → Flash → List ℕ → Type 0

@@ -1,14 +1,10 @@
 -- How long the start of a line is.
 use Rattle.std.proofs.Common.{◌≡◌, ℕ, ◌+◌, Bool, false, ◌==◌, List, [], ◌∷◌, ◌++◌, length, length-append, sym, ap, ◌∙◌, arith}
-use Rattle.std.specs.Prelude.{if◌then◌else◌, codes}
-use Rattle.std.proofs.lemmas.Bool.Decides.{nat_tests}
-use Rattle.std.proofs.lemmas.List.{append-nil}
+use Rattle.std.{specs.Prelude.if◌then◌else◌, specs.Prelude.codes, proofs.lemmas.Bool.Decides.nat_tests, proofs.lemmas.List.append-nil}
 use Rattle.hex.specs.Hex.{encode_with}
 use Rattle.pk_base.specs.Fields.{u32_at}
-use Rattle.pk_nvme.specs.Text.{number_text, hex_text, bytes_text}
-use Rattle.pk_nvme.proofs.TextLemmas.{length-hex_text}
-use Rattle.pk_show.specs.Shown.{words, front, head_of, shown, shown_head}
-use Rattle.pk_show.specs.declared.head.Head.{Head}
+use Rattle.pk_nvme.{specs.Text.number_text, specs.Text.hex_text, specs.Text.bytes_text, proofs.TextLemmas.length-hex_text}
+use Rattle.pk_show.{specs.Shown.words, specs.Shown.front, specs.Shown.head_of, specs.Shown.shown, specs.Shown.shown_head, specs.declared.head.Head.Head}
 
 abbrev pub dash : Bool → List ℕ
 dash b = if b then codes "-" else []

@@ -1,12 +1,6 @@
 -- Entries that pass their test are of namespaces of the format.
-use Rattle.std.proofs.Common.{◌≡◌, ℕ, ◌≤◌, T, List, [], ◌∷◌, le→leb}
-use Rattle.std.specs.List.{AllByRecursion}
-use Rattle.pk_base.specs.declared.sizes.TheConstants.{MOST_SPACES}
-use Rattle.pk_base.specs.Shape.{Shape}
-use Rattle.pk_base.specs.Entry.{Entry}
-use Rattle.pk_base.specs.EntryChecks.{IsEntry}
-use Rattle.pk_base.proofs.EntryLemmas.{key_is_key}
-use Rattle.pk_base.proofs.Logic.{both}
+use Rattle.std.{proofs.Common.◌≡◌, proofs.Common.ℕ, proofs.Common.◌≤◌, proofs.Common.T, proofs.Common.List, proofs.Common.[], proofs.Common.◌∷◌, proofs.Common.le→leb, specs.List.AllByRecursion}
+use Rattle.pk_base.{specs.declared.sizes.TheConstants.MOST_SPACES, specs.Shape.Shape, specs.Entry.Entry, specs.EntryChecks.IsEntry, proofs.EntryLemmas.key_is_key, proofs.Logic.both}
 use Rattle.pk_space.specs.Entries.{in_spaces}
 
 pub in_most_spaces : (shape : Shape) (es : List Entry) → AllByRecursion (IsEntry shape) es → T (in_spaces MOST_SPACES es)

@@ -1,11 +1,9 @@
 -- Live limits of namespaces, and the first rule that other numbers break.
 use Rattle.std.specs.Prelude.{◌≡◌, ℕ, ◌+◌, ◌*◌, ◌≤◌, List, [], ◌∷◌, take, length, sum, bytes_eq, Bool, true, false, ◌||◌, not, ◌&&◌, ◌==◌, nat_le, nat_lt, if◌then◌else◌, Result, Ok, Err}
 use Rattle.std.specs.List.{list_any}
-use Rattle.pk_base.specs.Shape.{Shape, meta_blocks, limit}
-use Rattle.pk_space.specs.declared.limits.LimitsError.{LimitsError}
+use Rattle.pk_base.{specs.Shape.Shape, specs.Shape.meta_blocks, specs.Shape.limit, specs.declared.sizes.TheConstants.MOST_SPACES}
+use Rattle.pk_space.{specs.declared.limits.LimitsError.LimitsError, specs.declared.limits.TheConstants.LIMITS_LIST_FROM}
 use Rattle.pk_space.specs.declared.limits.LimitsError.TheVariants.{Count, Zero, TooMuch, NoRoom}
-use Rattle.pk_base.specs.declared.sizes.TheConstants.{MOST_SPACES}
-use Rattle.pk_space.specs.declared.limits.TheConstants.{LIMITS_LIST_FROM}
 
 -- the limits of namespaces 1, 2 and so on, in pages
 pub record Limits : Type 0 where

@@ -1,7 +1,6 @@
 -- Boards of Erased pages.
 use Rattle.std.proofs.Common.{◌≡◌, ℕ, zero, suc, ◌<◌, replicate, Result, Ok, refl, sym, ap, subst, ◌∙◌, arith}
-use Rattle.pk_base.specs.Shape.{Shape, page_count, checked, deepest, meta_blocks}
-use Rattle.pk_base.specs.declared.shape.ShapeError.{ShapeError}
+use Rattle.pk_base.{specs.Shape.Shape, specs.Shape.page_count, specs.Shape.checked, specs.Shape.deepest, specs.Shape.meta_blocks, specs.declared.shape.ShapeError.ShapeError}
 use Rattle.pk_base.specs.Page.{Flash, page_at, erased}
 
 -- the shape of 64 blocks of 16 pages of 512 bytes

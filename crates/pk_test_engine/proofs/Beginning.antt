@@ -1,24 +1,15 @@
 -- A merge of two runs of one page can be begun, and its output needs one page and one block.
 use Rattle.std.proofs.Common.{◌≡◌, ℕ, zero, suc, ◌+◌, ◌*◌, ◌<◌, ◌≤◌, sym, subst, arith, Bool, true, false, cond, List, [], ◌∷◌, ◌++◌, length, slice_get, filter, ◌==◌, is_some, if◌then◌else◌, Option}
 use Rattle.std.proofs.Common.{Some, length-append, suc-mul, lt_of_mul-lt-mul_right}
-use Rattle.std.proofs.lemmas.Grind.{div_ceil_times}
-use Rattle.std.specs.Int.{div_ceil}
-use Rattle.std.specs.Borrow.{Bor}
+use Rattle.std.{proofs.lemmas.Grind.div_ceil_times, specs.Int.div_ceil, specs.Borrow.Bor, specs.FinMap.Entries.put, specs.FinMap.Entries.by_order}
 use Rattle.std.specs.declared.cmp.Ordering.TheVariants.{Less, Equal, Greater}
-use Rattle.std.specs.FinMap.Entries.{put, by_order}
-use Rattle.pk_base.specs.Key.{Key, key_cmp}
-use Rattle.pk_base.specs.Shape.{Shape, IsShape, page_entries, cap, run_pages, run_blocks}
-use Rattle.pk_base.specs.Entry.{Entry}
-use Rattle.pk_base.specs.Firsts.{firsts}
-use Rattle.pk_base.specs.Page.{Flash}
+use Rattle.pk_base.{specs.Key.Key, specs.Key.key_cmp, specs.Shape.Shape, specs.Shape.IsShape, specs.Shape.page_entries, specs.Shape.cap, specs.Shape.run_pages, specs.Shape.run_blocks}
+use Rattle.pk_base.{specs.Entry.Entry, specs.Firsts.firsts, specs.Page.Flash}
 use Rattle.pk_pin.specs.Frames.{Frames}
 use Rattle.pk_plan.specs.declared.owner.Owner.TheVariants.{Meta}
-use Rattle.pk_pool.specs.declared.state.BlockState.TheVariants.{Owned}
-use Rattle.pk_pool.specs.Blocks.{Blocks, PoolOnFlash}
+use Rattle.pk_pool.{specs.declared.state.BlockState.TheVariants.Owned, specs.Blocks.Blocks, specs.Blocks.PoolOnFlash}
 use Rattle.pk_run.specs.Kept.{Kept}
-use Rattle.pk_merge.specs.declared.source.Source.TheVariants.{Run}
-use Rattle.pk_merge.specs.Outputs.{AreMeta}
-use Rattle.pk_merge.specs.Running.{merged, CanBegin}
+use Rattle.pk_merge.{specs.declared.source.Source.TheVariants.Run, specs.Outputs.AreMeta, specs.Running.merged, specs.Running.CanBegin}
 use Rattle.pk_test_engine.specs.Opened.{IsOpened, HasRoom}
 
 -- ---- no more entries than both lists have

@@ -1,13 +1,10 @@
 -- A merge runs whatever reference its source is passed by.
-use Rattle.std.proofs.Common.{◌≡◌, List}
-use Rattle.std.specs.Borrow.{Bor}
-use Rattle.pk_base.specs.Entry.{Entry}
-use Rattle.pk_base.specs.Page.{Flash}
+use Rattle.std.{proofs.Common.◌≡◌, proofs.Common.List, specs.Borrow.Bor}
+use Rattle.pk_base.{specs.Entry.Entry, specs.Page.Flash}
 use Rattle.pk_pin.specs.Frames.{Frames}
 use Rattle.pk_pool.specs.Blocks.{Blocks}
 use Rattle.pk_run.specs.Kept.{Kept}
-use Rattle.pk_merge.specs.Jobs.{Job, JobRuns}
-use Rattle.pk_merge.specs.declared.source.Source.TheVariants.{Run}
+use Rattle.pk_merge.{specs.Jobs.Job, specs.Jobs.JobRuns, specs.declared.source.Source.TheVariants.Run}
 
 pub carried : {X Y : Type 0} (b c : Bor Kept) (target : Kept) (j : Job) (pool : Blocks) (flash : Flash) (arena : Frames) (es fs : List Entry) → c.now ≡ b.now
     → JobRuns {X = X} (Run b) target j pool flash arena es fs → JobRuns {X = Y} (Run c) target j pool flash arena es fs

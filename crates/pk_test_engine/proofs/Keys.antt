@@ -1,7 +1,6 @@
 -- Keys of namespace 1: bytes, and of a namespace that each drive has.
 use Rattle.std.proofs.Common.{ℕ, zero, suc, ◌≤◌, List, [], ◌∷◌, length, arith}
-use Rattle.pk_base.specs.Fields.{AreBytes}
-use Rattle.pk_base.specs.Shape.{Shape}
+use Rattle.pk_base.{specs.Fields.AreBytes, specs.Shape.Shape}
 use Rattle.pk_rootfmt.specs.Root.{Root, limits_of}
 use Rattle.pk_model.specs.RootLimits.{root_limits, root_spaces}
 

@@ -1,19 +1,11 @@
 -- Runs as the tests open them, the room that a merge of them needs, and its output.
-use Rattle.std.specs.Prelude.{◌≡◌, ℕ, ◌<◌, List, [], ◌∷◌, slice_get, Some}
-use Rattle.std.specs.List.{AllByRecursion}
-use Rattle.pk_base.specs.Shape.{Shape}
-use Rattle.pk_base.specs.Entry.{Entry}
-use Rattle.pk_base.specs.EntryChecks.{IsEntry}
-use Rattle.pk_base.specs.Page.{Flash}
+use Rattle.std.{specs.Prelude.◌≡◌, specs.Prelude.ℕ, specs.Prelude.◌<◌, specs.Prelude.List, specs.Prelude.[], specs.Prelude.◌∷◌, specs.Prelude.slice_get, specs.Prelude.Some, specs.List.AllByRecursion}
+use Rattle.pk_base.{specs.Shape.Shape, specs.Entry.Entry, specs.EntryChecks.IsEntry, specs.Page.Flash}
 use Rattle.pk_pin.specs.Frames.{Frames, free_frames}
-use Rattle.pk_plan.specs.declared.owner.Owner.TheVariants.{Meta}
-use Rattle.pk_plan.specs.Quotas.{quota_of}
-use Rattle.pk_pool.specs.declared.state.BlockState.TheVariants.{Owned}
-use Rattle.pk_pool.specs.Blocks.{Blocks, used_by}
+use Rattle.pk_plan.{specs.declared.owner.Owner.TheVariants.Meta, specs.Quotas.quota_of}
+use Rattle.pk_pool.{specs.declared.state.BlockState.TheVariants.Owned, specs.Blocks.Blocks, specs.Blocks.used_by}
 use Rattle.pk_run.specs.Kept.{Kept, RunOnFlash}
-use Rattle.pk_merge.specs.declared.source.Source.{Source}
-use Rattle.pk_merge.specs.declared.source.Source.TheVariants.{Run}
-use Rattle.pk_merge.specs.Jobs.{Job, output_of}
+use Rattle.pk_merge.{specs.declared.source.Source.Source, specs.declared.source.Source.TheVariants.Run, specs.Jobs.Job, specs.Jobs.output_of}
 
 -- The run represents entries that can be written, and its pages are in one block.
 pub record IsOpened (shape : Shape) (flash : Flash) (arena : Frames) (block : ℕ) (r : Kept) : Type 0 where

@@ -1,18 +1,12 @@
 -- What a call of the port in memory leaves, and what it answers.
 use Rattle.std.proofs.Common.{◌≡◌, inr, inl, ℕ, ◌≤◌, ◌<◌, ◌^◌, refl, sym, ap, subst, ◌∙◌, arith, List, [], ◌∷◌, length, take, Option, Some, Result, Ok, Err, IfOk, OnErr}
-use Rattle.pk_base.specs.Shape.{limit}
-use Rattle.pk_base.specs.Map.{Map}
-use Rattle.pk_nvme.specs.Command.{Command}
-use Rattle.pk_nvme.specs.Reply.{Reply, completion}
-use Rattle.pk_model.specs.Answer.{map_after}
-use Rattle.pk_model.specs.Machine.{Machine, Answers, no_numbers, replied, machine_terms}
+use Rattle.pk_base.{specs.Shape.limit, specs.Map.Map}
+use Rattle.pk_nvme.{specs.Command.Command, specs.Reply.Reply, specs.Reply.completion}
+use Rattle.pk_model.{specs.Answer.map_after, specs.Machine.Machine, specs.Machine.Answers, specs.Machine.no_numbers, specs.Machine.replied, specs.Machine.machine_terms}
 use Rattle.pk_model.specs.declared.answer.Answer.{Answer}
-use Rattle.pk_host.specs.Port.{PortState, PortSteps, Replies, Completes, Took, room_of}
-use Rattle.pk_host.specs.declared.types.Completed.{Completed}
-use Rattle.pk_host.specs.Good.{IsGood, IsHanded}
+use Rattle.pk_host.{specs.Port.PortState, specs.Port.PortSteps, specs.Port.Replies, specs.Port.Completes, specs.Port.Took, specs.Port.room_of, specs.declared.types.Completed.Completed}
+use Rattle.pk_host.{specs.Good.IsGood, specs.Good.IsHanded, proofs.LeftLemmas.good_left, proofs.DataLemmas.data_fit, proofs.DataLemmas.no_read_error}
 use Rattle.pk_test_formats.specs.Memory.{seen}
-use Rattle.pk_host.proofs.LeftLemmas.{good_left}
-use Rattle.pk_host.proofs.DataLemmas.{data_fit, no_read_error}
 
 module _ (old new : Machine) (faults : ℕ) (c : Command) (a : Answer) (h : Answers old new c a) where
   some_map : (m n : Map) → ◌≡◌ {A = Option Map} (Some m) (Some n) → m ≡ n

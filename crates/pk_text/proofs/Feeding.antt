@@ -1,15 +1,9 @@
 -- Bytes that are fetched, and bytes that are used.
 use Rattle.std.proofs.Common.{◌≡◌, ℕ, ◌<◌, ◌≤◌, Bool, true, false, List, [], ◌∷◌, ◌++◌, length, take, drop, get_or, refl, sym, ◌∙◌, ap, subst, arith, append-nil, Option, Some, None, length-take-le}
-use Rattle.std.specs.Prelude.{nat_lt}
-use Rattle.std.proofs.lemmas.Bool.Decides.{nat_tests}
-use Rattle.std.proofs.lemmas.List.{take-append-drop, length-take}
-use Rattle.std.proofs.Math.Seq.{take-append_seam}
+use Rattle.std.{specs.Prelude.nat_lt, proofs.lemmas.Bool.Decides.nat_tests, proofs.lemmas.List.take-append-drop, proofs.lemmas.List.length-take, proofs.Math.Seq.take-append_seam}
 use Rattle.std.proofs.Math.ListN.{drop_of_length-le}
 use Rattle.pk_base.specs.Mark.{Mark}
-use Rattle.pk_nand.specs.BoardState.{BoardState}
-use Rattle.pk_nand.specs.Calls.{put_back, AtEnd}
-use Rattle.pk_nand.specs.Operations.{Fetched, FetchFailed, Takes}
-use Rattle.pk_nand.proofs.Resting.{Rests-start}
+use Rattle.pk_nand.{specs.BoardState.BoardState, specs.Calls.put_back, specs.Calls.AtEnd, specs.Operations.Fetched, specs.Operations.FetchFailed, specs.Operations.Takes, proofs.Resting.Rests-start}
 use Rattle.pk_text.specs.Steps.{ahead, Moved, Fed, FeedFailed, Filled, Nexted}
 use Rattle.pk_text.proofs.Turning.{put_back-nil, put_back-append, longer-nil, Fed-then}
 

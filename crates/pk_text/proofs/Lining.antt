@@ -1,18 +1,12 @@
 -- Lines that are taken, and what they give.
 use Rattle.std.proofs.Common.{◌≡◌, ℕ, suc, ◌<◌, ◌≤◌, ◌+◌, Bool, true, false, List, [], ◌∷◌, ◌++◌, length, refl, sym, ◌∙◌, ap, subst, arith, append_assoc, append-nil, length-append, Option, Some, None}
-use Rattle.std.specs.Prelude.{nat_lt, nat_le, ◌==◌, if◌then◌else◌, IfSome, option_map}
-use Rattle.std.proofs.lemmas.Bool.Decides.{nat_tests}
+use Rattle.std.{specs.Prelude.nat_lt, specs.Prelude.nat_le, specs.Prelude.◌==◌, specs.Prelude.if◌then◌else◌, specs.Prelude.IfSome, specs.Prelude.option_map, proofs.lemmas.Bool.Decides.nat_tests}
 use Rattle.pk_asm.specs.Line.{Line, nothing, entry, says, entry_in, line_bytes}
-use Rattle.pk_nand.specs.BoardState.{BoardState}
-use Rattle.pk_nand.specs.Calls.{put_back, AtEnd}
-use Rattle.pk_nand.specs.Operations.{after_post, PostFailed}
-use Rattle.pk_text.specs.Written.{ended}
-use Rattle.pk_text.specs.Assembled.{onto_first, lines, line_given, lines_given, assembled_from}
-use Rattle.pk_text.specs.Turns.{TurnsFrom}
+use Rattle.pk_nand.{specs.BoardState.BoardState, specs.Calls.put_back, specs.Calls.AtEnd, specs.Operations.after_post, specs.Operations.PostFailed}
+use Rattle.pk_text.{specs.Written.ended, specs.Assembled.onto_first, specs.Assembled.lines, specs.Assembled.line_given, specs.Assembled.lines_given, specs.Assembled.assembled_from}
+use Rattle.pk_text.{specs.Turns.TurnsFrom, specs.declared.end.TextEnd.TextEnd, proofs.Feeding.Fed-more, proofs.Feeding.Fed-end}
 use Rattle.pk_text.specs.Steps.{ahead, Moved, TextAdvances, Fed, Nexted, IsLine, LineTaken, NoLine, LineGives, GivesNot, TextStops}
-use Rattle.pk_text.specs.declared.end.TextEnd.{TextEnd}
 use Rattle.pk_text.specs.declared.end.TextEnd.TheVariants.{Done, Truncated, Input, Output, TooMany, BadLine}
-use Rattle.pk_text.proofs.Feeding.{Fed-more, Fed-end}
 use Rattle.pk_text.proofs.Turning.{Moved-none, Moved-then, Moved-post, known, known_is, told-back, none_ahead, Turns-input, Turns-output, Turns-stop, all_posted}
 
 -- ---- the lines of bytes

@@ -2,25 +2,17 @@
 use Rattle.std.proofs.Common.{◌≡◌, ℕ, zero, suc, ◌<◌, ◌≤◌, ◌+◌, ◌-◌, Bool, true, false, List, [], ◌∷◌, ◌++◌, length, take, drop, refl, sym, ◌∙◌, ap, subst, arith, append_assoc, append-nil}
 use Rattle.std.proofs.Common.{length-append, length-drop, length-take-le}
 use Rattle.std.specs.Prelude.{nat_lt, nat_le, ◌==◌, ◌^◌, if◌then◌else◌, codes, IsTrue, ◌↔◌}
-use Rattle.std.proofs.lemmas.Bool.Decides.{nat_tests}
-use Rattle.std.proofs.Math.Seq.{take-append_seam, drop-append_seam, take-append-add, drop-append-add}
+use Rattle.std.{proofs.lemmas.Bool.Decides.nat_tests, proofs.Math.Seq.take-append_seam, proofs.Math.Seq.drop-append_seam, proofs.Math.Seq.take-append-add, proofs.Math.Seq.drop-append-add}
 use Rattle.pk_base.specs.Fields.{u16_at, u32_at}
-use Rattle.pk_nvme.specs.Reply.{status_at}
-use Rattle.pk_nvme.specs.Text.{hex_text, number_text}
-use Rattle.pk_nvme.proofs.TextLemmas.{hex_text-append, length-hex_text, number_text_short}
-use Rattle.pk_show.specs.Shown.{shown_head, shown as record_line, words, head_of}
+use Rattle.pk_nvme.{specs.Reply.status_at, specs.Text.hex_text, specs.Text.number_text, proofs.TextLemmas.hex_text-append, proofs.TextLemmas.length-hex_text, proofs.TextLemmas.number_text_short}
 use Rattle.pk_nvme.specs.Bytes.{RoomyList}
-use Rattle.pk_nand.specs.BoardState.{BoardState}
-use Rattle.pk_nand.specs.Calls.{put_back}
-use Rattle.pk_nand.specs.Operations.{after_post, PostFailed}
-use Rattle.pk_text.specs.Written.{Written, ended, before}
+use Rattle.pk_show.specs.Shown.{shown_head, shown as record_line, words, head_of}
+use Rattle.pk_nand.{specs.BoardState.BoardState, specs.Calls.put_back, specs.Operations.after_post, specs.Operations.PostFailed}
+use Rattle.pk_text.{specs.Written.Written, specs.Written.ended, specs.Written.before, specs.Turns.TurnsFrom, specs.declared.end.TextEnd.TextEnd, proofs.Feeding.Fed-used}
 use Rattle.pk_text.specs.Records.{cut_short, data_shown, head_shown, record_shown, records_shown, shown_from}
-use Rattle.pk_text.specs.Turns.{TurnsFrom}
 use Rattle.pk_text.specs.Steps.{ahead, TextAdvances, Fed, IsOver, Filled, HeadTaken, TextStops}
-use Rattle.pk_text.specs.declared.end.TextEnd.{TextEnd}
 use Rattle.pk_text.specs.declared.end.TextEnd.TheVariants.{Done, Truncated, Output, TooMany}
 use Rattle.pk_text.proofs.Turning.{not_false, put_back-nil, before-before, Moved-none, Moved-then, Moved-post, known, known_is, told-back, none_ahead, Turns-output, Turns-stop, all_posted}
-use Rattle.pk_text.proofs.Feeding.{Fed-used}
 
 nil_of : (xs : List ℕ) → length xs ≡ 0 → xs ≡ []
 nil_of [] e = refl

@@ -1,14 +1,11 @@
 -- Runs that are put together from steps.
 use Rattle.std.proofs.Common.{◌≡◌, ℕ, suc, ◌+◌, Bool, true, false, arith, ◌<◌, List, [], ◌∷◌, ◌++◌, length, refl, sym, ◌∙◌, ap, subst, append_assoc, append-nil, Option, Some, None}
 use Rattle.std.specs.Prelude.{IfSome, IfErr, OnOk, OnErr, IsTrue, Result, Ok, Err, ◌↔◌}
-use Rattle.pk_nand.specs.BoardState.{BoardState}
-use Rattle.pk_nand.specs.Calls.{Rose, longer, put_back, AtEnd}
-use Rattle.pk_nand.specs.Operations.{after_post, PostFailed}
+use Rattle.pk_nand.{specs.BoardState.BoardState, specs.Calls.Rose, specs.Calls.longer, specs.Calls.put_back, specs.Calls.AtEnd, specs.Operations.after_post, specs.Operations.PostFailed}
 use Rattle.pk_nand.proofs.Resting.{Rests-same, Rests-then, Rests-post, Rests-post_failed}
-use Rattle.pk_text.specs.Written.{Written, ended, before}
+use Rattle.pk_text.{specs.Written.Written, specs.Written.ended, specs.Written.before, specs.declared.end.TextEnd.TextEnd}
 use Rattle.pk_text.specs.Turns.{Touched, IsTextPrefix, IsAll, TextEnds, TurnsFrom, Turns}
 use Rattle.pk_text.specs.Steps.{ahead, Moved, TextAdvances, Fed, IsOver, FeedFailed, Nexted, TextStops}
-use Rattle.pk_text.specs.declared.end.TextEnd.{TextEnd}
 use Rattle.pk_text.specs.declared.end.TextEnd.TheVariants.{Done, Truncated, Input, Output, TooMany, BadLine}
 
 pub put_back-append : (xs ys : List ℕ) (o : Option (List ℕ)) → put_back xs (put_back ys o) ≡ put_back (xs ++ ys) o

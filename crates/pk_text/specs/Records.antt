@@ -1,8 +1,6 @@
 -- Answer records as lines of text.
 use Rattle.std.specs.Prelude.{ℕ, zero, suc, nat_le, nat_lt, if◌then◌else◌, List, [], ◌∷◌, ◌++◌, length, take, drop, codes}
-use Rattle.pk_nvme.specs.declared.sizes.TheConstants.{RECORD_HEAD_BYTES}
-use Rattle.pk_nvme.specs.Reply.{data_bytes_at}
-use Rattle.pk_nvme.specs.Text.{hex_text}
+use Rattle.pk_nvme.{specs.declared.sizes.TheConstants.RECORD_HEAD_BYTES, specs.Reply.data_bytes_at, specs.Text.hex_text}
 use Rattle.pk_show.specs.Shown.{shown_head}
 use Rattle.pk_text.specs.Written.{Written, ended, before, most}
 use Rattle.pk_text.specs.declared.end.TextEnd.TheVariants.{Done, Truncated, TooMany}

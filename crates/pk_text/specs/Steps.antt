@@ -2,15 +2,9 @@
 use Rattle.std.specs.Prelude.{◌≡◌, ◌<◌, ℕ, ◌==◌, List, [], ◌∷◌, ◌++◌, length, Option, Some, None, Bool, true, false}
 use Rattle.std.specs.List.{AllByRecursion}
 use Rattle.pk_nvme.specs.declared.sizes.TheConstants.{RECORD_HEAD_BYTES}
-use Rattle.pk_asm.specs.declared.sizes.TheConstants.{MOST_LINE_BYTES}
-use Rattle.pk_asm.specs.Line.{entry, says}
-use Rattle.pk_nand.specs.BoardState.{BoardState}
-use Rattle.pk_nand.specs.Calls.{Rose, put_back, AtEnd}
-use Rattle.pk_nand.specs.Operations.{PostFailed}
-use Rattle.pk_text.specs.Written.{Written, before}
-use Rattle.pk_text.specs.Assembled.{line_given}
-use Rattle.pk_text.specs.Turns.{Touched}
-use Rattle.pk_text.specs.declared.end.TextEnd.{TextEnd}
+use Rattle.pk_asm.{specs.declared.sizes.TheConstants.MOST_LINE_BYTES, specs.Line.entry, specs.Line.says}
+use Rattle.pk_nand.{specs.BoardState.BoardState, specs.Calls.Rose, specs.Calls.put_back, specs.Calls.AtEnd, specs.Operations.PostFailed}
+use Rattle.pk_text.{specs.Written.Written, specs.Written.before, specs.Assembled.line_given, specs.Turns.Touched, specs.declared.end.TextEnd.TextEnd}
 use Rattle.pk_text.specs.declared.end.TextEnd.TheVariants.{Done, Truncated, Input, Output, TooMany, BadLine}
 
 -- the input from here on, if it is recorded: bytes that were fetched and not used, and what the board has left

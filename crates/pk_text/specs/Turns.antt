@@ -1,10 +1,7 @@
 -- What a run over the input of a board does to the board.
 use Rattle.std.specs.Prelude.{◌≡◌, ℕ, List, ◌++◌, Option, IfSome}
-use Rattle.pk_nand.specs.BoardState.{BoardState}
-use Rattle.pk_nand.specs.Calls.{Rose, longer, put_back, AtEnd}
-use Rattle.pk_nand.specs.Resting.{RestsFlash}
-use Rattle.pk_text.specs.Written.{Written}
-use Rattle.pk_text.specs.declared.end.TextEnd.{TextEnd}
+use Rattle.pk_nand.{specs.BoardState.BoardState, specs.Calls.Rose, specs.Calls.longer, specs.Calls.put_back, specs.Calls.AtEnd, specs.Resting.RestsFlash}
+use Rattle.pk_text.{specs.Written.Written, specs.declared.end.TextEnd.TextEnd}
 use Rattle.pk_text.specs.declared.end.TextEnd.TheVariants.{Done, Truncated, Input, Output, TooMany, BadLine}
 
 -- Bytes of the input were taken and these bytes posted, with the pages unchanged at every cut. Of the rest only the trail and the counts of host

@@ -1,37 +1,21 @@
 -- If no call fails, a word is done.
 use Rattle.std.proofs.Common.{◌≡◌, ◌⊎◌, inl, inr, ℕ, ◌+◌, ◌<◌, ◌≤◌, List, Option, Some, None, IsSome, refl, sym, ◌∙◌, ap, subst, arith, true, nat_le}
 use Rattle.std.proofs.lemmas.Bool.Decides.{nat_tests}
-use Rattle.pk_base.specs.Shape.{Shape}
-use Rattle.pk_base.specs.Page.{Flash}
-use Rattle.pk_base.specs.Map.{Map}
-use Rattle.pk_nand.specs.BoardState.{BoardState, shape_or_none}
-use Rattle.pk_nand.specs.Calls.{Rose, Loaded, longer}
-use Rattle.pk_nand.specs.declared.types.LoadFault.{LoadFault}
+use Rattle.pk_base.{specs.Shape.Shape, specs.Page.Flash, specs.Map.Map}
+use Rattle.pk_nand.{specs.BoardState.BoardState, specs.BoardState.shape_or_none, specs.Calls.Rose, specs.Calls.Loaded, specs.Calls.longer, specs.declared.types.LoadFault.LoadFault}
 use Rattle.pk_nand.specs.declared.types.LoadFault.TheVariants.{Fault, BadImage, Memory}
-use Rattle.pk_model.specs.Spaces.{terms_at}
-use Rattle.pk_model.specs.Kept.{AtMost, rise}
-use Rattle.pk_model.specs.Reading.{Holds}
-use Rattle.pk_model.specs.Run.{faults}
-use Rattle.pk_model.specs.Wear.{root_number, roots}
+use Rattle.pk_model.{specs.Spaces.terms_at, specs.Kept.AtMost, specs.Kept.rise, specs.Reading.Holds, specs.Run.faults, specs.Wear.root_number, specs.Wear.roots}
 use Rattle.pk_call.specs.Meter.{Meter, meter, MeteredAll}
 use Rattle.pk_serve.specs.Complete.{NoneRose}
-use Rattle.pk_scan.specs.Opening.{NotOpened}
-use Rattle.pk_scan.specs.declared.errors.OpenError.{OpenError}
+use Rattle.pk_scan.{specs.Opening.NotOpened, specs.declared.errors.OpenError.OpenError}
 use Rattle.pk_scan.specs.declared.errors.OpenError.TheVariants.{NotFormatted, Damaged, Fault as ReadFault, Memory as NoMemory}
-use Rattle.pk_wordrun.specs.Tasks.{Task, answer, list, generate, SaysTask}
-use Rattle.pk_wordrun.specs.Seen.{IsAllowedTask}
+use Rattle.pk_wordrun.{specs.Tasks.Task, specs.Tasks.answer, specs.Tasks.list, specs.Tasks.generate, specs.Tasks.SaysTask, specs.Seen.IsAllowedTask, specs.declared.end.WordEnd.WordEnd}
 use Rattle.pk_wordrun.specs.Told.{EndsBy, WordDone, most_roots}
-use Rattle.pk_wordrun.specs.declared.end.WordEnd.{WordEnd}
 use Rattle.pk_wordrun.specs.declared.end.WordEnd.TheVariants.{Done, Output, Flash as FlashFailed, Worn}
-use Rattle.pk_top.specs.Asks.{word_status, AskedTo, Asks, AsksAll, AsksWhole, AsksFound, AskRun}
-use Rattle.pk_top.specs.declared.asking.TheConstants.{WORD_FRAMES}
-use Rattle.pk_top.specs.Ends.{open_status}
+use Rattle.pk_top.{specs.Asks.word_status, specs.Asks.AskedTo, specs.Asks.Asks, specs.Asks.AsksAll, specs.Asks.AsksWhole, specs.Asks.AsksFound, specs.Asks.AskRun, specs.Ends.open_status}
+use Rattle.pk_top.{specs.declared.asking.TheConstants.WORD_FRAMES, specs.Serves.behind_opening, specs.Statuses.Untouched, proofs.Asked.same_meter}
 use Rattle.pk_top.specs.Loads.{load_status, HasReason, no_memory, not_loaded, no_image, has_image}
-use Rattle.pk_top.specs.Serves.{behind_opening}
-use Rattle.pk_top.specs.Statuses.{Untouched}
-use Rattle.pk_top.proofs.Asked.{same_meter}
-use Rattle.pk_top.proofs.Completing.{reads_leave, untouched_loaded}
-use Rattle.pk_top.proofs.Telling.{untouched_same, refused_untouched}
+use Rattle.pk_top.{proofs.Completing.reads_leave, proofs.Completing.untouched_loaded, proofs.Telling.untouched_same, proofs.Telling.refused_untouched}
 
 -- ---- from the load on
 

@@ -1,44 +1,21 @@
 -- A run of a word that asks the drive, from the load on.
 use Rattle.std.proofs.Common.{◌≡◌, ◌⊎◌, inl, inr, ℕ, List, [], Option, Some, None, IsSome, Result, Ok, refl, sym, ◌∙◌, ap, subst, arith}
-use Rattle.pk_base.specs.Entry.{Entry}
-use Rattle.pk_base.specs.Map.{Map}
-use Rattle.pk_base.specs.Page.{Flash, IsFlash}
-use Rattle.pk_base.specs.Refusal.{Refusal}
-use Rattle.pk_base.specs.Shape.{Shape}
+use Rattle.pk_base.{specs.Entry.Entry, specs.Map.Map, specs.Page.Flash, specs.Page.IsFlash, specs.Refusal.Refusal, specs.Shape.Shape}
 use Rattle.pk_nvme.specs.Command.{Command}
-use Rattle.pk_nand.specs.BoardState.{BoardState, shape_or_none}
-use Rattle.pk_nand.specs.Calls.{Rose, Loaded, IsReady}
-use Rattle.pk_nand.specs.Counts.{counted_by}
-use Rattle.pk_nand.specs.Effects.{OnlyReading}
-use Rattle.pk_nand.specs.Resting.{RestsFlash}
-use Rattle.pk_nand.proofs.Reaching.{Reached-start, Went-reached}
-use Rattle.pk_nand.proofs.Resting.{Rests-start}
-use Rattle.pk_model.specs.Growth.{Goes}
-use Rattle.pk_model.specs.Spaces.{Terms, limits_at, terms_at, in_space}
-use Rattle.pk_port.specs.Steps.{mount}
-use Rattle.pk_port.proofs.Serving.{mounted_terms}
-use Rattle.pk_model.specs.Kept.{Kept, rise}
+use Rattle.pk_nand.{specs.BoardState.BoardState, specs.BoardState.shape_or_none, specs.Calls.Rose, specs.Calls.Loaded, specs.Calls.IsReady, specs.Counts.counted_by, specs.Effects.OnlyReading}
+use Rattle.pk_nand.{specs.Resting.RestsFlash, proofs.Reaching.Reached-start, proofs.Reaching.Went-reached, proofs.Resting.Rests-start}
+use Rattle.pk_model.{specs.Growth.Goes, specs.Spaces.Terms, specs.Spaces.limits_at, specs.Spaces.terms_at, specs.Spaces.in_space, specs.Kept.Kept, specs.Kept.rise, specs.Wear.root_number}
 use Rattle.pk_model.specs.Reading.{reading, Holds}
-use Rattle.pk_call.specs.Sight.{Sight}
-use Rattle.pk_model.specs.Wear.{root_number}
+use Rattle.pk_port.{specs.Steps.mount, proofs.Serving.mounted_terms}
+use Rattle.pk_call.{specs.Sight.Sight, specs.Drive.HoldsMap, specs.Meter.Meter, specs.Meter.meter}
 use Rattle.pk_serve.proofs.Counting.{at_most-zero}
-use Rattle.pk_call.specs.Drive.{HoldsMap}
-use Rattle.pk_call.specs.Meter.{Meter, meter}
-use Rattle.pk_scan.specs.Opening.{NotOpened}
-use Rattle.pk_scan.specs.Reads.{opening_reads}
-use Rattle.pk_scan.specs.declared.errors.OpenError.{OpenError}
-use Rattle.pk_words.specs.Lines.{key_lines}
-use Rattle.pk_words.specs.Says.{wanted_keys}
-use Rattle.pk_wordrun.specs.Tasks.{Task, answer, list, generate, KeptTask}
-use Rattle.pk_wordrun.specs.Told.{Told, EndsBy, KeepsInput}
+use Rattle.pk_scan.{specs.Opening.NotOpened, specs.Reads.opening_reads, specs.declared.errors.OpenError.OpenError}
+use Rattle.pk_words.{specs.Lines.key_lines, specs.Says.wanted_keys}
+use Rattle.pk_wordrun.{specs.Tasks.Task, specs.Tasks.answer, specs.Tasks.list, specs.Tasks.generate, specs.Tasks.KeptTask, specs.Told.Told, specs.Told.EndsBy, specs.Told.KeepsInput}
 use Rattle.pk_wordrun.specs.declared.end.WordEnd.{WordEnd}
 use Rattle.pk_wordrun.specs.declared.end.WordEnd.TheVariants.{Done, Output, Flash as FlashFailed, Worn}
-use Rattle.pk_top.specs.Loads.{no_memory, not_loaded, no_image, has_image}
-use Rattle.pk_top.specs.Asks.{word_status, KeepsTask, AskedTo, Asks, AskRun}
-use Rattle.pk_top.specs.declared.asking.TheConstants.{WORD_FRAMES}
-use Rattle.pk_top.specs.Ends.{open_status}
-use Rattle.pk_top.specs.Serves.{behind_opening}
-use Rattle.pk_top.specs.Statuses.{Tells, Untouched}
+use Rattle.pk_top.{specs.Loads.no_memory, specs.Loads.not_loaded, specs.Loads.no_image, specs.Loads.has_image, specs.declared.asking.TheConstants.WORD_FRAMES, specs.Ends.open_status}
+use Rattle.pk_top.{specs.Asks.word_status, specs.Asks.KeepsTask, specs.Asks.AskedTo, specs.Asks.Asks, specs.Asks.AskRun, specs.Serves.behind_opening, specs.Statuses.Tells, specs.Statuses.Untouched}
 use Rattle.pk_top.proofs.Telling.{tells_good, tells_output, tells_flash, tells_memory, tells_no_drive, tells_refused, tells_not, wants_untouched, wants_sound, gives_same, untouched_same}
 use Rattle.pk_top.proofs.Telling.{load_untouched, refused_untouched}
 

@@ -1,26 +1,15 @@
 -- If no call fails, a whole script is served.
 use Rattle.std.proofs.Common.{◌≡◌, inl, inr, ℕ, List, Option, Some, None, IsSome, refl, sym, ◌∙◌, ap, subst, ◌<◌}
-use Rattle.pk_base.specs.Shape.{Shape}
-use Rattle.pk_base.specs.Page.{Flash}
-use Rattle.pk_base.specs.Map.{Map}
+use Rattle.pk_base.{specs.Shape.Shape, specs.Page.Flash, specs.Map.Map}
 use Rattle.pk_nvme.specs.Command.{Command}
-use Rattle.pk_nand.specs.BoardState.{BoardState, shape_or_none}
-use Rattle.pk_nand.specs.Calls.{Rose, Loaded, longer}
-use Rattle.pk_nand.specs.declared.types.LoadFault.{LoadFault}
+use Rattle.pk_nand.{specs.BoardState.BoardState, specs.BoardState.shape_or_none, specs.Calls.Rose, specs.Calls.Loaded, specs.Calls.longer, specs.declared.types.LoadFault.LoadFault}
 use Rattle.pk_nand.specs.declared.types.LoadFault.TheVariants.{Fault, BadImage, Memory}
-use Rattle.pk_model.specs.Spaces.{terms_at}
-use Rattle.pk_model.specs.Reading.{Holds}
-use Rattle.pk_model.specs.Run.{records}
-use Rattle.pk_model.specs.Script.{script}
-use Rattle.pk_model.specs.Wear.{root_number, roots}
-use Rattle.pk_scan.specs.Opening.{NotOpened, OnlyReads}
-use Rattle.pk_scan.specs.declared.errors.OpenError.{OpenError}
+use Rattle.pk_model.{specs.Spaces.terms_at, specs.Reading.Holds, specs.Run.records, specs.Script.script, specs.Wear.root_number, specs.Wear.roots}
+use Rattle.pk_scan.{specs.Opening.NotOpened, specs.Opening.OnlyReads, specs.declared.errors.OpenError.OpenError}
 use Rattle.pk_scan.specs.declared.errors.OpenError.TheVariants.{NotFormatted, Damaged, Fault as ReadFault, Memory as NoMemory}
 use Rattle.pk_serve.specs.Complete.{IsServable, Complete}
-use Rattle.pk_top.specs.Ends.{open_status}
-use Rattle.pk_top.specs.Loads.{load_status, HasReason, no_memory, not_loaded, no_image, has_image}
-use Rattle.pk_top.specs.Serves.{ServeRun, ServesFound, ServesAll, ServesWhole, behind_opening}
-use Rattle.pk_top.specs.Statuses.{Untouched}
+use Rattle.pk_top.{specs.Ends.open_status, specs.Loads.load_status, specs.Loads.HasReason, specs.Loads.no_memory, specs.Loads.not_loaded, specs.Loads.no_image, specs.Loads.has_image}
+use Rattle.pk_top.{specs.Serves.ServeRun, specs.Serves.ServesFound, specs.Serves.ServesAll, specs.Serves.ServesWhole, specs.Serves.behind_opening, specs.Statuses.Untouched}
 use Rattle.pk_top.proofs.Telling.{untouched_same, refused_untouched}
 
 -- ---- a drive that was not opened

@@ -1,14 +1,11 @@
 -- A run of the word `make`.
 use Rattle.std.proofs.Common.{◌≡◌, ◌≢◌, inl, inr, ℕ, List, Option, Some, None, IsSome, refl, sym, ◌∙◌, ap, subst, arith}
 use Rattle.pk_base.specs.Shape.{Shape}
-use Rattle.pk_nand.specs.BoardState.{BoardState}
-use Rattle.pk_nand.specs.Calls.{Rose, Loaded, MakeFailed, ProgramsFailed}
-use Rattle.pk_nand.specs.Pairs.{programs_of_pair}
+use Rattle.pk_nand.{specs.BoardState.BoardState, specs.Calls.Rose, specs.Calls.Loaded, specs.Calls.MakeFailed, specs.Calls.ProgramsFailed, specs.Pairs.programs_of_pair}
 use Rattle.pk_nand.specs.declared.types.LoadFault.{LoadFault}
 use Rattle.pk_nand.specs.declared.types.LoadFault.TheVariants.{Fault, BadImage, Memory}
-use Rattle.pk_top.specs.Loads.{load_status, no_memory, not_loaded, no_image, has_image}
+use Rattle.pk_top.{specs.Loads.load_status, specs.Loads.no_memory, specs.Loads.not_loaded, specs.Loads.no_image, specs.Loads.has_image, specs.Statuses.GivesNothing, specs.Statuses.Tells}
 use Rattle.pk_top.specs.Makes.{MakeRun, Makes, MadeImage, IsMade, made_root}
-use Rattle.pk_top.specs.Statuses.{GivesNothing, Tells}
 use Rattle.pk_top.proofs.Telling.{tells_good, tells_flash, tells_memory, tells_made, tells_refused, gives_same, load_untouched}
 
 some_shape : (shape : Shape) (o : Option Shape) → o ≡ Some shape → IsSome o

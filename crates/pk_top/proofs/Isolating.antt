@@ -1,30 +1,20 @@
 -- The commands in one namespace of a script that was served without read errors.
 use Rattle.std.proofs.Common.{◌≡◌, ℕ, ◌+◌, ◌≤◌, ◌==◌, if◌then◌else◌, List, [], ◌∷◌, length, Bool, true, false, Option, Some, None, IsSome, refl, sym, ap, subst, ◌∙◌, arith}
-use Rattle.pk_base.specs.Shape.{Shape}
-use Rattle.pk_base.specs.Page.{Flash}
-use Rattle.pk_base.specs.Map.{Map}
+use Rattle.pk_base.{specs.Shape.Shape, specs.Page.Flash, specs.Map.Map}
 use Rattle.pk_nvme.specs.Command.{Command}
-use Rattle.pk_nand.specs.BoardState.{BoardState}
-use Rattle.pk_nand.specs.Calls.{Rose, Loaded, longer}
-use Rattle.pk_model.specs.Reading.{Holds}
-use Rattle.pk_model.specs.Run.{Run, RunWithin, Exchange, commands, records, faults}
-use Rattle.pk_model.specs.Script.{script}
+use Rattle.pk_nand.{specs.BoardState.BoardState, specs.Calls.Rose, specs.Calls.Loaded, specs.Calls.longer, specs.declared.types.LoadFault.LoadFault}
+use Rattle.pk_nand.specs.declared.types.LoadFault.TheVariants.{Fault, BadImage, Memory}
+use Rattle.pk_model.{specs.Reading.Holds, specs.Run.Run, specs.Run.RunWithin, specs.Run.Exchange, specs.Run.commands, specs.Run.records, specs.Run.faults, specs.Script.script}
 use Rattle.pk_model.specs.Spaces.{Terms, terms_at}
 use Rattle.pk_law_isolation.specs.Isolation.{map_alone, terms_alone, command_alone, commands_of_space, exchanges_in}
-use Rattle.pk_law_isolation.proofs.Isolating.{isolated}
-use Rattle.pk_law_isolation.proofs.Fixing.{fixed}
-use Rattle.pk_serve.specs.Run.{Served, ServedBy}
-use Rattle.pk_serve.specs.declared.end.End.{End}
+use Rattle.pk_law_isolation.{proofs.Isolating.isolated, proofs.Fixing.fixed}
+use Rattle.pk_serve.{specs.Run.Served, specs.Run.ServedBy, specs.declared.end.End.End, proofs.Completing.none_counted}
 use Rattle.pk_serve.specs.declared.end.End.TheVariants.{Done, Truncated, Input, Output, Flash as FlashFailed, Worn}
-use Rattle.pk_serve.proofs.Completing.{none_counted}
 use Rattle.pk_scan.specs.declared.errors.OpenError.{OpenError}
 use Rattle.pk_scan.specs.declared.errors.OpenError.TheVariants.{NotFormatted, Damaged, Fault as ReadFault, Memory as NoMemory}
-use Rattle.pk_top.specs.Ends.{end_status, open_status}
-use Rattle.pk_top.specs.Isolates.{AnsweredApart, IsolatesAll, IsolatesWhole}
+use Rattle.pk_top.{specs.Ends.end_status, specs.Ends.open_status, specs.Isolates.AnsweredApart, specs.Isolates.IsolatesAll, specs.Isolates.IsolatesWhole}
 use Rattle.pk_top.specs.Loads.{load_status, no_memory, not_loaded, no_image, has_image}
 use Rattle.pk_top.specs.Serves.{behind_opening, ServesFound, ServeRun}
-use Rattle.pk_nand.specs.declared.types.LoadFault.{LoadFault}
-use Rattle.pk_nand.specs.declared.types.LoadFault.TheVariants.{Fault, BadImage, Memory}
 
 -- ---- runs
 

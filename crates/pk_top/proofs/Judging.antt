@@ -1,17 +1,13 @@
 -- Words that ask for a flash with spare blocks, judged without memory.
 use Rattle.std.proofs.Common.{◌≡◌, ◌/◌, ◌<◌, ◌≤◌, ◌&&◌, ℕ, List, [], ◌∷◌, Option, None, Some, option_map, option_and_then, Bool, true, false, if◌then◌else◌, nat_lt, nat_le, length, bytes_eq, codes}
 use Rattle.std.proofs.Common.{Bor, subst, sym, ap, ◌∙◌, refl, arith}
-use Rattle.std.specs.Prelude.{is_some, map, slice_index_or}
-use Rattle.std.proofs.lemmas.Bool.Decides.{nat_tests}
-use Rattle.std.proofs.lemmas.Slice.Eq.{bytes_eq-Decides}
+use Rattle.std.{specs.Prelude.is_some, specs.Prelude.map, specs.Prelude.slice_index_or, proofs.lemmas.Bool.Decides.nat_tests, proofs.lemmas.Slice.Eq.bytes_eq-Decides}
 use Rattle.pk_base.specs.Key.{Key}
 use Rattle.pk_nvme.specs.Text.{bytes_of, some_bytes_of}
-use Rattle.pk_asm.proofs.TextLemmas.{some_bytes_of-is}
-use Rattle.pk_asm.specs.Words.{key_of}
+use Rattle.pk_asm.{proofs.TextLemmas.some_bytes_of-is, specs.Words.key_of}
 use Rattle.pk_remap.specs.declared.layout.TheConstants.{MOST_SPARES}
 use Rattle.pk_wordrun.specs.Tasks.{Task}
-use Rattle.pk_top.specs.Spared.{SparedForm, fits_spares_if, spared_with}
-use Rattle.pk_top.specs.Words.{Word, ask, put_of, put_with, word_of}
+use Rattle.pk_top.{specs.Spared.SparedForm, specs.Spared.fits_spares_if, specs.Spared.spared_with, specs.Words.Word, specs.Words.ask, specs.Words.put_of, specs.Words.put_with, specs.Words.word_of}
 use Rattle.pk_top.specs.declared.words.TheConstants.{VALUE_LENGTHS}
 
 -- ---- the bytes that a word is

@@ -1,11 +1,8 @@
 -- Words that are the limits of namespaces.
-use Rattle.std.proofs.Common.{◌≡◌, ◌≤◌, ◌<◌, ◌+◌, ℕ, zero, suc, List, [], ◌∷◌, length, take, Bool, true, false, nat_le, nat_lt, not, ◌&&◌, if◌then◌else◌, Option, Some, None, option_and_then, get_or, set, refl, ◌∙◌, sym, ap, arith}
-use Rattle.std.proofs.lemmas.Bool.Decides.{nat_tests}
-use Rattle.std.proofs.lemmas.List.{get_or-set_other}
-use Rattle.std.proofs.lemmas.Grind.{get_or-set_at}
-use Rattle.std.specs.Result.{result_ok}
-use Rattle.pk_base.specs.Shape.{Shape}
-use Rattle.pk_base.specs.declared.sizes.TheConstants.{MOST_SPACES}
+use Rattle.std.proofs.Common.{◌≡◌, ◌≤◌, ◌<◌, ◌+◌, ℕ, zero, suc, List, [], ◌∷◌, length, take, Bool, true, false, nat_le, nat_lt, not, ◌&&◌, if◌then◌else◌, Option, Some, None, option_and_then, get_or}
+use Rattle.std.proofs.Common.{set, refl, ◌∙◌, sym, ap, arith}
+use Rattle.std.{proofs.lemmas.Bool.Decides.nat_tests, proofs.lemmas.List.get_or-set_other, proofs.lemmas.Grind.get_or-set_at, specs.Result.result_ok}
+use Rattle.pk_base.{specs.Shape.Shape, specs.declared.sizes.TheConstants.MOST_SPACES}
 use Rattle.pk_nvme.specs.Text.{number_of}
 use Rattle.pk_space.specs.Limits.{are_few, limits_checked}
 use Rattle.pk_top.specs.Words.{numbers_of, limits_in_words}

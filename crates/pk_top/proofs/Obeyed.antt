@@ -2,25 +2,12 @@
 use Rattle.std.proofs.Common.{◌≡◌, ◌≢◌, inl, inr, ℕ, List, Option, Some, None, refl, sym, ◌∙◌, ap, subst, arith}
 use Rattle.pk_base.specs.Shape.{Shape}
 use Rattle.pk_nand.specs.BoardState.{BoardState}
-use Rattle.pk_text.specs.Assembled.{assembled}
-use Rattle.pk_text.specs.Records.{shown}
+use Rattle.pk_text.{specs.Assembled.assembled, specs.Records.shown}
 use Rattle.pk_wordrun.specs.Tasks.{Task}
-use Rattle.pk_top.specs.Asks.{AskRun}
-use Rattle.pk_top.specs.Loads.{no_memory}
-use Rattle.pk_top.specs.Makes.{MakeRun}
-use Rattle.pk_top.specs.Resting.{RestsIn, Rests}
-use Rattle.pk_top.specs.Runs.{RunsOver}
-use Rattle.pk_top.specs.Serves.{ServeRun}
-use Rattle.pk_top.specs.Statuses.{Tells, Untouched}
-use Rattle.pk_top.specs.TextRuns.{TextRun}
-use Rattle.pk_top.specs.Words.{Word, make, serve, ask, assemble, show, word_of}
-use Rattle.pk_top.proofs.Answering.{whole_ask, few_roots}
-use Rattle.pk_top.proofs.Completing.{whole_serve}
-use Rattle.pk_top.proofs.Images.{made_drive}
-use Rattle.pk_top.proofs.Isolating.{isolated_whole}
-use Rattle.pk_top.proofs.Resting.{rests-same}
-use Rattle.pk_top.proofs.Telling.{tells_memory, untouched_same, gives_same}
-use Rattle.pk_top.proofs.Within.{short_within}
+use Rattle.pk_top.{specs.Asks.AskRun, specs.Loads.no_memory, specs.Makes.MakeRun, specs.Resting.RestsIn, specs.Resting.Rests, specs.Runs.RunsOver, specs.Serves.ServeRun, specs.TextRuns.TextRun}
+use Rattle.pk_top.{specs.Statuses.Tells, specs.Statuses.Untouched, specs.Words.Word, specs.Words.make, specs.Words.serve, specs.Words.ask, specs.Words.assemble, specs.Words.show, specs.Words.word_of}
+use Rattle.pk_top.{proofs.Answering.whole_ask, proofs.Answering.few_roots, proofs.Completing.whole_serve, proofs.Images.made_drive, proofs.Isolating.isolated_whole, proofs.Resting.rests-same}
+use Rattle.pk_top.{proofs.Telling.tells_memory, proofs.Telling.untouched_same, proofs.Telling.gives_same, proofs.Within.short_within}
 
 -- ---- nothing was done
 

@@ -1,53 +1,31 @@
 -- A run of a word on a pair of images, from the loads on.
-use Rattle.std.proofs.Common.{◌≡◌, ◌≢◌, ◌⊎◌, inl, inr, ℕ, ◌+◌, ◌<◌, ◌≤◌, List, [], ◌∷◌, length, map, Bool, ◌==◌, eqb-true, eq-eqb, if◌then◌else◌, Option, Some, None, IsSome, option_and_then, Result, Ok, Err, refl, sym, ◌∙◌, ap}
-use Rattle.std.proofs.Common.{subst, arith, true, false, nat_le}
-use Rattle.std.proofs.lemmas.Bool.Decides.{nat_tests}
-use Rattle.std.specs.FinMap.{len, entries, len-entries}
-use Rattle.pk_base.specs.Entry.{Entry}
-use Rattle.pk_base.specs.Key.{Key}
-use Rattle.pk_base.specs.Map.{Map}
-use Rattle.pk_base.specs.Page.{Flash}
-use Rattle.pk_base.specs.Refusal.{Refusal, not_formatted, damaged}
+use Rattle.std.proofs.Common.{◌≡◌, ◌≢◌, ◌⊎◌, inl, inr, ℕ, ◌+◌, ◌<◌, ◌≤◌, List, [], ◌∷◌, length, map, Bool, ◌==◌, eqb-true, eq-eqb, if◌then◌else◌, Option, Some, None, IsSome, option_and_then, Result}
+use Rattle.std.proofs.Common.{Ok, Err, refl, sym, ◌∙◌, ap, subst, arith, true, false, nat_le}
+use Rattle.std.{proofs.lemmas.Bool.Decides.nat_tests, specs.FinMap.len, specs.FinMap.entries, specs.FinMap.len-entries}
+use Rattle.pk_base.{specs.Entry.Entry, specs.Key.Key, specs.Map.Map, specs.Page.Flash, specs.Refusal.Refusal, specs.Refusal.not_formatted, specs.Refusal.damaged}
 use Rattle.pk_base.specs.Shape.{Shape, IsShape, limit}
-use Rattle.pk_nand.specs.BoardState.{BoardState, shape_or_none}
-use Rattle.pk_nand.specs.Calls.{Rose, Loaded, IsReady, longer}
-use Rattle.pk_nand.specs.Effects.{OnlyReading}
-use Rattle.pk_nand.specs.declared.types.LoadFault.{LoadFault}
+use Rattle.pk_nand.{specs.BoardState.BoardState, specs.BoardState.shape_or_none, specs.Calls.Rose, specs.Calls.Loaded, specs.Calls.IsReady, specs.Calls.longer, specs.Effects.OnlyReading}
+use Rattle.pk_nand.{specs.declared.types.LoadFault.LoadFault, proofs.Reaching.Reached-start, proofs.Reaching.Went-reached}
 use Rattle.pk_nand.specs.declared.types.LoadFault.TheVariants.{Fault, BadImage, Memory}
-use Rattle.pk_nand.proofs.Reaching.{Reached-start, Went-reached}
-use Rattle.pk_model.specs.Spaces.{terms_at, limits_at, in_space}
-use Rattle.pk_model.specs.Growth.{Goes}
-use Rattle.pk_model.specs.Laws.{MapHeld}
-use Rattle.pk_model.specs.Reading.{reading, Holds, Refuses}
-use Rattle.pk_call.specs.Sight.{Sight, map_of}
+use Rattle.pk_model.{specs.Spaces.terms_at, specs.Spaces.limits_at, specs.Spaces.in_space, specs.Growth.Goes, specs.Laws.MapHeld, specs.Reading.reading, specs.Reading.Holds, specs.Reading.Refuses}
 use Rattle.pk_model.specs.Wear.{root_number, roots, is_worn}
-use Rattle.pk_serve.specs.Complete.{NoneRose}
-use Rattle.pk_call.specs.Drive.{HoldsMap}
-use Rattle.pk_scan.specs.Opening.{NotOpened}
-use Rattle.pk_scan.proofs.ValuesHeld.{limit_few}
-use Rattle.pk_serve.proofs.Limiting.{limits_some, first_most}
-use Rattle.pk_mirrorwords.proofs.Paging.{keys_few}
-use Rattle.pk_scan.specs.declared.errors.OpenError.{OpenError}
+use Rattle.pk_call.{specs.Sight.Sight, specs.Sight.map_of, specs.Drive.HoldsMap}
+use Rattle.pk_serve.{specs.Complete.NoneRose, proofs.Limiting.limits_some, proofs.Limiting.first_most}
+use Rattle.pk_scan.{specs.Opening.NotOpened, proofs.ValuesHeld.limit_few, specs.declared.errors.OpenError.OpenError}
 use Rattle.pk_scan.specs.declared.errors.OpenError.TheVariants.{NotFormatted, Damaged, Fault as ReadFault, Memory as NoMemory}
-use Rattle.pk_wordrun.specs.declared.end.WordEnd.{WordEnd}
+use Rattle.pk_mirrorwords.proofs.Paging.{keys_few}
+use Rattle.pk_mirrorwords.specs.PairTasks.{PairTask, put, get, delete, list as list_all, resync, IsAllowed, map_left}
+use Rattle.pk_wordrun.{specs.declared.end.WordEnd.WordEnd, specs.Tasks.answer, specs.Tasks.list as list_keys, specs.Tasks.generate}
 use Rattle.pk_wordrun.specs.declared.end.WordEnd.TheVariants.{Done, Output, Flash as FlashFailed, Worn}
 use Rattle.pk_words.specs.Question.{put as put_one, get as get_one, delete as delete_one, has as has_one, stat as stat_one}
-use Rattle.pk_wordrun.specs.Tasks.{answer, list as list_keys, generate}
-use Rattle.pk_mirrorwords.specs.PairTasks.{PairTask, put, get, delete, list as list_all, resync, IsAllowed, map_left}
-use Rattle.pk_top.specs.Words.{Word, make, serve, ask, assemble, show, word_of}
-use Rattle.pk_top.specs.PairWords.{for_pair, is_resync, pair_task_of}
-use Rattle.pk_top.proofs.Within.{short_within}
-use Rattle.pk_mirrorrun.specs.PairTold.{EitherUnread, text_by, HoldsPart, first_limit, KeptFirst, KeptSecond, PairFinished, PairEnds, most_pair_roots, UsedRoots, PairTold}
-use Rattle.pk_top.specs.declared.asking.TheConstants.{WORD_FRAMES}
-use Rattle.pk_top.specs.Asks.{word_status}
-use Rattle.pk_top.specs.Ends.{open_status}
-use Rattle.pk_top.specs.Loads.{load_status, HasReason}
-use Rattle.pk_top.specs.Serves.{NotServed, behind_opening}
-use Rattle.pk_top.specs.Statuses.{GivesNothing, Untouched, Tells}
+use Rattle.pk_top.{specs.Words.Word, specs.Words.make, specs.Words.serve, specs.Words.ask, specs.Words.assemble, specs.Words.show, specs.Words.word_of, proofs.Within.short_within}
+use Rattle.pk_top.{specs.PairWords.for_pair, specs.PairWords.is_resync, specs.PairWords.pair_task_of, specs.declared.asking.TheConstants.WORD_FRAMES, specs.Asks.word_status, specs.Ends.open_status}
+use Rattle.pk_top.{specs.Loads.load_status, specs.Loads.HasReason, specs.Serves.NotServed, specs.Serves.behind_opening, specs.Statuses.GivesNothing, specs.Statuses.Untouched, specs.Statuses.Tells}
 use Rattle.pk_top.proofs.Asked.{input_still}
-use Rattle.pk_top.specs.PairRuns.{NotFound, KeepsPair, AskedPair, AsksPair, PairRun, PairTells, LacksPair, PairRefused, PairWhole, no_speaker, first_unopened, second_unopened, limits_differ, pair_asked}
-use Rattle.pk_top.specs.PairRuns.{no_pair_memory, first_missing, second_missing, shapes_differ, pair_found}
+use Rattle.pk_top.specs.PairRuns.{NotFound, KeepsPair, AskedPair, AsksPair, PairRun, PairTells, LacksPair, PairRefused, PairWhole, no_speaker, first_unopened, second_unopened, limits_differ}
+use Rattle.pk_top.specs.PairRuns.{pair_asked, no_pair_memory, first_missing, second_missing, shapes_differ, pair_found}
 use Rattle.pk_top.proofs.Telling.{tells_refused, tells_not, tells_no_drive, wants_untouched, wants_sound, untouched_same, load_untouched, refused_untouched}
+use Rattle.pk_mirrorrun.specs.PairTold.{EitherUnread, text_by, HoldsPart, first_limit, KeptFirst, KeptSecond, PairFinished, PairEnds, most_pair_roots, UsedRoots, PairTold}
 
 names_len : (es : List (Key × List ℕ)) → length (map (λ e. e.0) es) ≡ length es
 names_len [] = refl

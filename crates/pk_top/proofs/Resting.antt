@@ -1,18 +1,11 @@
 -- Which runs do not change the flash.
 use Rattle.std.proofs.Common.{◌≡◌, inl, inr, ℕ, List, Option, Some, None, IsSome, sym, ◌∙◌, ap, true}
 use Rattle.pk_base.specs.Shape.{Shape}
-use Rattle.pk_nand.specs.BoardState.{BoardState}
-use Rattle.pk_nand.specs.Calls.{Loaded, LoadFailed}
-use Rattle.pk_nand.specs.Resting.{RestsFlash}
-use Rattle.pk_nand.proofs.Resting.{Rests-same, Rests-start, Rests-then}
+use Rattle.pk_nand.{specs.BoardState.BoardState, specs.Calls.Loaded, specs.Calls.LoadFailed, specs.Resting.RestsFlash, proofs.Resting.Rests-same, proofs.Resting.Rests-start, proofs.Resting.Rests-then}
 use Rattle.pk_text.specs.Written.{Written}
 use Rattle.pk_wordrun.specs.Tasks.{Task, only_asks}
-use Rattle.pk_top.specs.Loads.{no_memory, not_loaded, no_image, has_image}
-use Rattle.pk_top.specs.Asks.{AskRun}
-use Rattle.pk_top.specs.Makes.{MakeRun}
-use Rattle.pk_top.specs.TextRuns.{TextRun}
-use Rattle.pk_top.specs.Resting.{RestsIn, Rests}
-use Rattle.pk_top.specs.Words.{Word, make, serve, ask, assemble, show}
+use Rattle.pk_top.{specs.Loads.no_memory, specs.Loads.not_loaded, specs.Loads.no_image, specs.Loads.has_image, specs.Asks.AskRun, specs.Makes.MakeRun, specs.TextRuns.TextRun}
+use Rattle.pk_top.{specs.Resting.RestsIn, specs.Resting.Rests, specs.Words.Word, specs.Words.make, specs.Words.serve, specs.Words.ask, specs.Words.assemble, specs.Words.show}
 
 -- nothing was done
 pub rests-same_word : (word : Word) (old new : BoardState) → new ≡ old → RestsIn word old new

@@ -1,32 +1,18 @@
 -- Runs of the program one after another: each begins from what the one before it kept.
 use Rattle.std.proofs.Common.{◌≡◌, ℕ, List, [], ◌∷◌, ◌++◌, Option, Some, None, IsSome, refl, sym, ◌∙◌, ap, subst, append-nil}
-use Rattle.std.specs.FinMap.{empty}
-use Rattle.std.proofs.lemmas.List.{append_cancel_left}
-use Rattle.pk_base.specs.Shape.{Shape}
-use Rattle.pk_base.specs.Page.{Flash}
-use Rattle.pk_base.specs.Mark.{Mark, all_posted}
-use Rattle.pk_nand.specs.BoardState.{BoardState, shape_of, shape_or_none}
-use Rattle.pk_nand.specs.Calls.{longer}
-use Rattle.pk_nand.specs.Resting.{Standing, RestsFlash}
-use Rattle.pk_nand.proofs.Reaching.{Went-reached, longer-nil}
-use Rattle.pk_nand.specs.Cut.{Cut}
-use Rattle.pk_model.specs.Spaces.{limits_at, terms_at}
-use Rattle.pk_model.specs.Kept.{Kept, rise}
-use Rattle.pk_base.specs.Map.{Map}
-use Rattle.pk_nand.specs.Crash.{EveryCut}
-use Rattle.pk_model.specs.Reading.{reading, Holds}
-use Rattle.pk_model.specs.Script.{script}
+use Rattle.std.{specs.FinMap.empty, proofs.lemmas.List.append_cancel_left}
+use Rattle.pk_base.{specs.Shape.Shape, specs.Page.Flash, specs.Mark.Mark, specs.Mark.all_posted, specs.Map.Map}
+use Rattle.pk_nand.{specs.BoardState.BoardState, specs.BoardState.shape_of, specs.BoardState.shape_or_none, specs.Calls.longer, specs.Resting.Standing, specs.Resting.RestsFlash, specs.Cut.Cut}
+use Rattle.pk_nand.{proofs.Reaching.Went-reached, proofs.Reaching.longer-nil, specs.Crash.EveryCut}
+use Rattle.pk_model.{specs.Spaces.limits_at, specs.Spaces.terms_at, specs.Kept.Kept, specs.Kept.rise, specs.Reading.reading, specs.Reading.Holds, specs.Script.script}
 use Rattle.pk_serve.proofs.Counting.{at_most-zero}
 use Rattle.pk_call.specs.Meter.{Meter, meter}
-use Rattle.pk_top.specs.Loads.{no_memory, not_loaded, no_image, has_image}
-use Rattle.pk_top.specs.Serves.{ServeRun, ServesFound, behind_opening}
-use Rattle.pk_wordrun.specs.Tasks.{Task, KeptTask}
-use Rattle.pk_top.specs.Asks.{AsksFound, AskRun}
-use Rattle.pk_top.specs.declared.asking.TheConstants.{WORD_FRAMES}
+use Rattle.pk_top.{specs.Loads.no_memory, specs.Loads.not_loaded, specs.Loads.no_image, specs.Loads.has_image, specs.Serves.ServeRun, specs.Serves.ServesFound, specs.Serves.behind_opening}
+use Rattle.pk_top.{specs.Asks.AsksFound, specs.Asks.AskRun, specs.declared.asking.TheConstants.WORD_FRAMES, specs.Resting.Rests}
 use Rattle.pk_top.proofs.Asked.{silent, task_holds, task_limits, same_meter}
 use Rattle.pk_top.specs.Sessions.{ProgramRun, IsRun, LeavesMap, KeptThrough, RunOn, KeptThroughRuns}
-use Rattle.pk_top.specs.Resting.{Rests}
 use Rattle.pk_top.specs.Words.{Word, make, serve, ask, assemble, show, word_of}
+use Rattle.pk_wordrun.specs.Tasks.{Task, KeptTask}
 
 -- the marks that a trail records are those that it grew by
 same_marks : (told : Option (List Mark)) (before xs ys : List Mark) → told ≡ Some before → longer told ys ≡ Some (before ++ xs) → xs ≡ ys

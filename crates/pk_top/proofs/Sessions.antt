@@ -1,33 +1,15 @@
 -- A session from its load on: what is kept of it.
 use Rattle.std.proofs.Common.{◌≡◌, inl, inr, ℕ, List, [], Ok, refl, ◌∙◌, ap, subst}
-use Rattle.pk_base.specs.Shape.{Shape}
-use Rattle.pk_base.specs.Page.{Flash}
-use Rattle.pk_base.specs.Map.{Map}
-use Rattle.pk_base.specs.Entry.{Entry}
+use Rattle.pk_base.{specs.Shape.Shape, specs.Page.Flash, specs.Map.Map, specs.Entry.Entry}
 use Rattle.pk_nvme.specs.Command.{Command}
-use Rattle.pk_nand.specs.BoardState.{BoardState}
-use Rattle.pk_nand.proofs.Reaching.{Reached-start, Went-reached}
-use Rattle.pk_model.specs.Spaces.{terms_at}
-use Rattle.pk_model.specs.Kept.{rise}
-use Rattle.pk_model.specs.Reading.{reading, Holds}
-use Rattle.pk_model.specs.Script.{script}
-use Rattle.pk_call.specs.Sight.{Sight}
-use Rattle.pk_call.specs.Drive.{HoldsMap}
-use Rattle.pk_model.specs.Growth.{Goes}
-use Rattle.pk_serve.specs.Ends.{Blames}
-use Rattle.pk_serve.specs.Run.{KeepsScript as KeepsScriptOf, KeepsSome as KeepsSomeOf, Answers, Causes}
-use Rattle.pk_serve.specs.Complete.{RunCompletes}
-use Rattle.pk_serve.specs.Script.{SaysOfScript}
-use Rattle.pk_serve.specs.Serving.{KeptAt}
-use Rattle.pk_serve.specs.declared.end.End.{End}
-use Rattle.pk_serve.proofs.Counting.{at_most-zero}
-use Rattle.pk_nand.specs.Effects.{OnlyReading}
-use Rattle.pk_scan.specs.Opening.{NotOpened}
-use Rattle.pk_scan.specs.declared.errors.OpenError.{OpenError}
-use Rattle.pk_top.specs.Ends.{end_status, open_status}
-use Rattle.pk_top.specs.Serves.{KeptFrom, RunServes, ServesAll, behind_opening}
-use Rattle.pk_top.proofs.Completing.{all_not, servable_behind, complete_before}
-use Rattle.pk_top.proofs.Isolating.{isolates_end, isolates_not}
+use Rattle.pk_nand.{specs.BoardState.BoardState, proofs.Reaching.Reached-start, proofs.Reaching.Went-reached, specs.Effects.OnlyReading}
+use Rattle.pk_model.{specs.Spaces.terms_at, specs.Kept.rise, specs.Reading.reading, specs.Reading.Holds, specs.Script.script, specs.Growth.Goes}
+use Rattle.pk_call.{specs.Sight.Sight, specs.Drive.HoldsMap}
+use Rattle.pk_serve.{specs.Ends.Blames, specs.Run.KeepsScript as KeepsScriptOf, specs.Run.KeepsSome as KeepsSomeOf, specs.Run.Answers, specs.Run.Causes, specs.Complete.RunCompletes}
+use Rattle.pk_serve.{specs.Script.SaysOfScript, specs.Serving.KeptAt, specs.declared.end.End.End, proofs.Counting.at_most-zero}
+use Rattle.pk_scan.{specs.Opening.NotOpened, specs.declared.errors.OpenError.OpenError}
+use Rattle.pk_top.{specs.Ends.end_status, specs.Ends.open_status, specs.Serves.KeptFrom, specs.Serves.RunServes, specs.Serves.ServesAll, specs.Serves.behind_opening}
+use Rattle.pk_top.{proofs.Completing.all_not, proofs.Completing.servable_behind, proofs.Completing.complete_before, proofs.Isolating.isolates_end, proofs.Isolating.isolates_not}
 
 -- ---- a drive that was not opened
 

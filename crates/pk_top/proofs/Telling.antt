@@ -1,23 +1,15 @@
 -- What the status of a run says.
 use Rattle.std.proofs.Common.{◌≡◌, ◌⊎◌, inl, inr, ℕ, List, Option, Some, None, IsSome, refl, sym, ◌∙◌, ap, subst, arith}
-use Rattle.pk_base.specs.Shape.{Shape}
-use Rattle.pk_base.specs.Page.{Page}
-use Rattle.pk_base.specs.Refusal.{Refusal, not_formatted, damaged}
-use Rattle.pk_nand.specs.BoardState.{BoardState}
-use Rattle.pk_nand.specs.Calls.{Rose, Loaded, LoadFailed}
-use Rattle.pk_nand.specs.declared.types.LoadFault.{LoadFault}
+use Rattle.pk_base.{specs.Shape.Shape, specs.Page.Page, specs.Refusal.Refusal, specs.Refusal.not_formatted, specs.Refusal.damaged}
+use Rattle.pk_nand.{specs.BoardState.BoardState, specs.Calls.Rose, specs.Calls.Loaded, specs.Calls.LoadFailed, specs.declared.types.LoadFault.LoadFault, specs.Effects.OnlyReading}
 use Rattle.pk_nand.specs.declared.types.LoadFault.TheVariants.{Fault, BadImage, Memory}
 use Rattle.pk_model.specs.Reading.{Refuses}
-use Rattle.pk_serve.specs.Ends.{Blames}
-use Rattle.pk_serve.specs.declared.end.End.{End}
+use Rattle.pk_serve.{specs.Ends.Blames, specs.declared.end.End.End}
 use Rattle.pk_serve.specs.declared.end.End.TheVariants.{Done, Truncated, Input, Output, Flash, Worn}
-use Rattle.pk_nand.specs.Effects.{OnlyReading}
-use Rattle.pk_scan.specs.Opening.{NotOpened, OnlyReads}
-use Rattle.pk_scan.specs.declared.errors.OpenError.{OpenError}
+use Rattle.pk_scan.{specs.Opening.NotOpened, specs.Opening.OnlyReads, specs.declared.errors.OpenError.OpenError}
 use Rattle.pk_scan.specs.declared.errors.OpenError.TheVariants.{NotFormatted, Damaged, Fault as ReadFault, Memory as NoMemory}
-use Rattle.pk_top.specs.Ends.{end_status, open_status}
+use Rattle.pk_top.{specs.Ends.end_status, specs.Ends.open_status, specs.Serves.ServeRun, specs.Serves.RunServes, specs.Serves.behind_opening}
 use Rattle.pk_top.specs.Loads.{load_status, HasReason, LoadRefused, no_memory, not_loaded, no_image, has_image}
-use Rattle.pk_top.specs.Serves.{ServeRun, RunServes, behind_opening}
 use Rattle.pk_top.specs.Statuses.{GivesNothing, Untouched, FlashFailed, HasNoDrive, Tells}
 
 -- ---- one status each

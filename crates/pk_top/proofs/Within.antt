@@ -1,16 +1,13 @@
 -- The frames that words may ask for.
-use Rattle.std.proofs.Common.{IfSome, ◌≡◌, ◌≤◌, ◌<◌, ◌^◌, ◌&&◌, ℕ, List, [], ◌∷◌, Option, None, Some, option_map, option_and_then, Bool, true, false, if◌then◌else◌, nat_le, nat_lt, length, bytes_eq, codes}
-use Rattle.std.proofs.Common.{subst, sym, ap, ◌∙◌, refl, arith}
-use Rattle.std.proofs.lemmas.Bool.Decides.{nat_tests}
-use Rattle.pk_nvme.specs.Text.{number_of, is_number, bytes_of}
-use Rattle.std.specs.Str.Parse.{digits_value}
+use Rattle.std.proofs.Common.{IfSome, ◌≡◌, ◌≤◌, ◌<◌, ◌^◌, ◌&&◌, ℕ, List, [], ◌∷◌, Option, None, Some, option_map, option_and_then, Bool, true, false, if◌then◌else◌, nat_le, nat_lt, length, bytes_eq}
+use Rattle.std.proofs.Common.{codes, subst, sym, ap, ◌∙◌, refl, arith}
+use Rattle.std.{proofs.lemmas.Bool.Decides.nat_tests, specs.Str.Parse.digits_value}
+use Rattle.pk_nvme.specs.Text.{number_of, is_number, bytes_of, some_bytes_of}
 use Rattle.pk_base.specs.Key.{Key}
-use Rattle.pk_nvme.specs.Text.{some_bytes_of}
 use Rattle.pk_asm.specs.Words.{key_of}
 use Rattle.pk_host.specs.Calls.{IsOwnKey}
 use Rattle.pk_words.specs.Question.{put, get, delete, has, stat}
-use Rattle.pk_wordrun.specs.Seen.{IsAllowedTask}
-use Rattle.pk_wordrun.specs.Tasks.{Task, list, generate}
+use Rattle.pk_wordrun.{specs.Seen.IsAllowedTask, specs.Tasks.Task, specs.Tasks.list, specs.Tasks.generate}
 use Rattle.pk_top.specs.Words.{Word, make, serve, ask, question, assemble, show, limits_in_words, make_if, make_of, serve_with, serve_of, put_with, put_of, only_key, list_word, alone, generate_of}
 use Rattle.pk_top.specs.Words.{plain_of, word_of}
 

@@ -1,26 +1,15 @@
 -- A run of a word that asks the drive: a session of one word.
 use Rattle.std.specs.Prelude.{◌≡◌, ◌⊎◌, ℕ, ◌+◌, ◌<◌, ◌≤◌, List, Some, true}
-use Rattle.pk_base.specs.Shape.{Shape}
-use Rattle.pk_base.specs.Page.{Flash}
-use Rattle.pk_base.specs.Map.{Map}
-use Rattle.pk_nand.specs.BoardState.{BoardState}
-use Rattle.pk_nand.specs.Calls.{Rose, Loaded}
-use Rattle.pk_nand.specs.Resting.{RestsFlash}
-use Rattle.pk_model.specs.Spaces.{terms_at}
-use Rattle.pk_model.specs.Growth.{Goes}
-use Rattle.pk_model.specs.Reading.{Holds}
-use Rattle.pk_model.specs.Wear.{roots}
+use Rattle.pk_base.{specs.Shape.Shape, specs.Page.Flash, specs.Map.Map}
+use Rattle.pk_nand.{specs.BoardState.BoardState, specs.Calls.Rose, specs.Calls.Loaded, specs.Resting.RestsFlash}
+use Rattle.pk_model.{specs.Spaces.terms_at, specs.Growth.Goes, specs.Reading.Holds, specs.Wear.roots}
 use Rattle.pk_call.specs.Meter.{meter}
 use Rattle.pk_serve.specs.Complete.{NoneRose, far_below}
-use Rattle.pk_wordrun.specs.Tasks.{Task, only_asks, KeptTask}
-use Rattle.pk_wordrun.specs.Told.{EndsBy, WordDone, KeepsInput, most_roots}
+use Rattle.pk_wordrun.{specs.Tasks.Task, specs.Tasks.only_asks, specs.Tasks.KeptTask, specs.Told.EndsBy, specs.Told.WordDone, specs.Told.KeepsInput, specs.Told.most_roots}
 use Rattle.pk_wordrun.specs.declared.end.WordEnd.{WordEnd}
 use Rattle.pk_wordrun.specs.declared.end.WordEnd.TheVariants.{Done, Output, Flash as FlashFailed, Worn}
 use Rattle.pk_top.specs.declared.status.TheConstants.Status.{DONE, OUTPUT, FLASH, MEMORY, WORN}
-use Rattle.pk_top.specs.declared.asking.TheConstants.{WORD_FRAMES}
-use Rattle.pk_top.specs.Loads.{NoImage, WordRun}
-use Rattle.pk_top.specs.Serves.{NotServed, behind_opening}
-use Rattle.pk_top.specs.Statuses.{Untouched}
+use Rattle.pk_top.{specs.declared.asking.TheConstants.WORD_FRAMES, specs.Loads.NoImage, specs.Loads.WordRun, specs.Serves.NotServed, specs.Serves.behind_opening, specs.Statuses.Untouched}
 
 abbrev pub word_status : WordEnd → ℕ
 word_status Done = DONE.0

@@ -1,14 +1,9 @@
 -- The answers in one namespace of a drive, and those of a drive that has this namespace alone.
 use Rattle.std.specs.Prelude.{◌≡◌, ℕ, ◌≤◌, List, length, Some}
-use Rattle.pk_base.specs.Shape.{Shape}
-use Rattle.pk_base.specs.Map.{Map}
+use Rattle.pk_base.{specs.Shape.Shape, specs.Map.Map}
 use Rattle.pk_nvme.specs.Command.{Command}
-use Rattle.pk_nand.specs.BoardState.{BoardState}
-use Rattle.pk_nand.specs.Calls.{Rose, longer}
-use Rattle.pk_model.specs.Reading.{Holds}
-use Rattle.pk_model.specs.Run.{Run, Exchange, commands, records, faults}
-use Rattle.pk_model.specs.Script.{script}
-use Rattle.pk_model.specs.Spaces.{Terms, terms_at}
+use Rattle.pk_nand.{specs.BoardState.BoardState, specs.Calls.Rose, specs.Calls.longer}
+use Rattle.pk_model.{specs.Reading.Holds, specs.Run.Run, specs.Run.Exchange, specs.Run.commands, specs.Run.records, specs.Run.faults, specs.Script.script, specs.Spaces.Terms, specs.Spaces.terms_at}
 use Rattle.pk_law_isolation.specs.Isolation.{map_alone, terms_alone, commands_of_space, exchanges_in, told_replies}
 use Rattle.pk_top.specs.declared.status.TheConstants.Status.{DONE}
 

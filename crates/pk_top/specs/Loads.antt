@@ -1,8 +1,6 @@
 -- A load or a make of an image that was refused.
 use Rattle.std.specs.Prelude.{◌≡◌, ◌≢◌, ℕ, Some, None, IsSome}
-use Rattle.pk_nand.specs.BoardState.{BoardState}
-use Rattle.pk_nand.specs.Calls.{Rose, Loaded, LoadFailed, MakeFailed}
-use Rattle.pk_nand.specs.declared.types.LoadFault.{LoadFault}
+use Rattle.pk_nand.{specs.BoardState.BoardState, specs.Calls.Rose, specs.Calls.Loaded, specs.Calls.LoadFailed, specs.Calls.MakeFailed, specs.declared.types.LoadFault.LoadFault}
 use Rattle.pk_nand.specs.declared.types.LoadFault.TheVariants.{Fault, BadImage, Memory}
 use Rattle.pk_top.specs.declared.status.TheConstants.Status.{FLASH, MEMORY, NO_DRIVE}
 

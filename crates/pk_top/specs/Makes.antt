@@ -1,14 +1,9 @@
 -- A run of the word `make`.
-use Rattle.std.specs.Prelude.{◌≡◌, ◌⊎◌, ℕ, List, Some, None}
-use Rattle.std.specs.FinMap.{empty}
+use Rattle.std.{specs.Prelude.◌≡◌, specs.Prelude.◌⊎◌, specs.Prelude.ℕ, specs.Prelude.List, specs.Prelude.Some, specs.Prelude.None, specs.FinMap.empty}
 use Rattle.pk_base.specs.Shape.{Shape}
-use Rattle.pk_nand.specs.BoardState.{BoardState}
-use Rattle.pk_nand.specs.Calls.{Loaded, Made, ProgramsFailed, after_programs}
-use Rattle.pk_nand.specs.Pairs.{programs_of_pair}
-use Rattle.pk_rootfmt.specs.Held.{first_with}
-use Rattle.pk_rootfmt.specs.Root.{root_bytes, written_limits}
-use Rattle.pk_model.specs.Reading.{Holds}
-use Rattle.pk_model.specs.Spaces.{limits_at}
+use Rattle.pk_nand.{specs.BoardState.BoardState, specs.Calls.Loaded, specs.Calls.Made, specs.Calls.ProgramsFailed, specs.Calls.after_programs, specs.Pairs.programs_of_pair}
+use Rattle.pk_rootfmt.{specs.Held.first_with, specs.Root.root_bytes, specs.Root.written_limits}
+use Rattle.pk_model.{specs.Reading.Holds, specs.Spaces.limits_at}
 use Rattle.pk_top.specs.declared.status.TheConstants.Status.{DONE, FLASH, IMAGE_EXISTS}
 use Rattle.pk_top.specs.Loads.{MakeRefused, WordRun}
 

@@ -1,25 +1,15 @@
 -- A run of a word on a pair of images: the first board from old to new, the second from old' to new'.
 use Rattle.std.specs.Prelude.{◌≡◌, ◌≢◌, ◌⊎◌, ℕ, ◌<◌, Some, None, true}
-use Rattle.pk_base.specs.Shape.{Shape}
-use Rattle.pk_base.specs.Map.{Map}
-use Rattle.pk_base.specs.Refusal.{Refusal}
-use Rattle.pk_nand.specs.BoardState.{BoardState}
-use Rattle.pk_nand.specs.Calls.{Rose, Loaded, longer}
+use Rattle.pk_base.{specs.Shape.Shape, specs.Map.Map, specs.Refusal.Refusal}
+use Rattle.pk_nand.{specs.BoardState.BoardState, specs.Calls.Rose, specs.Calls.Loaded, specs.Calls.longer}
 use Rattle.pk_nvme.specs.declared.limits.TheConstants.{NAMESPACE}
-use Rattle.pk_model.specs.Spaces.{limits_at, in_space}
-use Rattle.pk_model.specs.Growth.{Goes}
-use Rattle.pk_model.specs.Reading.{Holds, Refuses}
-use Rattle.pk_model.specs.Wear.{is_worn, roots}
+use Rattle.pk_model.{specs.Spaces.limits_at, specs.Spaces.in_space, specs.Growth.Goes, specs.Reading.Holds, specs.Reading.Refuses, specs.Wear.is_worn, specs.Wear.roots}
 use Rattle.pk_serve.specs.Complete.{NoneRose, far_below}
-use Rattle.pk_wordrun.specs.Told.{KeepsInput}
-use Rattle.pk_wordrun.specs.declared.end.WordEnd.{WordEnd}
+use Rattle.pk_wordrun.{specs.Told.KeepsInput, specs.declared.end.WordEnd.WordEnd}
 use Rattle.pk_mirrorwords.specs.PairTasks.{PairTask, map_left}
 use Rattle.pk_mirrorrun.specs.PairTold.{EitherUnread, text_by, HoldsPart, first_limit, KeptFirst, KeptSecond, PairEnds, UsedRoots, most_pair_roots}
 use Rattle.pk_top.specs.declared.status.TheConstants.Status.{DONE, OUTPUT, FLASH, MEMORY, NO_DRIVE, WORN}
-use Rattle.pk_top.specs.declared.asking.TheConstants.{WORD_FRAMES}
-use Rattle.pk_top.specs.Asks.{word_status}
-use Rattle.pk_top.specs.Loads.{LoadRefused}
-use Rattle.pk_top.specs.Serves.{NotServed, behind_opening}
+use Rattle.pk_top.{specs.declared.asking.TheConstants.WORD_FRAMES, specs.Asks.word_status, specs.Loads.LoadRefused, specs.Serves.NotServed, specs.Serves.behind_opening}
 use Rattle.pk_top.specs.Statuses.{GivesNothing, Untouched, HasNoDrive}
 
 -- ---- what was done

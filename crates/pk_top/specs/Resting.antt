@@ -1,7 +1,6 @@
 -- Words that do not change the flash: every cut has the pages as they were at the start.
 use Rattle.std.specs.Prelude.{◌≡◌, Option, Some, None, IsSome, true}
-use Rattle.pk_nand.specs.BoardState.{BoardState}
-use Rattle.pk_nand.specs.Resting.{RestsFlash}
+use Rattle.pk_nand.{specs.BoardState.BoardState, specs.Resting.RestsFlash}
 use Rattle.pk_wordrun.specs.Tasks.{only_asks}
 use Rattle.pk_top.specs.Words.{Word, make, serve, ask, assemble, show}
 

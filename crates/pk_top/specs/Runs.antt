@@ -2,18 +2,11 @@
 use Rattle.std.specs.Prelude.{◌≡◌, ◌≢◌, ◌⊎◌, ℕ, List, Option, Some, None}
 use Rattle.pk_base.specs.Shape.{Shape}
 use Rattle.pk_nand.specs.BoardState.{BoardState}
-use Rattle.pk_text.specs.Assembled.{assembled}
-use Rattle.pk_text.specs.Records.{shown}
+use Rattle.pk_text.{specs.Assembled.assembled, specs.Records.shown}
 use Rattle.pk_wordrun.specs.Tasks.{Task}
-use Rattle.pk_top.specs.declared.status.TheConstants.Status.{DONE, WORDS, MEMORY}
-use Rattle.pk_top.specs.Words.{Word, make, serve, ask, assemble, show, word_of}
-use Rattle.pk_top.specs.Statuses.{Tells, Untouched}
-use Rattle.pk_top.specs.Makes.{MakeRun, IsMade}
-use Rattle.pk_top.specs.Serves.{ServeRun, ServesWhole}
-use Rattle.pk_top.specs.Isolates.{IsolatesWhole}
-use Rattle.pk_top.specs.Asks.{AskRun, AsksWhole}
-use Rattle.pk_top.specs.TextRuns.{TextRun}
-use Rattle.pk_top.specs.Resting.{Rests}
+use Rattle.pk_top.{specs.declared.status.TheConstants.Status.DONE, specs.declared.status.TheConstants.Status.WORDS, specs.declared.status.TheConstants.Status.MEMORY, specs.Isolates.IsolatesWhole}
+use Rattle.pk_top.{specs.Words.Word, specs.Words.make, specs.Words.serve, specs.Words.ask, specs.Words.assemble, specs.Words.show, specs.Words.word_of, specs.Statuses.Tells, specs.Statuses.Untouched}
+use Rattle.pk_top.{specs.Makes.MakeRun, specs.Makes.IsMade, specs.Serves.ServeRun, specs.Serves.ServesWhole, specs.Asks.AskRun, specs.Asks.AsksWhole, specs.TextRuns.TextRun, specs.Resting.Rests}
 
 -- A run of these words took the board from the one state to the other, and ended with this status.
 pub record RunsOver (asked : List (List ℕ)) (old new : BoardState) (status : ℕ) : Type 0 where

@@ -1,31 +1,13 @@
 -- A run of the word `serve`: a session of a drive.
 use Rattle.std.specs.Prelude.{◌≡◌, ◌⊎◌, ℕ, List, Some}
-use Rattle.pk_base.specs.Shape.{Shape}
-use Rattle.pk_base.specs.Page.{Flash}
-use Rattle.pk_base.specs.Map.{Map}
+use Rattle.pk_base.{specs.Shape.Shape, specs.Page.Flash, specs.Map.Map}
 use Rattle.pk_nvme.specs.Command.{Command}
-use Rattle.pk_nand.specs.BoardState.{BoardState}
-use Rattle.pk_nand.specs.Calls.{Loaded, Rose}
-use Rattle.pk_nand.specs.Counts.{after_reads}
-use Rattle.pk_model.specs.Spaces.{terms_at}
-use Rattle.pk_model.specs.Kept.{Kept, rise}
-use Rattle.pk_model.specs.Reading.{Holds}
-use Rattle.pk_model.specs.Script.{script}
-use Rattle.pk_model.specs.Growth.{Goes}
-use Rattle.pk_serve.specs.Ends.{Blames}
-use Rattle.pk_serve.specs.Run.{ServedBy, ServedSome}
-use Rattle.pk_serve.specs.Complete.{IsServable, Complete}
-use Rattle.pk_serve.specs.Script.{Says}
-use Rattle.pk_serve.specs.declared.end.End.{End}
-use Rattle.pk_scan.specs.Reads.{opening_reads}
-use Rattle.pk_scan.specs.Opening.{NotOpened}
-use Rattle.pk_nand.specs.Effects.{OnlyReading}
-use Rattle.pk_scan.specs.declared.errors.OpenError.{OpenError}
-use Rattle.pk_top.specs.declared.status.TheConstants.Status.{DONE, MEMORY}
-use Rattle.pk_top.specs.Ends.{end_status, open_status}
-use Rattle.pk_top.specs.Isolates.{IsolatesAll}
-use Rattle.pk_top.specs.Loads.{NoImage, WordRun}
-use Rattle.pk_top.specs.Statuses.{Untouched}
+use Rattle.pk_nand.{specs.BoardState.BoardState, specs.Calls.Loaded, specs.Calls.Rose, specs.Counts.after_reads, specs.Effects.OnlyReading}
+use Rattle.pk_model.{specs.Spaces.terms_at, specs.Kept.Kept, specs.Kept.rise, specs.Reading.Holds, specs.Script.script, specs.Growth.Goes}
+use Rattle.pk_serve.{specs.Ends.Blames, specs.Run.ServedBy, specs.Run.ServedSome, specs.Complete.IsServable, specs.Complete.Complete, specs.Script.Says, specs.declared.end.End.End}
+use Rattle.pk_scan.{specs.Reads.opening_reads, specs.Opening.NotOpened, specs.declared.errors.OpenError.OpenError}
+use Rattle.pk_top.{specs.declared.status.TheConstants.Status.DONE, specs.declared.status.TheConstants.Status.MEMORY, specs.Ends.end_status, specs.Ends.open_status, specs.Isolates.IsolatesAll}
+use Rattle.pk_top.{specs.Loads.NoImage, specs.Loads.WordRun, specs.Statuses.Untouched}
 
 -- ---- the headline
 

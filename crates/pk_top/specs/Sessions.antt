@@ -1,24 +1,13 @@
 -- Runs of the program one after another, each on what a cut of the one before left.
 use Rattle.std.specs.Prelude.{◌≡◌, ℕ, List, [], ◌∷◌, ◌++◌, Option, Some, None}
 use Rattle.std.specs.FinMap.{empty}
-use Rattle.pk_base.specs.Shape.{Shape}
-use Rattle.pk_base.specs.Page.{Flash}
-use Rattle.pk_base.specs.Mark.{Mark}
-use Rattle.pk_base.specs.Map.{Map}
-use Rattle.pk_nand.specs.BoardState.{BoardState}
-use Rattle.pk_nand.specs.Cut.{Cut}
-use Rattle.pk_model.specs.Spaces.{terms_at, limits_at}
-use Rattle.pk_model.specs.Kept.{Kept, rise}
-use Rattle.pk_model.specs.Reading.{Holds}
-use Rattle.pk_top.specs.Makes.{IsMade}
-use Rattle.pk_top.specs.Resting.{Rests}
-use Rattle.pk_top.specs.Serves.{ServeRun, behind_opening}
-use Rattle.pk_model.specs.Script.{script}
+use Rattle.pk_base.{specs.Shape.Shape, specs.Page.Flash, specs.Mark.Mark, specs.Map.Map}
+use Rattle.pk_nand.{specs.BoardState.BoardState, specs.Cut.Cut}
+use Rattle.pk_model.{specs.Spaces.terms_at, specs.Spaces.limits_at, specs.Kept.Kept, specs.Kept.rise, specs.Reading.Holds, specs.Script.script}
+use Rattle.pk_top.{specs.Makes.IsMade, specs.Resting.Rests, specs.Serves.ServeRun, specs.Serves.behind_opening, specs.Asks.AskRun, specs.declared.asking.TheConstants.WORD_FRAMES}
+use Rattle.pk_top.specs.Words.{Word, make, serve, ask, assemble, show, word_of}
 use Rattle.pk_call.specs.Meter.{meter}
 use Rattle.pk_wordrun.specs.Tasks.{Task, KeptTask}
-use Rattle.pk_top.specs.Asks.{AskRun}
-use Rattle.pk_top.specs.declared.asking.TheConstants.{WORD_FRAMES}
-use Rattle.pk_top.specs.Words.{Word, make, serve, ask, assemble, show, word_of}
 
 -- A run of the program: its words, its input, the board before it and at its end, its status, the marks that it made, and the flash and the
 -- posted bytes at its cut.

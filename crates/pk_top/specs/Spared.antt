@@ -2,8 +2,7 @@
 use Rattle.std.specs.Prelude.{ℕ, Bool, true, false, ◌&&◌, nat_le, is_ok, if◌then◌else◌, List, [], ◌∷◌, Option, Some, None, option_and_then, codes, bytes_eq}
 use Rattle.pk_base.specs.Shape.{Shape, checked}
 use Rattle.pk_nvme.specs.Text.{number_of}
-use Rattle.pk_remap.specs.Places.{inner_shape}
-use Rattle.pk_remap.specs.declared.layout.TheConstants.{MOST_SPARES}
+use Rattle.pk_remap.{specs.Places.inner_shape, specs.declared.layout.TheConstants.MOST_SPARES}
 use Rattle.pk_top.specs.Words.{Word, make, serve, ask, assemble, show, word_of}
 
 -- The word may be obeyed over a flash with this many spare blocks: it needs a drive, and with the spare blocks the shape of a drive that

@@ -1,9 +1,7 @@
 -- What the status of a run says of the board.
 use Rattle.std.specs.Prelude.{◌≡◌, ◌⊎◌, ℕ, None, Some, IsSome}
-use Rattle.pk_base.specs.Shape.{Shape}
-use Rattle.pk_base.specs.Refusal.{Refusal}
-use Rattle.pk_nand.specs.BoardState.{BoardState}
-use Rattle.pk_nand.specs.Calls.{Rose}
+use Rattle.pk_base.{specs.Shape.Shape, specs.Refusal.Refusal}
+use Rattle.pk_nand.{specs.BoardState.BoardState, specs.Calls.Rose}
 use Rattle.pk_model.specs.Reading.{Refuses}
 use Rattle.pk_top.specs.declared.status.TheConstants.Status.{WORDS, INPUT, OUTPUT, FLASH, MEMORY, NO_DRIVE, IMAGE_EXISTS}
 

@@ -1,9 +1,7 @@
 -- A run of a word that touches no flash.
 use Rattle.std.specs.Prelude.{◌≡◌, ◌⊎◌, ℕ, List}
 use Rattle.pk_nand.specs.BoardState.{BoardState}
-use Rattle.pk_text.specs.Written.{Written}
-use Rattle.pk_text.specs.Turns.{Turns}
-use Rattle.pk_text.specs.declared.end.TextEnd.{TextEnd}
+use Rattle.pk_text.{specs.Written.Written, specs.Turns.Turns, specs.declared.end.TextEnd.TextEnd}
 use Rattle.pk_text.specs.declared.end.TextEnd.TheVariants.{Done, Truncated, Input, Output, TooMany, BadLine}
 use Rattle.pk_top.specs.declared.status.TheConstants.Status.{DONE, TRUNCATED, INPUT, OUTPUT, MEMORY, WORN, BAD_LINE}
 

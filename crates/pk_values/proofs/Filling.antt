@@ -1,38 +1,21 @@
 -- The open block: its next pages, another block in its place, and pages that were written.
 use Rattle.std.proofs.Common.{◌≡◌, ◌≢◌, inl, inr, ℕ, ◌+◌, ◌-◌, ◌*◌, ◌/◌, ◌%◌, ◌<◌, ◌≤◌, Bool, true, false, not, ◌&&◌, cond, T, nat_le, List, length, Option, Some, None, refl, sym, ap, subst, ◌∙◌}
 use Rattle.std.proofs.Common.{arith, length-set, leb→le, le→leb}
-use Rattle.std.specs.Prelude.{slice_get, MatchOption}
-use Rattle.std.proofs.Math.ListN.{set}
-use Rattle.std.proofs.Math.Nat.{mul_comm}
-use Rattle.std.proofs.lemmas.Nat.{div-add-mod'}
+use Rattle.std.{specs.Prelude.slice_get, specs.Prelude.MatchOption, proofs.Math.ListN.set, proofs.Math.Nat.mul_comm, proofs.lemmas.Nat.div-add-mod', proofs.lemmas.Option.slice_get-get_or}
 use Rattle.std.proofs.lemmas.Bool.{cases_eq, cases_lt}
-use Rattle.std.proofs.lemmas.Option.{slice_get-get_or}
-use Rattle.pk_base.specs.Key.{Key}
-use Rattle.pk_base.specs.Shape.{Shape, IsShape, data_blocks, most_pages}
-use Rattle.pk_base.specs.Page.{Flash, page_at}
-use Rattle.pk_base.specs.Entry.{Place}
-use Rattle.pk_nand.specs.BoardState.{BoardState}
-use Rattle.pk_base.specs.Mark.{all_posted}
-use Rattle.pk_nand.proofs.Reaching.{Went-reached}
+use Rattle.pk_base.{specs.Key.Key, specs.Shape.Shape, specs.Shape.IsShape, specs.Shape.data_blocks, specs.Shape.most_pages, specs.Page.Flash, specs.Page.page_at, specs.Entry.Place}
+use Rattle.pk_base.{specs.Mark.all_posted, proofs.Logic.is_true, proofs.BlockLemmas.apart}
+use Rattle.pk_nand.{specs.BoardState.BoardState, proofs.Reaching.Went-reached, specs.Operations.IsErasedBlock}
 use Rattle.pk_plan.specs.declared.owner.Owner.TheVariants.{Values as for_values}
 use Rattle.pk_pool.specs.declared.state.BlockState.TheVariants.{Free, Ready, Owned}
-use Rattle.pk_pool.specs.Blocks.{Blocks, PoolOnFlash, IsSpare, used_by, with_state}
-use Rattle.pk_nand.specs.Operations.{IsErasedBlock}
+use Rattle.pk_pool.{specs.Blocks.Blocks, specs.Blocks.PoolOnFlash, specs.Blocks.IsSpare, specs.Blocks.used_by, specs.Blocks.with_state, proofs.States.get-set_other, proofs.States.set_is}
 use Rattle.pk_pool.specs.Taking.{SameButBlock, ReachesIn, WentIn, FailsToErase}
-use Rattle.pk_pool.proofs.States.{get-set_other, set_is}
 use Rattle.pk_pool.proofs.Fitting.{block_of, even_start, PoolOnFlash-outside, owned_not_ready}
-use Rattle.pk_live.specs.Values.{Values}
+use Rattle.pk_live.{specs.Values.Values, specs.declared.open_block.OpenBlock.OpenBlock, specs.OpenBlocks.closed_with}
 use Rattle.pk_law_steps.specs.Under.{IsValuePage}
-use Rattle.pk_live.specs.declared.open_block.OpenBlock.{OpenBlock}
-use Rattle.pk_live.specs.OpenBlocks.{closed_with}
 use Rattle.pk_values.specs.State.{ValuesState, has_left, page_behind, fits_open, next_page, block_opened, more_used, with_written, needs_reclaim}
-use Rattle.pk_values.specs.Placed.{ValuesOnFlash, AreOutputs, IsOpenIn, IsNotOpen, IsOutput, HoldsValues}
-use Rattle.pk_values.specs.Reserving.{IsReserved, WritesNext, IsFreeOf}
-use Rattle.pk_values.specs.Entries.{IsInOpen}
-use Rattle.pk_values.specs.Laws.{SameValues}
-use Rattle.pk_values.proofs.Unchanged.{flash_elsewhere}
-use Rattle.pk_base.proofs.Logic.{is_true}
-use Rattle.pk_base.proofs.BlockLemmas.{apart}
+use Rattle.pk_values.{specs.Placed.ValuesOnFlash, specs.Placed.AreOutputs, specs.Placed.IsOpenIn, specs.Placed.IsNotOpen, specs.Placed.IsOutput, specs.Placed.HoldsValues, specs.Entries.IsInOpen}
+use Rattle.pk_values.{specs.Reserving.IsReserved, specs.Reserving.WritesNext, specs.Reserving.IsFreeOf, specs.Laws.SameValues, proofs.Unchanged.flash_elsewhere}
 
 abbrev state_of : Values → Option OpenBlock → ValuesState
 state_of live open_block = record { live = live; open_block = open_block }

@@ -1,17 +1,11 @@
 -- The heads of values that do not overlap: with a value less, with one more, and with one at another place.
 use Rattle.std.proofs.Common.{◌≡◌, ◌≢◌, ℕ, ◌+◌, true, false, T, List, Some, None, refl, sym, ap, subst, ◌∙◌, arith, map, ◌==◌}
-use Rattle.std.specs.List.{range_with_len, AllByRecursion}
-use Rattle.std.specs.FinMap.Entries.{put, find, is_sorted}
-use Rattle.std.proofs.Math.ListN.{set}
+use Rattle.std.{specs.List.range_with_len, specs.List.AllByRecursion, specs.FinMap.Entries.put, specs.FinMap.Entries.find, specs.FinMap.Entries.is_sorted, proofs.Math.ListN.set}
 use Rattle.std.proofs.lemmas.Bool.{eq-eqb, ne_eqb}
-use Rattle.pk_base.specs.Key.{Key, key_cmp}
-use Rattle.pk_base.specs.Shape.{Shape, IsShape, page_count, charge}
-use Rattle.pk_base.specs.Entry.{Place}
-use Rattle.pk_base.specs.EntryChecks.{IsPlace}
+use Rattle.pk_base.{specs.Key.Key, specs.Key.key_cmp, specs.Shape.Shape, specs.Shape.IsShape, specs.Shape.page_count, specs.Shape.charge, specs.Entry.Place, specs.EntryChecks.IsPlace}
 use Rattle.pk_model.specs.Laws.{IsPageOf}
 use Rattle.pk_law_steps.specs.Under.{IsValuePage}
-use Rattle.pk_live.specs.Lives.{head_of}
-use Rattle.pk_live.proofs.Standing.{map_set}
+use Rattle.pk_live.{specs.Lives.head_of, proofs.Standing.map_set}
 use Rattle.pk_values.specs.Placed.{AreApart, without}
 use Rattle.pk_values.proofs.Lists.{put_without, find_gone, page_without, apart_put, apart_without, places_put, places_without, found_place, first_page, head_put, head_without, head_none, head_found}
 

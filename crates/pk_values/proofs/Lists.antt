@@ -1,27 +1,17 @@
 -- Keys with places: one entry more, and one less.
 use Rattle.std.proofs.Common.{◌≡◌, ◌⊎◌, inl, inr, ℕ, ◌+◌, true, false, not, cond, T, List, [], ◌∷◌, ◌++◌, Some, None, refl, sym, ap, subst, ◌∙◌, arith, ◌==◌}
-use Rattle.std.specs.List.{AllByRecursion}
-use Rattle.std.specs.declared.cmp.Ordering.TheVariants.{Less, Equal, Greater}
-use Rattle.std.specs.Ordering.{is_lt, is_eq, eq_by_cmp}
-use Rattle.std.specs.Cmp.{tied_itself}
+use Rattle.std.{specs.List.AllByRecursion, specs.declared.cmp.Ordering.TheVariants.Less, specs.declared.cmp.Ordering.TheVariants.Equal, specs.declared.cmp.Ordering.TheVariants.Greater}
+use Rattle.std.{specs.Ordering.is_lt, specs.Ordering.is_eq, specs.Ordering.eq_by_cmp, specs.Cmp.tied_itself, proofs.lemmas.Bool.eq-eqb, proofs.lemmas.Bool.ne_eqb}
 use Rattle.std.specs.FinMap.Entries.{put, find, is_sorted, below_all, by_order, find-where_key}
-use Rattle.std.proofs.lemmas.Bool.{eq-eqb, ne_eqb}
-use Rattle.pk_base.specs.Key.{Key, key_cmp}
-use Rattle.pk_base.specs.Shape.{Shape, IsShape, charge}
-use Rattle.pk_base.specs.Entry.{Place}
-use Rattle.pk_base.specs.EntryChecks.{IsPlace}
-use Rattle.pk_segfmt.specs.Value.{value_pages}
-use Rattle.pk_segfmt.proofs.StoredLemmas.{charge_some}
+use Rattle.pk_base.{specs.Key.Key, specs.Key.key_cmp, specs.Shape.Shape, specs.Shape.IsShape, specs.Shape.charge, specs.Entry.Place, specs.EntryChecks.IsPlace}
+use Rattle.pk_base.proofs.Logic.{left_part, right_part, less}
+use Rattle.pk_segfmt.{specs.Value.value_pages, proofs.StoredLemmas.charge_some}
 use Rattle.pk_rootfmt.specs.Root.{differ}
-use Rattle.pk_model.specs.Values.{all_pages}
-use Rattle.pk_model.specs.Laws.{IsPageOf}
-use Rattle.pk_model.proofs.MapLemmas.{key_total, key_antisymm, below_less}
+use Rattle.pk_model.{specs.Values.all_pages, specs.Laws.IsPageOf, proofs.MapLemmas.key_total, proofs.MapLemmas.key_antisymm, proofs.MapLemmas.below_less}
 use Rattle.pk_model.proofs.Commits.{apart, rest_differs}
-use Rattle.pk_law_steps.specs.Under.{IsValuePage}
-use Rattle.pk_law_steps.proofs.Places.{range_in, value_in}
+use Rattle.pk_law_steps.{specs.Under.IsValuePage, proofs.Places.range_in, proofs.Places.value_in}
 use Rattle.pk_live.specs.Lives.{head_of}
 use Rattle.pk_values.specs.Placed.{AreApart, without}
-use Rattle.pk_base.proofs.Logic.{left_part, right_part, less}
 
 -- ---- keys
 

@@ -1,15 +1,12 @@
 -- At first there is no value.
 use Rattle.std.proofs.Common.{◌≡◌, inl, inr, ℕ, true, false, [], replicate, refl, ◌∙◌, length-set}
-use Rattle.std.proofs.Math.ListN.{set}
-use Rattle.std.proofs.lemmas.List.{length-replicate}
+use Rattle.std.{proofs.Math.ListN.set, proofs.lemmas.List.length-replicate}
 use Rattle.pk_base.specs.Shape.{Shape}
 use Rattle.pk_plan.specs.declared.owner.Owner.TheVariants.{Values as for_values}
-use Rattle.pk_pool.specs.declared.state.BlockState.TheVariants.{Root, Free, Owned}
-use Rattle.pk_pool.specs.Blocks.{unused}
+use Rattle.pk_pool.{specs.declared.state.BlockState.TheVariants.Root, specs.declared.state.BlockState.TheVariants.Free, specs.declared.state.BlockState.TheVariants.Owned, specs.Blocks.unused}
 use Rattle.pk_pool.proofs.States.{none_ready_unused, none_leaves_unused, set_one, nowhere_replicate}
 use Rattle.pk_live.proofs.Nothing.{Lives-none}
-use Rattle.pk_values.specs.Placed.{HoldsValues}
-use Rattle.pk_values.specs.Laws.{StartsWithNone}
+use Rattle.pk_values.{specs.Placed.HoldsValues, specs.Laws.StartsWithNone}
 
 none_owned : (shape : Shape) (b : ℕ) → HoldsValues (unused shape) b → ⊥
 none_owned shape b held = elim (set_one (set (replicate shape.blocks Free) 0 Root) 1 b Root (Owned for_values) held) [

@@ -1,32 +1,19 @@
 -- Values as they are found at opening.
 use Rattle.std.proofs.Common.{◌≡◌, inl, inr, ℕ, ◌+◌, ◌-◌, ◌*◌, ◌/◌, ◌%◌, ◌<◌, ◌≤◌, true, false, T, List, [], ◌∷◌, ◌==◌, length, filter, get_or, map, Some, refl, sym, ap, subst, ◌∙◌, arith}
 use Rattle.std.proofs.Common.{div-add-mod', mod-lt, mul-le-mul_right}
-use Rattle.std.specs.Prelude.{slice_get}
-use Rattle.std.specs.List.{list_any, range_with_len, AllByRecursion}
+use Rattle.std.{specs.Prelude.slice_get, specs.List.list_any, specs.List.range_with_len, specs.List.AllByRecursion}
 use Rattle.std.proofs.lemmas.Bool.{false≢true, cases_Bool, cases_lt, or_cases, or_left, or_right, eqb-true, eq-eqb, false_from_ne_true}
 use Rattle.std.proofs.lemmas.List.FromFn.{length-map-range_with_len, get_or-map-range_with_len}
 use Rattle.std.proofs.lemmas.Option.{slice_get-get_or, slice_get_within, same_Some}
-use Rattle.pk_base.specs.Key.{Key}
-use Rattle.pk_base.specs.Shape.{Shape, IsShape, page_count, data_blocks}
-use Rattle.pk_base.specs.Page.{Flash}
-use Rattle.pk_base.specs.Entry.{Place}
-use Rattle.pk_base.specs.EntryChecks.{IsPlace}
+use Rattle.pk_base.{specs.Key.Key, specs.Shape.Shape, specs.Shape.IsShape, specs.Shape.page_count, specs.Shape.data_blocks, specs.Page.Flash, specs.Entry.Place, specs.EntryChecks.IsPlace}
 use Rattle.pk_plan.specs.declared.owner.Owner.{Owner}
 use Rattle.pk_plan.specs.declared.owner.Owner.TheVariants.{Journal, Meta, Values as for_values}
-use Rattle.pk_pool.specs.declared.state.BlockState.{BlockState}
+use Rattle.pk_pool.{specs.declared.state.BlockState.BlockState, specs.Blocks.Blocks, specs.Blocks.is_owned_by, specs.Blocks.used_by}
 use Rattle.pk_pool.specs.declared.state.BlockState.TheVariants.{Root, Free, Ready, Owned, Leaving}
-use Rattle.pk_pool.specs.Blocks.{Blocks, is_owned_by, used_by}
-use Rattle.pk_live.specs.Values.{Values}
-use Rattle.pk_model.specs.Values.{all_pages, fits}
-use Rattle.pk_model.specs.Laws.{AnyByRecursion}
-use Rattle.pk_model.proofs.ValueSets.{fits_parts}
-use Rattle.pk_law_steps.specs.Under.{IsValuePage}
-use Rattle.pk_law_steps.proofs.Places.{value_in, in_value}
-use Rattle.pk_live.specs.Lives.{is_used}
-use Rattle.pk_live.proofs.Blocks.{value_exists, block_exists}
-use Rattle.pk_values.specs.State.{with_none_open}
-use Rattle.pk_values.specs.Placed.{ValuesOnFlash, FoundAtOpening, HoldsValues}
-use Rattle.pk_values.proofs.Lists.{apart_from}
+use Rattle.pk_live.{specs.Values.Values, specs.Lives.is_used, proofs.Blocks.value_exists, proofs.Blocks.block_exists}
+use Rattle.pk_model.{specs.Values.all_pages, specs.Values.fits, specs.Laws.AnyByRecursion, proofs.ValueSets.fits_parts}
+use Rattle.pk_law_steps.{specs.Under.IsValuePage, proofs.Places.value_in, proofs.Places.in_value}
+use Rattle.pk_values.{specs.State.with_none_open, specs.Placed.ValuesOnFlash, specs.Placed.FoundAtOpening, specs.Placed.HoldsValues, proofs.Lists.apart_from}
 use Rattle.pk_values.proofs.Unchanged.{some_pages, filter_row}
 
 -- a page of a value exists

@@ -1,18 +1,13 @@
 -- The blocks for values that no running reclaim holds.
 use Rattle.std.proofs.Common.{◌≡◌, ◌≢◌, inl, inr, ℕ, zero, suc, ◌+◌, Bool, true, false, not, ◌&&◌, ◌==◌, List, [], ◌∷◌, length, Some, refl, sym, ap, subst, ◌∙◌, arith, length-set}
-use Rattle.std.specs.Prelude.{slice_get}
-use Rattle.std.proofs.Math.ListN.{set}
+use Rattle.std.{specs.Prelude.slice_get, proofs.Math.ListN.set}
 use Rattle.std.proofs.lemmas.Bool.{false≢true, or_cases, and_parts, eqb-true, eq-eqb, or_left, or_right, cases_Bool, false_from_ne_true}
 use Rattle.pk_plan.specs.declared.owner.Owner.TheVariants.{Values as for_values}
-use Rattle.pk_pool.specs.declared.state.BlockState.{BlockState}
-use Rattle.pk_pool.specs.declared.state.BlockState.TheVariants.{Free, Owned}
-use Rattle.pk_pool.specs.Blocks.{used_by}
-use Rattle.pk_pool.proofs.States.{get-set_other}
-use Rattle.pk_pool.proofs.Sharing.{used_given}
+use Rattle.pk_pool.{specs.declared.state.BlockState.BlockState, specs.declared.state.BlockState.TheVariants.Free, specs.declared.state.BlockState.TheVariants.Owned, specs.Blocks.used_by}
+use Rattle.pk_pool.{proofs.States.get-set_other, proofs.Sharing.used_given}
 use Rattle.pk_rootfmt.specs.Root.{differ}
 use Rattle.pk_live.proofs.Ranges.{has}
-use Rattle.pk_values.specs.Placed.{IsOutput}
-use Rattle.pk_values.specs.Laws.{is_for_values}
+use Rattle.pk_values.{specs.Placed.IsOutput, specs.Laws.is_for_values}
 
 -- ---- members
 

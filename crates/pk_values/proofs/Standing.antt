@@ -1,33 +1,18 @@
 -- Placed values, after a key got a value at another place, or lost it.
 use Rattle.std.proofs.Common.{◌≡◌, ◌≢◌, inl, inr, ℕ, ◌+◌, ◌*◌, ◌/◌, ◌%◌, ◌<◌, ◌≤◌, T, List, length, get_or, sum, Option, Some, None, refl, sym, ap, subst, ◌∙◌, arith}
-use Rattle.std.specs.Prelude.{slice_get, MatchOption}
-use Rattle.std.specs.FinMap.Entries.{put, find, is_sorted}
-use Rattle.std.proofs.Math.ListN.{set}
-use Rattle.std.proofs.Math.Nat.{mul_comm}
-use Rattle.std.proofs.lemmas.Nat.{div-add-mod'}
-use Rattle.std.proofs.lemmas.Option.{slice_get-get_or}
-use Rattle.std.proofs.lemmas.List.FromFn.{length-map-range_with_len}
-use Rattle.pk_base.specs.Key.{Key, key_cmp}
-use Rattle.pk_base.specs.Shape.{Shape, IsShape, page_count, charge, greatest}
-use Rattle.pk_base.specs.Page.{Flash, page_at, erased}
-use Rattle.pk_base.specs.Entry.{Place}
-use Rattle.pk_base.specs.EntryChecks.{IsPlace}
+use Rattle.std.{specs.Prelude.slice_get, specs.Prelude.MatchOption, specs.FinMap.Entries.put, specs.FinMap.Entries.find, specs.FinMap.Entries.is_sorted, proofs.Math.ListN.set}
+use Rattle.std.{proofs.Math.Nat.mul_comm, proofs.lemmas.Nat.div-add-mod', proofs.lemmas.Option.slice_get-get_or, proofs.lemmas.List.FromFn.length-map-range_with_len}
+use Rattle.pk_base.{specs.Key.Key, specs.Key.key_cmp, specs.Shape.Shape, specs.Shape.IsShape, specs.Shape.page_count, specs.Shape.charge, specs.Shape.greatest, specs.Entry.Place}
+use Rattle.pk_base.{specs.Page.Flash, specs.Page.page_at, specs.Page.erased, specs.EntryChecks.IsPlace, proofs.BlockLemmas.apart}
 use Rattle.pk_segfmt.proofs.StoredLemmas.{charge_some}
-use Rattle.pk_pool.specs.Blocks.{Blocks}
-use Rattle.pk_pool.proofs.Fitting.{block_of}
-use Rattle.pk_model.specs.Values.{all_pages}
-use Rattle.pk_model.specs.Laws.{IsPageOf}
+use Rattle.pk_pool.{specs.Blocks.Blocks, proofs.Fitting.block_of}
+use Rattle.pk_model.{specs.Values.all_pages, specs.Laws.IsPageOf}
 use Rattle.pk_law_steps.specs.Under.{IsValuePage}
-use Rattle.pk_live.specs.Lives.{head_of}
-use Rattle.pk_live.proofs.Standing.{heads_read, total_is}
-use Rattle.pk_live.specs.declared.open_block.OpenBlock.{OpenBlock}
-use Rattle.pk_values.specs.declared.span.Span.{Span}
-use Rattle.pk_values.specs.State.{ValuesState, with_head, with_heads}
+use Rattle.pk_live.{specs.Lives.head_of, proofs.Standing.heads_read, proofs.Standing.total_is, specs.declared.open_block.OpenBlock.OpenBlock}
+use Rattle.pk_values.{specs.declared.span.Span.Span, specs.State.ValuesState, specs.State.with_head, specs.State.with_heads, proofs.Heads.AreLive, proofs.Heads.live_removed, proofs.Heads.live_added}
 use Rattle.pk_values.specs.Placed.{ValuesOnFlash, IsOpenIn, IsOutput, IsNotOpen, HoldsValues, without}
 use Rattle.pk_values.specs.Entries.{span_if_some, heads_without, ValueHeld, ValueMoves}
 use Rattle.pk_values.proofs.Lists.{put_without, nothing_out, find_gone, page_put, page_without, found_place, head_none, head_found}
-use Rattle.pk_values.proofs.Heads.{AreLive, live_removed, live_added}
-use Rattle.pk_base.proofs.BlockLemmas.{apart}
 
 -- pages that were written into a block for values
 pub record InBlock (shape : Shape) (pool : Blocks) (outputs : List ℕ) (flash : Flash) (place : Place) : Type 0 where

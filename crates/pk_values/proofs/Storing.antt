@@ -1,25 +1,15 @@
 -- A value that was written at pages that were found for it.
 use Rattle.std.proofs.Common.{◌≡◌, ℕ, ◌+◌, ◌-◌, ◌≤◌, cond, T, List, length, Option, Some, sym, ap, subst, ◌∙◌, arith}
-use Rattle.std.specs.Ordering.{is_eq}
-use Rattle.std.specs.Cmp.{tied_itself}
+use Rattle.std.{specs.Ordering.is_eq, specs.Cmp.tied_itself}
 use Rattle.std.specs.FinMap.Entries.{put, find, is_sorted, is_sorted-put, find-put}
-use Rattle.pk_base.specs.Key.{Key, key_cmp}
-use Rattle.pk_base.specs.Shape.{Shape, charge, greatest}
-use Rattle.pk_base.specs.Entry.{Place}
-use Rattle.pk_base.proofs.ShapeLemmas.{charge_even}
+use Rattle.pk_base.{specs.Key.Key, specs.Key.key_cmp, specs.Shape.Shape, specs.Shape.charge, specs.Shape.greatest, specs.Entry.Place, proofs.ShapeLemmas.charge_even, specs.Mark.all_posted}
 use Rattle.pk_base.specs.Page.{Flash, page_at, whole}
-use Rattle.pk_base.specs.Mark.{all_posted}
-use Rattle.pk_nand.specs.BoardState.{BoardState}
-use Rattle.pk_nand.specs.Crash.{SameOutside, Reached}
-use Rattle.pk_nand.proofs.Reaching.{Went-reached}
+use Rattle.pk_nand.{specs.BoardState.BoardState, specs.Crash.SameOutside, specs.Crash.Reached, proofs.Reaching.Went-reached}
 use Rattle.pk_pool.specs.Blocks.{Blocks}
 use Rattle.pk_segfmt.specs.Stored.{IsStored, page_of}
 use Rattle.pk_model.proofs.MapLemmas.{key_total}
-use Rattle.pk_values.specs.declared.span.Span.{Span}
-use Rattle.pk_values.specs.State.{ValuesState, next_page}
-use Rattle.pk_values.specs.Placed.{ValuesOnFlash}
-use Rattle.pk_values.specs.Reserving.{IsReserved, IsFreeOf, WritesNext}
-use Rattle.pk_values.specs.Entries.{ValueMoves, IsInOpen, span_if_some}
+use Rattle.pk_values.{specs.declared.span.Span.Span, specs.State.ValuesState, specs.State.next_page, specs.Placed.ValuesOnFlash}
+use Rattle.pk_values.{specs.Reserving.IsReserved, specs.Reserving.IsFreeOf, specs.Reserving.WritesNext, specs.Entries.ValueMoves, specs.Entries.IsInOpen, specs.Entries.span_if_some}
 
 -- if the whole call left no other page differing at any cut, it left none at its end
 pub same_at_end : (page count : ℕ) (old new : BoardState) → Reached old new (λ flash _. SameOutside page count old.pages flash) → SameOutside page count old.pages new.pages

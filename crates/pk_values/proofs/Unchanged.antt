@@ -1,28 +1,15 @@
 -- Placed values, after others changed the flash or the pool; and the blocks in which they lie.
 use Rattle.std.proofs.Common.{◌≡◌, inl, inr, ℕ, zero, suc, ◌+◌, ◌-◌, ◌*◌, ◌/◌, ◌<◌, ◌≤◌, Bool, true, false, not, ◌&&◌, cond, List, [], ◌∷◌, length, filter, Option, Some, None, refl, sym, ap, subst}
 use Rattle.std.proofs.Common.{◌∙◌, arith, length-set, eq-or-lt_of_le}
-use Rattle.std.specs.Prelude.{count_by, slice_get, MatchOption}
-use Rattle.std.specs.List.{range_with_len}
-use Rattle.std.proofs.Math.ListN.{set}
-use Rattle.std.proofs.lemmas.Bool.{cases_eq, and_from, not_from_false}
-use Rattle.std.proofs.lemmas.List.Sums.{sum_by-cons}
-use Rattle.std.proofs.lemmas.Option.{slice_get_within, same_Some}
-use Rattle.pk_base.specs.Key.{Key}
-use Rattle.pk_base.specs.Shape.{Shape, IsShape, data_blocks}
-use Rattle.pk_base.specs.Page.{Flash, page_at}
-use Rattle.pk_base.specs.Entry.{Place}
+use Rattle.std.{specs.Prelude.count_by, specs.Prelude.slice_get, specs.Prelude.MatchOption, specs.List.range_with_len, proofs.Math.ListN.set, proofs.lemmas.List.Sums.sum_by-cons}
+use Rattle.std.{proofs.lemmas.Bool.cases_eq, proofs.lemmas.Bool.and_from, proofs.lemmas.Bool.not_from_false, proofs.lemmas.Option.slice_get_within, proofs.lemmas.Option.same_Some}
+use Rattle.pk_base.{specs.Key.Key, specs.Shape.Shape, specs.Shape.IsShape, specs.Shape.data_blocks, specs.Page.Flash, specs.Page.page_at, specs.Entry.Place}
 use Rattle.pk_plan.specs.declared.owner.Owner.TheVariants.{Values as for_values}
-use Rattle.pk_pool.specs.declared.state.BlockState.{BlockState}
-use Rattle.pk_pool.specs.declared.state.BlockState.TheVariants.{Owned}
-use Rattle.pk_pool.specs.Blocks.{Blocks, PoolOnFlash, is_owned_by, used_by, with_state}
-use Rattle.pk_pool.proofs.States.{get-set_other, get-set_same}
-use Rattle.pk_pool.proofs.Sharing.{count-set}
-use Rattle.pk_pool.proofs.Fitting.{block_of}
+use Rattle.pk_pool.{specs.declared.state.BlockState.BlockState, specs.declared.state.BlockState.TheVariants.Owned, proofs.States.get-set_other, proofs.States.get-set_same, proofs.Sharing.count-set}
+use Rattle.pk_pool.{specs.Blocks.Blocks, specs.Blocks.PoolOnFlash, specs.Blocks.is_owned_by, specs.Blocks.used_by, specs.Blocks.with_state, proofs.Fitting.block_of}
 use Rattle.pk_model.specs.Laws.{AnyByRecursion}
-use Rattle.pk_live.specs.declared.open_block.OpenBlock.{OpenBlock}
-use Rattle.pk_values.specs.State.{ValuesState}
-use Rattle.pk_values.specs.Placed.{ValuesOnFlash, IsNotOpen, IsOpenIn, IsOutput, HoldsValues}
-use Rattle.pk_live.proofs.Ranges.{has}
+use Rattle.pk_live.{specs.declared.open_block.OpenBlock.OpenBlock, proofs.Ranges.has}
+use Rattle.pk_values.{specs.State.ValuesState, specs.Placed.ValuesOnFlash, specs.Placed.IsNotOpen, specs.Placed.IsOpenIn, specs.Placed.IsOutput, specs.Placed.HoldsValues}
 use Rattle.pk_values.specs.Laws.{SameValues, FlashElsewhere, BlockElsewhere, LieInFew, NoneInSpare, value_blocks, is_for_values}
 use Rattle.pk_values.proofs.Outputs.{freed, length-freed, freed_is, used_freed, no_member}
 

@@ -1,16 +1,11 @@
 -- A key gets a value at another place, or has one no more.
 use Rattle.std.specs.Prelude.{◌≡◌, ℕ, ◌+◌, ◌*◌, ◌%◌, ◌≤◌, List, Option, Some, None, MatchOption, T, slice_set}
 use Rattle.std.specs.FinMap.Entries.{find, is_sorted}
-use Rattle.pk_base.specs.Key.{Key, key_cmp}
-use Rattle.pk_base.specs.Shape.{Shape, charge, greatest}
-use Rattle.pk_base.specs.Page.{Flash}
-use Rattle.pk_base.specs.Entry.{Place}
+use Rattle.pk_base.{specs.Key.Key, specs.Key.key_cmp, specs.Shape.Shape, specs.Shape.charge, specs.Shape.greatest, specs.Page.Flash, specs.Entry.Place}
 use Rattle.pk_pool.specs.Blocks.{Blocks}
 use Rattle.pk_model.specs.Laws.{IsPageOf}
 use Rattle.pk_law_steps.specs.Under.{IsValuePage}
-use Rattle.pk_values.specs.declared.span.Span.{Span}
-use Rattle.pk_values.specs.State.{ValuesState}
-use Rattle.pk_values.specs.Placed.{ValuesOnFlash}
+use Rattle.pk_values.{specs.declared.span.Span.Span, specs.State.ValuesState, specs.Placed.ValuesOnFlash}
 
 -- these pages are in the part of the open block that is written
 abbrev pub IsInOpen : Shape → ValuesState → ℕ → ℕ → Type 0

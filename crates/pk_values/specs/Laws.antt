@@ -1,18 +1,14 @@
 -- What others do to the flash and to the pool, and what the values' blocks are: the statements.
 use Rattle.std.specs.Prelude.{◌≡◌, ℕ, ◌-◌, ◌/◌, ◌≤◌, List, [], length, filter, Bool, false, not, ◌&&◌, ◌==◌, Option, Some, None, slice_get}
 use Rattle.std.specs.List.{list_any, range_with_len}
-use Rattle.pk_base.specs.Key.{Key}
-use Rattle.pk_base.specs.Shape.{Shape, IsShape, data_blocks}
-use Rattle.pk_base.specs.Page.{Flash, page_at}
-use Rattle.pk_base.specs.Entry.{Place}
+use Rattle.pk_base.{specs.Key.Key, specs.Shape.Shape, specs.Shape.IsShape, specs.Shape.data_blocks, specs.Page.Flash, specs.Page.page_at, specs.Entry.Place}
 use Rattle.pk_plan.specs.declared.owner.Owner.TheVariants.{Values as for_values}
 use Rattle.pk_pool.specs.declared.state.BlockState.{BlockState}
 use Rattle.pk_pool.specs.Blocks.{Blocks, PoolOnFlash, IsSpare, is_owned_by, unused, with_state}
 use Rattle.pk_live.specs.Values.{no_values}
 use Rattle.pk_model.specs.Laws.{AnyByRecursion}
 use Rattle.pk_law_steps.specs.Under.{IsValuePage}
-use Rattle.pk_values.specs.State.{ValuesState}
-use Rattle.pk_values.specs.Placed.{HoldsValues, IsOutput, ValuesOnFlash, FoundAtOpening}
+use Rattle.pk_values.{specs.State.ValuesState, specs.Placed.HoldsValues, specs.Placed.IsOutput, specs.Placed.ValuesOnFlash, specs.Placed.FoundAtOpening}
 
 -- no page differs of a block that the pool has for values and that no running reclaim holds
 abbrev pub SameValues : Shape → Blocks → List ℕ → Flash → Flash → Type 0

@@ -1,21 +1,14 @@
 -- The values of a flash, as the live map, the pool and the open block describe them.
 use Rattle.std.specs.Prelude.{◌≡◌, ◌≢◌, ℕ, ◌+◌, ◌-◌, ◌*◌, ◌/◌, ◌%◌, ◌<◌, ◌≤◌, List, [], ◌∷◌, length, map, filter, not, slice_get, true, Option, Some, MatchOption}
-use Rattle.std.specs.List.{range_with_len, AllByRecursion}
-use Rattle.std.specs.Ordering.{eq_by_cmp}
-use Rattle.pk_base.specs.declared.sizes.TheConstants.{ROOT_BLOCKS}
-use Rattle.pk_base.specs.Key.{Key, key_cmp}
-use Rattle.pk_base.specs.Shape.{Shape, IsShape, page_count, data_blocks}
-use Rattle.pk_base.specs.Page.{Flash, page_at, erased}
-use Rattle.pk_base.specs.Entry.{Place}
-use Rattle.pk_base.specs.EntryChecks.{IsPlace}
+use Rattle.std.{specs.List.range_with_len, specs.List.AllByRecursion, specs.Ordering.eq_by_cmp}
+use Rattle.pk_base.{specs.declared.sizes.TheConstants.ROOT_BLOCKS, specs.Key.Key, specs.Key.key_cmp, specs.Shape.Shape, specs.Shape.IsShape, specs.Shape.page_count, specs.Shape.data_blocks}
+use Rattle.pk_base.{specs.Page.Flash, specs.Page.page_at, specs.Page.erased, specs.Entry.Place, specs.EntryChecks.IsPlace}
 use Rattle.pk_plan.specs.declared.owner.Owner.TheVariants.{Values as for_values}
-use Rattle.pk_pool.specs.Blocks.{Blocks, PoolOnFlash, NoneLeaves, used_by}
-use Rattle.pk_live.specs.Values.{Values, IsClosed}
+use Rattle.pk_pool.{specs.Blocks.Blocks, specs.Blocks.PoolOnFlash, specs.Blocks.NoneLeaves, specs.Blocks.used_by, specs.declared.state.BlockState.TheVariants.Owned}
+use Rattle.pk_live.{specs.Values.Values, specs.Values.IsClosed, specs.Lives.head_of, specs.Lives.Lives}
 use Rattle.pk_rootfmt.specs.Root.{differ}
 use Rattle.pk_model.specs.Laws.{AnyByRecursion, IsPageOf}
 use Rattle.pk_law_steps.specs.Under.{IsValuePage}
-use Rattle.pk_live.specs.Lives.{head_of, Lives}
-use Rattle.pk_pool.specs.declared.state.BlockState.TheVariants.{Owned}
 pub use Rattle.pk_live.specs.OpenBlocks.{IsNotOpen}
 use Rattle.pk_values.specs.State.{ValuesState, OpenBlock}
 

@@ -1,20 +1,12 @@
 -- The pages for a value: what a call that finds them does.
 use Rattle.std.specs.Prelude.{◌≡◌, ◌≢◌, ◌⊎◌, ℕ, ◌+◌, ◌/◌, ◌%◌, ◌<◌, ◌≤◌, List, true, false}
-use Rattle.pk_base.specs.declared.sizes.TheConstants.{ROOT_BLOCKS}
-use Rattle.pk_base.specs.Shape.{Shape, page_count}
-use Rattle.pk_base.specs.Key.{Key}
-use Rattle.pk_base.specs.Entry.{Place}
-use Rattle.pk_base.specs.Page.{Flash, page_at, erased}
+use Rattle.pk_base.{specs.declared.sizes.TheConstants.ROOT_BLOCKS, specs.Shape.Shape, specs.Shape.page_count, specs.Key.Key, specs.Entry.Place, specs.Page.Flash, specs.Page.page_at, specs.Page.erased}
 use Rattle.pk_plan.specs.declared.owner.Owner.TheVariants.{Values as for_values}
-use Rattle.pk_nand.specs.BoardState.{BoardState}
-use Rattle.pk_nand.specs.Operations.{InOrder}
-use Rattle.pk_nand.specs.Crash.{SameOutside}
-use Rattle.pk_pool.specs.declared.state.BlockState.TheVariants.{Owned}
-use Rattle.pk_pool.specs.Blocks.{Blocks, IsSpare, with_state}
+use Rattle.pk_nand.{specs.BoardState.BoardState, specs.Operations.InOrder, specs.Crash.SameOutside}
+use Rattle.pk_pool.{specs.declared.state.BlockState.TheVariants.Owned, specs.Blocks.Blocks, specs.Blocks.IsSpare, specs.Blocks.with_state}
 use Rattle.pk_pool.specs.Taking.{TakesReady, ErasesFree, ReachesIn}
 use Rattle.pk_law_steps.specs.Under.{IsValuePage}
-use Rattle.pk_values.specs.State.{ValuesState, fits_open, next_page, block_opened}
-use Rattle.pk_values.specs.Placed.{HoldsValues, ValuesOnFlash}
+use Rattle.pk_values.{specs.State.ValuesState, specs.State.fits_open, specs.State.next_page, specs.State.block_opened, specs.Placed.HoldsValues, specs.Placed.ValuesOnFlash}
 
 -- From this page on, which is even, the next n are Erased ones of the open block, which is one for values.
 pub record IsReserved (shape : Shape) (d : ValuesState) (pool : Blocks) (flash : Flash) (page count : ℕ) : Type 0 where

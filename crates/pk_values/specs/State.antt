@@ -1,12 +1,10 @@
 -- Where values go: the live values, and the block that is being filled.
 use Rattle.std.specs.Prelude.{ℕ, ◌+◌, ◌-◌, ◌*◌, ◌≤◌, List, Bool, false, not, ◌&&◌, nat_le, slice_set, Option, Some, None}
-use Rattle.pk_base.specs.declared.sizes.TheConstants.{MOST_BLOCK_PAGES, MOST_BLOCKS}
-use Rattle.pk_base.specs.Shape.{Shape, data_blocks}
+use Rattle.pk_base.{specs.declared.sizes.TheConstants.MOST_BLOCK_PAGES, specs.declared.sizes.TheConstants.MOST_BLOCKS, specs.Shape.Shape, specs.Shape.data_blocks}
 use Rattle.pk_plan.specs.declared.owner.Owner.TheVariants.{Values as for_values}
 use Rattle.pk_pool.specs.Blocks.{Blocks, used_by}
-use Rattle.pk_live.specs.Values.{Values}
+use Rattle.pk_live.{specs.Values.Values, specs.OpenBlocks.closed_with}
 pub use Rattle.pk_live.specs.declared.open_block.OpenBlock.{OpenBlock}
-use Rattle.pk_live.specs.OpenBlocks.{closed_with}
 
 -- the live values with the blocks that are closed, and the block that takes the next value, if there is one
 pub record ValuesState : Type 0 where

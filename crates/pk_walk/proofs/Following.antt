@@ -1,35 +1,21 @@
 -- A cursor in a run: the page of its place, the entry at it, and what its moves leave.
 use Rattle.std.proofs.Common.{◌≡◌, ℕ, zero, suc, ◌+◌, ◌-◌, ◌*◌, ◌/◌, ◌%◌, ◌<◌, ◌≤◌, min, refl, sym, ap, subst, ◌∙◌, arith, Bool, true, false, if◌then◌else◌, T, is_some, List, [], ◌∷◌, ◌++◌, length}
 use Rattle.std.proofs.Common.{take, drop, slice_get, Option, Some, None, div-lt_iff_lt-mul, mul-le-mul, suc-mul}
-use Rattle.std.proofs.lemmas.Option.{slice_get_within}
-use Rattle.std.specs.Ordering.{is_gt, is_eq}
-use Rattle.std.specs.declared.cmp.Ordering.{Ordering}
+use Rattle.std.{proofs.lemmas.Option.slice_get_within, specs.Ordering.is_gt, specs.Ordering.is_eq, specs.declared.cmp.Ordering.Ordering, proofs.lemmas.Nat.div-add-mod'}
 use Rattle.std.specs.declared.cmp.Ordering.TheVariants.{Less, Equal, Greater}
-use Rattle.std.proofs.lemmas.Nat.{div-add-mod'}
-use Rattle.std.proofs.lemmas.List.{length-take, length-drop}
-use Rattle.std.proofs.Math.Nat.{mod-lt, div-le_of_le-mul}
-use Rattle.pk_base.specs.Key.{Key, key_cmp}
-use Rattle.pk_base.specs.Shape.{Shape, IsShape, page_entries}
-use Rattle.pk_base.specs.Entry.{Entry, key_of}
-use Rattle.pk_base.specs.Fields.{number_at}
-use Rattle.pk_base.specs.Page.{Flash, page_at, whole}
-use Rattle.pk_meta.specs.PageChecks.{IsMetaPage}
-use Rattle.pk_meta.proofs.PageLemmas.{meta_again}
+use Rattle.std.{proofs.lemmas.List.length-take, proofs.lemmas.List.length-drop, proofs.Math.Nat.mod-lt, proofs.Math.Nat.div-le_of_le-mul}
+use Rattle.pk_base.{specs.Key.Key, specs.Key.key_cmp, specs.Shape.Shape, specs.Shape.IsShape, specs.Shape.page_entries, specs.Entry.Entry, specs.Entry.key_of, specs.Fields.number_at}
+use Rattle.pk_base.{specs.Page.Flash, specs.Page.page_at, specs.Page.whole, proofs.KeyLemmas.turned, proofs.ShapeLemmas.ceil_most, proofs.ShapeLemmas.entries_some}
+use Rattle.pk_meta.{specs.PageChecks.IsMetaPage, proofs.PageLemmas.meta_again}
 use Rattle.pk_nand.specs.BoardState.{BoardState}
 use Rattle.pk_pin.specs.Frames.{Frames}
-use Rattle.pk_run.specs.Kept.{Kept, IsKept, RunOnFlash, page_of, after_look}
-use Rattle.pk_run.specs.Search.{IsPageFor}
+use Rattle.pk_run.{specs.Kept.Kept, specs.Kept.IsKept, specs.Kept.RunOnFlash, specs.Kept.page_of, specs.Kept.after_look, specs.Search.IsPageFor}
 use Rattle.pk_run.proofs.Lookups.{first_is, page_starts, holds_piece}
-use Rattle.pk_walk.specs.declared.position.Position.{Position}
-use Rattle.pk_walk.specs.declared.position.Position.TheVariants.{Above}
-use Rattle.pk_walk.specs.Visible.{is_wanted, wanted, WantsFrom}
-use Rattle.pk_walk.specs.Heads.{Head, IsNextWanted, head_after, held}
+use Rattle.pk_walk.{specs.declared.position.Position.Position, specs.declared.position.Position.TheVariants.Above, specs.Visible.is_wanted, specs.Visible.wanted, specs.Visible.WantsFrom}
+use Rattle.pk_walk.{specs.Heads.Head, specs.Heads.IsNextWanted, specs.Heads.head_after, specs.Heads.held, specs.Steps.MayLoad, specs.Steps.StaysAt, specs.Steps.bytes_in, specs.Steps.seen_bytes}
 use Rattle.pk_walk.specs.Walking.{Cursor, Follows, HasPassed, Reads, ReadsAll, at_start, read_of}
-use Rattle.pk_walk.specs.Steps.{MayLoad, StaysAt, bytes_in, seen_bytes}
-use Rattle.pk_model.proofs.MapLemmas.{key_antisymm}
 use Rattle.pk_walk.proofs.Wanting.{begun_at, narrowed, narrowed_behind, above_is_narrower}
-use Rattle.pk_base.proofs.KeyLemmas.{turned}
-use Rattle.pk_base.proofs.ShapeLemmas.{ceil_most, entries_some}
+use Rattle.pk_model.proofs.MapLemmas.{key_antisymm}
 
 -- ---- numbers
 

@@ -1,31 +1,19 @@
 -- A cursor that knows the first wanted entry of its run, and is after it.
 use Rattle.std.proofs.Common.{◌≡◌, ℕ, zero, suc, ◌*◌, ◌/◌, ◌%◌, ◌<◌, ◌≤◌, refl, sym, ap, subst, ◌∙◌, arith, Bool, true, false, if◌then◌else◌, T, is_some, List, [], ◌∷◌, drop, slice_get, option_map}
 use Rattle.std.proofs.Common.{Option, Some, None, div-lt_iff_lt-mul}
-use Rattle.std.specs.Option.{IsSome}
-use Rattle.std.proofs.lemmas.Nat.{div-add-mod', le-div}
-use Rattle.std.specs.FinMap.Entries.{is_sorted}
-use Rattle.std.specs.declared.cmp.Ordering.TheVariants.{Less}
-use Rattle.pk_base.specs.Key.{key_cmp}
-use Rattle.pk_base.specs.Shape.{Shape, IsShape, page_entries}
-use Rattle.pk_base.specs.Entry.{Entry}
-use Rattle.pk_base.specs.Seen.{entry as seen}
-use Rattle.pk_base.specs.declared.entry.Entry.{Entry as RustEntry}
-use Rattle.pk_base.specs.Page.{Flash, page_at}
+use Rattle.std.{specs.Option.IsSome, proofs.lemmas.Nat.div-add-mod', proofs.lemmas.Nat.le-div, specs.FinMap.Entries.is_sorted, specs.declared.cmp.Ordering.TheVariants.Less}
+use Rattle.pk_base.{specs.Key.key_cmp, specs.Shape.Shape, specs.Shape.IsShape, specs.Shape.page_entries, specs.Entry.Entry, specs.Seen.entry as seen, specs.declared.entry.Entry.Entry as RustEntry}
+use Rattle.pk_base.{specs.Page.Flash, specs.Page.page_at, proofs.Logic.is_true, proofs.Logic.left_part, proofs.Logic.right_part, proofs.ShapeLemmas.entries_some}
 use Rattle.pk_meta.specs.PageChecks.{IsMetaPage}
 use Rattle.pk_nand.specs.BoardState.{BoardState}
 use Rattle.pk_pin.specs.Frames.{Frames}
 use Rattle.pk_run.specs.Kept.{Kept, IsKept, RunOnFlash, page_of}
-use Rattle.pk_walk.specs.declared.position.Position.{Position}
-use Rattle.pk_walk.specs.Visible.{is_wanted, wanted, first_of}
-use Rattle.pk_walk.specs.Heads.{Head, IsNextWanted}
-use Rattle.pk_walk.specs.Walking.{Cursor, Follows, read_of}
+use Rattle.pk_walk.{specs.declared.position.Position.Position, specs.Visible.is_wanted, specs.Visible.wanted, specs.Visible.first_of, specs.Heads.Head, specs.Heads.IsNextWanted}
+use Rattle.pk_walk.{specs.Walking.Cursor, specs.Walking.Follows, specs.Walking.read_of, proofs.Moving.AtPage, proofs.Moving.entry_here}
 use Rattle.pk_walk.specs.Steps.{FindsIn, GoesOn, IsAt, ShowsIn, bytes_in, holding}
 use Rattle.pk_walk.proofs.Wanting.{above_at, dropped, first_here, first_wanted, same_entry}
 use Rattle.pk_walk.proofs.Following.{all_come, page_exists, page_holds_place, page_seen, sought_left}
-use Rattle.pk_walk.proofs.Moving.{AtPage, entry_here}
 use Rattle.pk_walk.proofs.Seeking.{Reads-none, ReadsAll-none, no_answer, one_list, same_answer}
-use Rattle.pk_base.proofs.Logic.{is_true, left_part, right_part}
-use Rattle.pk_base.proofs.ShapeLemmas.{entries_some}
 
 not_none : (e : Entry) → ◌≡◌ {A = Head} (Some (Some e)) (Some None) → ⊥
 not_none e is = cc

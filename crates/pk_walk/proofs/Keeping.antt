@@ -1,26 +1,16 @@
 -- The orders that are kept from one key to the next hold as long as their entries are unchanged.
 use Rattle.std.proofs.Common.{◌≡◌, refl, sym, ap, subst, ◌∙◌, arith, List, [], ◌∷◌, ◌++◌, length, Option, Some, None}
-use Rattle.std.specs.Prelude.{⊤, IfSome}
-use Rattle.std.specs.List.{AllByRecursion}
-use Rattle.std.specs.declared.cmp.Ordering.{Ordering}
-use Rattle.pk_base.specs.Entry.{Entry}
-use Rattle.pk_base.specs.Page.{Flash}
-use Rattle.pk_base.specs.Shape.{Shape}
+use Rattle.std.{specs.Prelude.⊤, specs.Prelude.IfSome, specs.List.AllByRecursion, specs.declared.cmp.Ordering.Ordering}
+use Rattle.pk_base.{specs.Entry.Entry, specs.Page.Flash, specs.Shape.Shape}
 use Rattle.pk_nand.specs.BoardState.{BoardState}
 use Rattle.pk_pin.specs.Frames.{Frames}
 use Rattle.pk_run.specs.Kept.{Kept}
 use Rattle.pk_level.specs.Levels.{RunsOnFlash}
-use Rattle.pk_walk.specs.declared.head.Head.{Head as RustHead}
-use Rattle.pk_walk.specs.declared.orders.Orders.{Orders as RustOrders}
-use Rattle.pk_walk.specs.declared.orders.KeptOrders.{KeptOrders as RustKeptOrders}
-use Rattle.pk_walk.specs.declared.position.Position.{Position}
-use Rattle.pk_walk.specs.Visible.{is_wanted, lesser}
-use Rattle.pk_walk.specs.Heads.{Head, entry_in, known_as, least_of, order_of, seen_head}
-use Rattle.pk_walk.specs.Walking.{Cursor, Tops, Walk, FollowEach}
+use Rattle.pk_walk.{specs.declared.head.Head.Head as RustHead, specs.declared.orders.Orders.Orders as RustOrders, specs.declared.orders.KeptOrders.KeptOrders as RustKeptOrders, proofs.Taking.own}
+use Rattle.pk_walk.{specs.declared.position.Position.Position, specs.Visible.is_wanted, specs.Visible.lesser, specs.Walking.Cursor, specs.Walking.Tops, specs.Walking.Walk, specs.Walking.FollowEach}
+use Rattle.pk_walk.{specs.Heads.Head, specs.Heads.entry_in, specs.Heads.known_as, specs.Heads.least_of, specs.Heads.order_of, specs.Heads.seen_head, proofs.Walks.Learned, proofs.Walks.known_head}
 use Rattle.pk_walk.specs.Steps.{AreOrders, IsKnown, heads_in, heads_of}
 use Rattle.pk_walk.specs.Orders.{AreKept, EachKept, IsOrder, IsSettled, MayKeep, as_list, no_orders}
-use Rattle.pk_walk.proofs.Taking.{own}
-use Rattle.pk_walk.proofs.Walks.{Learned, known_head}
 
 -- ---- nothing is kept
 

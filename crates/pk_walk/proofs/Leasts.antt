@@ -1,16 +1,10 @@
 -- The least of several first wanted entries: by how each compares with the least of those before it, and which of them go with it.
 use Rattle.std.proofs.Common.{◌≡◌, refl, sym, ap, subst, ◌∙◌, Bool, true, false, if◌then◌else◌, List, [], ◌∷◌, ◌++◌, Option, Some, None}
-use Rattle.std.specs.Prelude.{⊤}
-use Rattle.std.specs.Ordering.{is_gt, is_eq}
-use Rattle.std.proofs.lemmas.Cmp.{tied_itself}
-use Rattle.std.specs.declared.cmp.Ordering.{Ordering}
+use Rattle.std.{specs.Prelude.⊤, specs.Ordering.is_gt, specs.Ordering.is_eq, proofs.lemmas.Cmp.tied_itself, specs.declared.cmp.Ordering.Ordering}
 use Rattle.std.specs.declared.cmp.Ordering.TheVariants.{Less, Equal, Greater}
-use Rattle.pk_base.specs.Key.{Key, key_cmp}
-use Rattle.pk_base.specs.Entry.{Entry}
+use Rattle.pk_base.{specs.Key.Key, specs.Key.key_cmp, specs.Entry.Entry, proofs.KeyLemmas.turned}
 use Rattle.pk_model.proofs.MapLemmas.{key_total, key_antisymm}
-use Rattle.pk_walk.specs.Visible.{lesser}
-use Rattle.pk_walk.specs.Heads.{Head, head_after, entry_in, least_of, let_go, order_of}
-use Rattle.pk_base.proofs.KeyLemmas.{turned}
+use Rattle.pk_walk.{specs.Visible.lesser, specs.Heads.Head, specs.Heads.head_after, specs.Heads.entry_in, specs.Heads.least_of, specs.Heads.let_go, specs.Heads.order_of}
 
 -- ---- the lesser of two
 

@@ -1,20 +1,12 @@
 -- The first wanted entry of several sorted lists is the least of the first wanted entries of each.
 use Rattle.std.proofs.Common.{◌≡◌, refl, sym, ap, subst, ◌∙◌, Bool, true, false, cond, T, if◌then◌else◌, List, [], ◌∷◌, ◌++◌, Option, Some, None}
-use Rattle.std.specs.Prelude.{⊤}
-use Rattle.std.specs.List.{flat_map}
-use Rattle.std.specs.declared.cmp.Ordering.{Ordering}
-use Rattle.std.specs.declared.cmp.Ordering.TheVariants.{Less, Equal, Greater}
-use Rattle.std.specs.Ordering.{is_lt, is_gt, is_eq, eq_by_cmp}
+use Rattle.std.{specs.Prelude.⊤, specs.List.flat_map, specs.declared.cmp.Ordering.Ordering, specs.Ordering.is_lt, specs.Ordering.is_gt, specs.Ordering.is_eq, specs.Ordering.eq_by_cmp}
+use Rattle.std.{specs.declared.cmp.Ordering.TheVariants.Less, specs.declared.cmp.Ordering.TheVariants.Equal, specs.declared.cmp.Ordering.TheVariants.Greater, proofs.lemmas.Cmp.tied_itself}
 use Rattle.std.specs.FinMap.Entries.{find, is_sorted, below_all}
-use Rattle.std.proofs.lemmas.Cmp.{tied_itself}
-use Rattle.pk_base.specs.Key.{Key, key_cmp}
-use Rattle.pk_base.specs.Entry.{Entry, Place}
-use Rattle.pk_base.specs.Firsts.{firsts}
-use Rattle.pk_model.proofs.MapLemmas.{key_total, key_antisymm, missing, below_less}
-use Rattle.pk_model.proofs.Lookups.{find-firsts}
-use Rattle.pk_walk.specs.Visible.{wanted, first_of, lesser, least_first}
+use Rattle.pk_base.{specs.Key.Key, specs.Key.key_cmp, specs.Entry.Entry, specs.Entry.Place, specs.Firsts.firsts, proofs.KeyLemmas.turned, proofs.KeyLemmas.firsts_sorted}
 use Rattle.pk_base.proofs.Logic.{of_true, left_part, right_part, both}
-use Rattle.pk_base.proofs.KeyLemmas.{turned, firsts_sorted}
+use Rattle.pk_model.{proofs.MapLemmas.key_total, proofs.MapLemmas.key_antisymm, proofs.MapLemmas.missing, proofs.MapLemmas.below_less, proofs.Lookups.find-firsts}
+use Rattle.pk_walk.specs.Visible.{wanted, first_of, lesser, least_first}
 
 -- ---- the order of keys
 

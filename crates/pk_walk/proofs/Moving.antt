@@ -1,30 +1,16 @@
 -- A cursor that has the page of its place: what the page says of the run, and where the cursor goes in it.
 use Rattle.std.proofs.Common.{◌≡◌, ℕ, zero, suc, ◌+◌, ◌-◌, ◌*◌, ◌/◌, ◌%◌, ◌<◌, ◌≤◌, min, refl, sym, ap, subst, ◌∙◌, arith, Bool, true, false, List, [], ◌∷◌, length, take, drop, ◌++◌, slice_get}
 use Rattle.std.proofs.Common.{Option, Some, None, div-lt_iff_lt-mul}
-use Rattle.std.specs.Prelude.{nat_lt}
-use Rattle.std.proofs.lemmas.Nat.{div-add-mod', le-div}
-use Rattle.std.proofs.lemmas.Bool.{ltb-true, ltb-false}
+use Rattle.std.{specs.Prelude.nat_lt, proofs.lemmas.Nat.div-add-mod', proofs.lemmas.Nat.le-div, proofs.lemmas.Bool.ltb-true, proofs.lemmas.Bool.ltb-false}
 use Rattle.std.proofs.lemmas.List.{length-take, length-drop}
-use Rattle.pk_base.specs.Key.{Key}
-use Rattle.pk_base.specs.Shape.{Shape, IsShape, page_entries}
-use Rattle.pk_base.specs.Entry.{Entry, key_of}
-use Rattle.pk_base.specs.EntryBytes.{entry_at, cell_at}
-use Rattle.pk_base.specs.Fields.{number_at}
-use Rattle.pk_base.specs.Page.{Flash, IsFlash, page_at, whole}
-use Rattle.pk_base.proofs.EntryLemmas.{key_of_at}
-use Rattle.pk_meta.specs.PageChecks.{Decodes, IsMetaPage}
-use Rattle.pk_meta.proofs.PageLemmas.{meta_again}
-use Rattle.pk_meta.proofs.FindLemmas.{cell_entry, place_key}
+use Rattle.pk_base.{specs.Key.Key, specs.Shape.Shape, specs.Shape.IsShape, specs.Shape.page_entries, specs.Entry.Entry, specs.Entry.key_of, specs.EntryBytes.entry_at, specs.EntryBytes.cell_at}
+use Rattle.pk_base.{specs.Fields.number_at, specs.Page.Flash, specs.Page.IsFlash, specs.Page.page_at, specs.Page.whole, proofs.EntryLemmas.key_of_at, proofs.ShapeLemmas.entries_some}
+use Rattle.pk_meta.{specs.PageChecks.Decodes, specs.PageChecks.IsMetaPage, proofs.PageLemmas.meta_again, proofs.FindLemmas.cell_entry, proofs.FindLemmas.place_key}
 use Rattle.pk_pin.specs.Frames.{Frames}
 use Rattle.pk_run.specs.Kept.{Kept, IsKept, RunOnFlash, page_of}
-use Rattle.pk_walk.specs.declared.position.Position.{Position}
-use Rattle.pk_walk.specs.Visible.{is_wanted, wanted}
-use Rattle.pk_walk.specs.Heads.{Head, IsNextWanted, held}
-use Rattle.pk_walk.specs.Walking.{Cursor, Follows}
-use Rattle.pk_walk.specs.Steps.{HasPage, IsFirstWanted, CursorMoves, bytes_in}
-use Rattle.pk_walk.proofs.Wanting.{passed_by}
+use Rattle.pk_walk.{specs.declared.position.Position.Position, specs.Visible.is_wanted, specs.Visible.wanted, specs.Heads.Head, specs.Heads.IsNextWanted, specs.Heads.held, proofs.Wanting.passed_by}
+use Rattle.pk_walk.{specs.Walking.Cursor, specs.Walking.Follows, specs.Steps.HasPage, specs.Steps.IsFirstWanted, specs.Steps.CursorMoves, specs.Steps.bytes_in}
 use Rattle.pk_walk.proofs.Following.{entry_within, get_taken, get_dropped, holds, not_ended, sought_left}
-use Rattle.pk_base.proofs.ShapeLemmas.{entries_some}
 
 -- ---- entries that are passed
 

@@ -1,19 +1,11 @@
 -- The wanted entries of a page: they are after those that are not, and a search among them.
 use Rattle.std.proofs.Common.{◌≡◌, ℕ, ◌+◌, ◌<◌, ◌≤◌, subst, arith, Bool, true, false, T, List, refl}
-use Rattle.std.specs.declared.cmp.Ordering.{Ordering}
-use Rattle.std.specs.declared.cmp.Ordering.TheVariants.{Less, Equal, Greater}
+use Rattle.std.{specs.declared.cmp.Ordering.Ordering, specs.declared.cmp.Ordering.TheVariants.Less, specs.declared.cmp.Ordering.TheVariants.Equal, specs.declared.cmp.Ordering.TheVariants.Greater}
 use Rattle.std.proofs.lemmas.Cmp.{tied_itself}
-use Rattle.pk_base.specs.Key.{key_cmp}
-use Rattle.pk_base.specs.Fields.{number_at}
-use Rattle.pk_base.specs.Shape.{Shape, IsShape}
-use Rattle.pk_meta.specs.PageChecks.{Decodes}
-use Rattle.pk_meta.proofs.FindLemmas.{all_of, place_key, to_left}
+use Rattle.pk_base.{specs.Key.key_cmp, specs.Fields.number_at, specs.Shape.Shape, specs.Shape.IsShape, proofs.Logic.of_true}
+use Rattle.pk_meta.{specs.PageChecks.Decodes, proofs.FindLemmas.all_of, proofs.FindLemmas.place_key, proofs.FindLemmas.to_left}
 use Rattle.pk_model.proofs.MapLemmas.{key_total, key_antisymm}
-use Rattle.pk_walk.specs.declared.position.Position.{Position}
-use Rattle.pk_walk.specs.Visible.{is_wanted}
-use Rattle.pk_walk.specs.Steps.{IsFirstWanted}
-use Rattle.pk_walk.proofs.Wanting.{upward}
-use Rattle.pk_base.proofs.Logic.{of_true}
+use Rattle.pk_walk.{specs.declared.position.Position.Position, specs.Visible.is_wanted, specs.Steps.IsFirstWanted, proofs.Wanting.upward}
 
 greater_equal : (o : Ordering) → o ≡ Greater → o ≡ Equal → ⊥
 greater_equal o p q = cc

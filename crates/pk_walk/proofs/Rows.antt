@@ -1,20 +1,13 @@
 -- A search through the runs, one after another, with a cursor in each.
 use Rattle.std.proofs.Common.{◌≡◌, ℕ, zero, suc, ◌+◌, ◌-◌, ◌<◌, refl, sym, ap, subst, ◌∙◌, arith, List, [], ◌∷◌, length, slice_get, slice_set, slice_index_or, Option, Some}
 use Rattle.std.specs.List.{AllByRecursion}
-use Rattle.pk_base.specs.Shape.{Shape}
-use Rattle.pk_base.specs.Entry.{Entry}
-use Rattle.pk_base.specs.Page.{Flash}
-use Rattle.pk_nand.specs.BoardState.{BoardState}
-use Rattle.pk_nand.specs.Calls.{IsReady}
-use Rattle.pk_nand.specs.Operations.{ReadFailed}
-use Rattle.pk_nand.specs.Counts.{after_reads}
+use Rattle.pk_base.{specs.Shape.Shape, specs.Entry.Entry, specs.Page.Flash}
+use Rattle.pk_nand.{specs.BoardState.BoardState, specs.Calls.IsReady, specs.Operations.ReadFailed, specs.Counts.after_reads}
 use Rattle.pk_pin.specs.Frames.{Frames}
 use Rattle.pk_run.specs.Kept.{Kept, RunOnFlash, empty}
-use Rattle.pk_level.specs.Levels.{Levels, IsLevels, RunsOnFlash, run_of}
-use Rattle.pk_level.proofs.Looking.{stands_at, of_level_at, reads_more}
-use Rattle.pk_walk.specs.declared.position.Position.{Position}
+use Rattle.pk_level.{specs.Levels.Levels, specs.Levels.IsLevels, specs.Levels.RunsOnFlash, specs.Levels.run_of, proofs.Looking.stands_at, proofs.Looking.of_level_at, proofs.Looking.reads_more}
+use Rattle.pk_walk.{specs.declared.position.Position.Position, specs.Steps.GoOn, specs.Steps.HasNone, specs.Steps.IsKnown, specs.Steps.ShowsEach}
 use Rattle.pk_walk.specs.Walking.{Cursor, AreOfShape, Follows, FollowEach, HasPassed, Reads, ReadsAll, ReadsFail, SkipsNoPage, read_of, pages_read, most_read}
-use Rattle.pk_walk.specs.Steps.{GoOn, HasNone, IsKnown, ShowsEach}
 use Rattle.pk_walk.proofs.Seeking.{Reads-none, Reads-more, Reads-pages, ReadsAll-none, ReadsAll-more, one_list}
 
 same_run : (x y : Kept) → ◌≡◌ {A = Option Kept} (Some x) (Some y) → x ≡ y

@@ -1,25 +1,17 @@
 -- A search in a run for the first wanted entry: what holds at each step of it, and what it finds.
 use Rattle.std.proofs.Common.{◌≡◌, ℕ, suc, ◌+◌, ◌/◌, ◌%◌, ◌<◌, ◌≤◌, refl, sym, ap, subst, ◌∙◌, arith, Bool, true, List, drop, length, slice_get, Some, None}
-use Rattle.pk_base.specs.Shape.{IsShape, page_entries}
-use Rattle.pk_base.specs.Entry.{Entry}
-use Rattle.pk_base.specs.Seen.{entry as seen}
-use Rattle.pk_base.specs.declared.entry.Entry.{Entry as RustEntry}
+use Rattle.pk_base.{specs.Shape.IsShape, specs.Shape.page_entries, specs.Entry.Entry, specs.Seen.entry as seen, specs.declared.entry.Entry.Entry as RustEntry, proofs.Logic.ok_same}
 use Rattle.pk_base.specs.Page.{Flash, page_at, whole}
 use Rattle.pk_meta.specs.PageChecks.{IsMetaPage}
-use Rattle.pk_nand.specs.BoardState.{BoardState}
-use Rattle.pk_nand.specs.Operations.{ReadFailed}
-use Rattle.pk_nand.specs.Counts.{after_reads}
+use Rattle.pk_nand.{specs.BoardState.BoardState, specs.Operations.ReadFailed, specs.Counts.after_reads}
 use Rattle.pk_pin.specs.Frames.{Frames}
 use Rattle.pk_run.specs.Kept.{Kept, IsKept, RunOnFlash, page_of}
 use Rattle.pk_level.proofs.Looking.{reads_more}
-use Rattle.pk_walk.specs.declared.position.Position.{Position}
-use Rattle.pk_walk.specs.Visible.{is_wanted, wanted, first_of}
+use Rattle.pk_walk.{specs.declared.position.Position.Position, specs.Visible.is_wanted, specs.Visible.wanted, specs.Visible.first_of, proofs.Wanting.first_here, proofs.Wanting.none_here}
 use Rattle.pk_walk.specs.Walking.{Cursor, Follows, HasPassed, Reads, ReadsAll, ReadsFail, SkipsNoPage, read_of}
 use Rattle.pk_walk.specs.Steps.{FailsToShow, FindsIn, GoesOn, IsAt, CursorLooks, CursorMoves, StaysAt, bytes_in}
-use Rattle.pk_walk.proofs.Wanting.{first_here, none_here}
 use Rattle.pk_walk.proofs.Following.{HasPassed-kept, all_come, sought_left}
 use Rattle.pk_walk.proofs.Moving.{AtPage, entry_here, found_at, found_wanted, moved_follows, moved_left, moved_sought, moved_within}
-use Rattle.pk_base.proofs.Logic.{ok_same}
 
 -- ---- reads
 

@@ -1,14 +1,9 @@
 -- The least entry of a walk's sources is taken: how they compare, and what remains of them.
 use Rattle.std.proofs.Common.{◌≡◌, refl, sym, ap, subst, ◌∙◌, Bool, true, false, if◌then◌else◌, List, [], ◌∷◌, ◌++◌, Option, Some, None}
-use Rattle.std.specs.Ordering.{is_gt, is_eq}
-use Rattle.std.specs.declared.cmp.Ordering.{Ordering}
+use Rattle.std.{specs.Ordering.is_gt, specs.Ordering.is_eq, specs.declared.cmp.Ordering.Ordering}
 use Rattle.pk_base.specs.Entry.{Entry}
-use Rattle.pk_walk.specs.declared.head.Head.{Head as RustHead}
-use Rattle.pk_walk.specs.declared.orders.Orders.{Orders as RustOrders}
-use Rattle.pk_walk.specs.Visible.{lesser}
-use Rattle.pk_walk.specs.Heads.{Head, entry_in, least_of, let_go, order_of, seen_head}
-use Rattle.pk_walk.specs.Walking.{Cursor, Tops}
-use Rattle.pk_walk.specs.Steps.{AreOrders, GoBehind}
+use Rattle.pk_walk.{specs.declared.head.Head.Head as RustHead, specs.declared.orders.Orders.Orders as RustOrders, specs.Visible.lesser, specs.Walking.Cursor, specs.Walking.Tops}
+use Rattle.pk_walk.{specs.Heads.Head, specs.Heads.entry_in, specs.Heads.least_of, specs.Heads.let_go, specs.Heads.order_of, specs.Heads.seen_head, specs.Steps.AreOrders, specs.Steps.GoBehind}
 use Rattle.pk_walk.proofs.Leasts.{GoEach, Takes, least_more, lesser_is, lesser_none, take_before, take_first, take_last}
 
 -- ---- how they compare

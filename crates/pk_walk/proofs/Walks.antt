@@ -1,42 +1,26 @@
 -- A walk over all lists: what a step leaves, and what remains after several.
 use Rattle.std.proofs.Common.{◌≡◌, ℕ, suc, ◌+◌, ◌<◌, ◌≤◌, refl, sym, ap, subst, ◌∙◌, arith, Bool, true, false, if◌then◌else◌, T, is_some, option_map, List, [], ◌∷◌, ◌++◌, length, drop, Option, Some}
 use Rattle.std.proofs.Common.{None, Result, Ok, Err}
-use Rattle.std.specs.List.{AllByRecursion, flat_map}
-use Rattle.std.specs.Ordering.{is_eq, is_gt}
+use Rattle.std.{specs.List.AllByRecursion, specs.List.flat_map, specs.Ordering.is_eq, specs.Ordering.is_gt, specs.FinMap.Entries.is_sorted}
 use Rattle.std.specs.declared.cmp.Ordering.TheVariants.{Less, Equal, Greater}
-use Rattle.std.specs.FinMap.Entries.{is_sorted}
-use Rattle.pk_base.specs.Key.{Key, key_cmp}
-use Rattle.pk_base.specs.Shape.{Shape}
-use Rattle.pk_base.specs.Entry.{Entry, Place, key_of}
-use Rattle.pk_base.specs.Seen.{entry as seen}
-use Rattle.pk_base.specs.declared.entry.Entry.{Entry as RustEntry}
-use Rattle.pk_base.specs.Firsts.{firsts}
-use Rattle.pk_base.specs.Refusal.{Refusal}
-use Rattle.pk_base.specs.Page.{Flash, page_at}
+use Rattle.pk_base.{specs.Key.Key, specs.Key.key_cmp, specs.Shape.Shape, specs.Entry.Entry, specs.Entry.Place, specs.Entry.key_of, specs.Seen.entry as seen, specs.Firsts.firsts, specs.Refusal.Refusal}
+use Rattle.pk_base.{specs.declared.entry.Entry.Entry as RustEntry, specs.Page.Flash, specs.Page.page_at, proofs.KeyLemmas.firsts_sorted, specs.declared.sizes.TheConstants.MOST_SPACES}
 use Rattle.pk_meta.specs.Run.{run}
-use Rattle.pk_nand.specs.BoardState.{BoardState}
-use Rattle.pk_nand.specs.Calls.{IsReady}
-use Rattle.pk_nand.specs.Operations.{ReadFailed}
-use Rattle.pk_nand.specs.Counts.{after_reads}
+use Rattle.pk_nand.{specs.BoardState.BoardState, specs.Calls.IsReady, specs.Operations.ReadFailed, specs.Counts.after_reads}
 use Rattle.pk_pin.specs.Frames.{Frames}
 use Rattle.pk_run.specs.Kept.{Kept}
-use Rattle.pk_level.specs.Levels.{RunsOnFlash}
-use Rattle.pk_level.proofs.Looking.{reads_more}
+use Rattle.pk_level.{specs.Levels.RunsOnFlash, proofs.Looking.reads_more}
 use Rattle.pk_model.specs.Values.{placed}
-use Rattle.pk_walk.specs.declared.position.Position.{Position}
-use Rattle.pk_walk.specs.declared.position.Position.TheVariants.{First, Above}
+use Rattle.pk_walk.{specs.declared.position.Position.Position, specs.declared.position.Position.TheVariants.First, specs.declared.position.Position.TheVariants.Above}
 use Rattle.pk_walk.specs.Visible.{visible, behind_found, is_wanted, wanted, first_of, lesser, least_first}
 use Rattle.pk_walk.specs.Heads.{Head, Shows, head_after, entry_in, held, known_as, least_of, order_of}
 use Rattle.pk_walk.specs.Walking.{Cursor, Tops, Walk, IsWalk, AreOfShape, FollowEach, ShowBoth, cursors_behind, none_known, tops_behind, HasPassed, IsLeft, WalkGives, Passes, Reads, ReadsAll}
 use Rattle.pk_walk.specs.Walking.{ReadsFail, SkipsNoPage, SkipsNone, all_left, all_at_start, read_of, pages_read, most_read}
 use Rattle.pk_walk.specs.Steps.{AreKnown, Comes, GoBehind, GoOn, HasNone, IsKnown, ShowsEach, WalksOn, first_left, heads_in, heads_of}
-use Rattle.pk_walk.proofs.Merging.{EachSorted, first_of_lists}
+use Rattle.pk_walk.{proofs.Merging.EachSorted, proofs.Merging.first_of_lists, proofs.Leasts.NotBelow, proofs.Leasts.NoneBelow, proofs.Leasts.none_below}
 use Rattle.pk_walk.proofs.Wanting.{above_is_narrower, behind_first, first_wanted, narrowed, none_here, none_wanted, placed_wanted}
-use Rattle.pk_walk.proofs.Leasts.{NotBelow, NoneBelow, none_below}
 use Rattle.pk_walk.proofs.Following.{Follows-above, Follows-start}
 use Rattle.pk_walk.proofs.Seeking.{Reads-none, Reads-more, Reads-pages, ReadsAll-none, ReadsAll-more, no_answer, one_list}
-use Rattle.pk_base.proofs.KeyLemmas.{firsts_sorted}
-use Rattle.pk_base.specs.declared.sizes.TheConstants.{MOST_SPACES}
 
 -- ---- lists of runs that match the flash
 

@@ -1,21 +1,14 @@
 -- What a sorted list has of the wanted keys: its first, what is after it, and where it begins.
 use Rattle.std.proofs.Common.{◌≡◌, ℕ, zero, suc, ◌+◌, ◌≤◌, refl, sym, ap, subst, ◌∙◌, arith, Bool, true, false, cond, not, T, if◌then◌else◌, List, [], ◌∷◌, length, drop, slice_get, option_map, Option}
 use Rattle.std.proofs.Common.{Some, None}
-use Rattle.std.specs.declared.cmp.Ordering.{Ordering}
-use Rattle.std.specs.declared.cmp.Ordering.TheVariants.{Less, Equal, Greater}
-use Rattle.std.specs.Ordering.{is_lt, is_gt, is_eq}
-use Rattle.std.specs.FinMap.Entries.{is_sorted, below_all}
-use Rattle.std.proofs.lemmas.Cmp.{tied_itself}
-use Rattle.pk_base.specs.Key.{Key, key_cmp}
-use Rattle.pk_base.specs.Entry.{Entry, Place, key_of}
-use Rattle.pk_buf.specs.Table.{place_of}
-use Rattle.pk_model.specs.Values.{placed}
-use Rattle.pk_model.proofs.MapLemmas.{key_total, key_antisymm}
-use Rattle.pk_walk.specs.declared.position.Position.{Position}
-use Rattle.pk_walk.specs.declared.position.Position.TheVariants.{First, From, Above}
-use Rattle.pk_walk.specs.Visible.{is_wanted, wanted, first_of, WantsFrom}
+use Rattle.std.{specs.declared.cmp.Ordering.Ordering, specs.declared.cmp.Ordering.TheVariants.Less, specs.declared.cmp.Ordering.TheVariants.Equal, specs.declared.cmp.Ordering.TheVariants.Greater}
+use Rattle.std.{specs.Ordering.is_lt, specs.Ordering.is_gt, specs.Ordering.is_eq, specs.FinMap.Entries.is_sorted, specs.FinMap.Entries.below_all, proofs.lemmas.Cmp.tied_itself}
+use Rattle.pk_base.{specs.Key.Key, specs.Key.key_cmp, specs.Entry.Entry, specs.Entry.Place, specs.Entry.key_of, proofs.KeyLemmas.turned}
 use Rattle.pk_base.proofs.Logic.{of_true, is_true, left_part, right_part, less, equal}
-use Rattle.pk_base.proofs.KeyLemmas.{turned}
+use Rattle.pk_buf.specs.Table.{place_of}
+use Rattle.pk_model.{specs.Values.placed, proofs.MapLemmas.key_total, proofs.MapLemmas.key_antisymm}
+use Rattle.pk_walk.{specs.declared.position.Position.Position, specs.Visible.is_wanted, specs.Visible.wanted, specs.Visible.first_of, specs.Visible.WantsFrom}
+use Rattle.pk_walk.specs.declared.position.Position.TheVariants.{First, From, Above}
 
 pub same_entry : (x e : Entry) → ◌≡◌ {A = Option Entry} (Some x) (Some e) → x ≡ e
 same_entry x e p = cc

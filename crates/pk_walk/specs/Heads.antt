@@ -1,15 +1,9 @@
 -- The first entry of a list that a walk still wants, as far as it was looked for.
 use Rattle.std.specs.Prelude.{◌≡◌, ⊤, T, if◌then◌else◌, List, [], ◌∷◌, Option, Some, None}
-use Rattle.std.specs.Ordering.{is_eq}
-use Rattle.std.specs.declared.cmp.Ordering.{Ordering}
-use Rattle.std.specs.declared.cmp.Ordering.TheVariants.{Less, Greater}
-use Rattle.pk_base.specs.Key.{Key, key_cmp}
-use Rattle.pk_base.specs.Entry.{Entry}
-use Rattle.pk_base.specs.Seen.{entry}
-use Rattle.pk_walk.specs.declared.head.Head.{Head as RustHead}
-use Rattle.pk_walk.specs.declared.head.Head.TheVariants.{Sought, Ended, Stands}
-use Rattle.pk_walk.specs.declared.position.Position.{Position}
-use Rattle.pk_walk.specs.Visible.{is_wanted, wanted, first_of, lesser}
+use Rattle.std.{specs.Ordering.is_eq, specs.declared.cmp.Ordering.Ordering, specs.declared.cmp.Ordering.TheVariants.Less, specs.declared.cmp.Ordering.TheVariants.Greater}
+use Rattle.pk_base.{specs.Key.Key, specs.Key.key_cmp, specs.Entry.Entry, specs.Seen.entry}
+use Rattle.pk_walk.{specs.declared.head.Head.Head as RustHead, specs.declared.head.Head.TheVariants.Sought, specs.declared.head.Head.TheVariants.Ended, specs.declared.head.Head.TheVariants.Stands}
+use Rattle.pk_walk.{specs.declared.position.Position.Position, specs.Visible.is_wanted, specs.Visible.wanted, specs.Visible.first_of, specs.Visible.lesser}
 
 -- nothing is known of it; there is none; or it is this one
 abbrev pub Head : Type 0

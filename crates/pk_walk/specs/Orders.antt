@@ -1,12 +1,8 @@
 -- How the first wanted entries of a walk's sources compare with each other, and what of it is kept from one key to the next.
 use Rattle.std.specs.Prelude.{◌≡◌, ⊤, true, List, [], ◌∷◌, ◌++◌, is_some, Option, Some, None}
-use Rattle.std.specs.List.{AllByRecursion}
-use Rattle.std.specs.declared.cmp.Ordering.{Ordering}
-use Rattle.pk_walk.specs.declared.orders.Orders.{Orders as RustOrders}
-use Rattle.pk_walk.specs.declared.orders.KeptOrders.{KeptOrders as RustKeptOrders}
-use Rattle.pk_walk.specs.Heads.{Head, entry_in, least_of, order_of}
-use Rattle.pk_walk.specs.Walking.{Cursor, Tops}
-use Rattle.pk_walk.specs.Steps.{AreOrders, heads_of}
+use Rattle.std.{specs.List.AllByRecursion, specs.declared.cmp.Ordering.Ordering}
+use Rattle.pk_walk.{specs.declared.orders.Orders.Orders as RustOrders, specs.declared.orders.KeptOrders.KeptOrders as RustKeptOrders, specs.Walking.Cursor, specs.Walking.Tops}
+use Rattle.pk_walk.{specs.Heads.Head, specs.Heads.entry_in, specs.Heads.least_of, specs.Heads.order_of, specs.Steps.AreOrders, specs.Steps.heads_of}
 
 -- the entry was looked for
 abbrev pub IsSettled : Head → Type 0

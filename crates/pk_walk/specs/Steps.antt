@@ -1,28 +1,18 @@
 -- What a step of a walk does: what it finds, where it leaves the cursors, and what it reads. Pages of a run that has frames are read from no flash.
 use Rattle.std.specs.Prelude.{◌≡◌, ℕ, suc, ◌+◌, ◌-◌, ◌*◌, ◌/◌, ◌%◌, ◌<◌, ◌≤◌, Bool, true, false, nat_lt, List, [], ◌∷◌, length, is_some, option_map, slice_get, Option, Some, None}
 use Rattle.std.specs.List.{AllByRecursion}
-use Rattle.pk_base.specs.Shape.{Shape, page_entries}
-use Rattle.pk_base.specs.Entry.{Entry}
-use Rattle.pk_base.specs.declared.sizes.TheConstants.{HEAD_BYTES, ENTRY_BYTES}
-use Rattle.pk_base.specs.EntryBytes.{cell_at, cell_key}
-use Rattle.pk_base.specs.Fields.{number_at}
-use Rattle.pk_base.specs.Page.{Flash, page_at, whole}
-use Rattle.pk_base.specs.Seen.{entry as seen}
+use Rattle.pk_base.{specs.Shape.Shape, specs.Shape.page_entries, specs.Entry.Entry, specs.declared.sizes.TheConstants.HEAD_BYTES, specs.declared.sizes.TheConstants.ENTRY_BYTES, specs.Fields.number_at}
+use Rattle.pk_base.{specs.EntryBytes.cell_at, specs.EntryBytes.cell_key, specs.Page.Flash, specs.Page.page_at, specs.Page.whole, specs.Seen.entry as seen}
 use Rattle.pk_base.specs.declared.entry.Entry.{Entry as RustEntry}
-use Rattle.pk_nand.specs.BoardState.{BoardState}
-use Rattle.pk_nand.specs.Calls.{IsReady}
-use Rattle.pk_nand.specs.Operations.{ReadFailed}
-use Rattle.pk_nand.specs.declared.types.Fault.{Fault}
-use Rattle.pk_nand.specs.declared.types.Fault.TheVariants.{Reading}
+use Rattle.pk_nand.{specs.BoardState.BoardState, specs.Calls.IsReady, specs.Operations.ReadFailed, specs.declared.types.Fault.Fault, specs.declared.types.Fault.TheVariants.Reading}
 use Rattle.pk_meta.specs.PageChecks.{Decodes}
 use Rattle.pk_pin.specs.Frames.{Frames, IsLeased, frame_of}
 use Rattle.pk_run.specs.Kept.{Kept, RunOnFlash, page_of}
 use Rattle.pk_level.specs.Levels.{RunsOnFlash}
-use Rattle.pk_walk.specs.declared.position.Position.{Position}
-use Rattle.pk_walk.specs.declared.orders.Orders.{Orders as RustOrders}
-use Rattle.pk_walk.specs.Visible.{is_wanted, wanted, first_of}
+use Rattle.pk_walk.{specs.declared.position.Position.Position, specs.declared.orders.Orders.Orders as RustOrders, specs.Visible.is_wanted, specs.Visible.wanted, specs.Visible.first_of}
 use Rattle.pk_walk.specs.Heads.{Head, entry_in, known_as, least_of, order_of}
-use Rattle.pk_walk.specs.Walking.{Cursor, Tops, Walk, AreOfShape, Follows, FollowEach, HasPassed, Passes, Reads, ReadsAll, ReadsFail, ShowBoth, SkipsNoPage, SkipsNone, all_left, cursors_behind, pages_read, most_read, read_of, tops_behind}
+use Rattle.pk_walk.specs.Walking.{Cursor, Tops, Walk, AreOfShape, Follows, FollowEach, HasPassed, Passes, Reads, ReadsAll, ReadsFail, ShowBoth, SkipsNoPage, SkipsNone, all_left, cursors_behind}
+use Rattle.pk_walk.specs.Walking.{pages_read, most_read, read_of, tops_behind}
 
 -- ---- a page of a run
 

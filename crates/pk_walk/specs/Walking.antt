@@ -1,23 +1,14 @@
 -- A walk over two write buffers and four runs: what it keeps, and what remains of it.
 use Rattle.std.specs.Prelude.{◌≡◌, ⊤, ℕ, suc, ◌+◌, ◌-◌, ◌*◌, ◌/◌, ◌<◌, ◌≤◌, Bool, true, false, slice_get, List, [], ◌∷◌, ◌++◌, length, drop, Option, Some, None}
-use Rattle.pk_base.specs.Key.{Key}
-use Rattle.pk_base.specs.Shape.{Shape, page_entries}
-use Rattle.pk_base.specs.Entry.{Entry, Place, put_entry}
-use Rattle.pk_base.specs.Firsts.{firsts}
-use Rattle.pk_base.specs.Seen.{entry}
 use Rattle.std.specs.List.{AllByRecursion, flat_map}
-use Rattle.pk_base.specs.declared.entry.Entry.{Entry as RustEntry}
-use Rattle.pk_base.specs.Page.{Flash, page_at, whole}
-use Rattle.pk_nand.specs.BoardState.{BoardState}
-use Rattle.pk_nand.specs.Operations.{ReadFailed}
-use Rattle.pk_nand.specs.Counts.{after_reads}
+use Rattle.pk_base.{specs.Key.Key, specs.Shape.Shape, specs.Shape.page_entries, specs.Entry.Entry, specs.Entry.Place, specs.Entry.put_entry, specs.Firsts.firsts, specs.Seen.entry}
+use Rattle.pk_base.{specs.declared.entry.Entry.Entry as RustEntry, specs.Page.Flash, specs.Page.page_at, specs.Page.whole}
+use Rattle.pk_nand.{specs.BoardState.BoardState, specs.Operations.ReadFailed, specs.Counts.after_reads}
 use Rattle.pk_pin.specs.Frames.{Frames}
 use Rattle.pk_run.specs.Kept.{Kept, page_of}
 use Rattle.pk_level.specs.Levels.{RunsOnFlash}
-use Rattle.pk_walk.specs.Visible.{visible, is_wanted, wanted}
-use Rattle.pk_walk.specs.declared.buffers.Tops.{Tops as RustTops}
+use Rattle.pk_walk.{specs.Visible.visible, specs.Visible.is_wanted, specs.Visible.wanted, specs.declared.buffers.Tops.Tops as RustTops, specs.declared.position.Position.Position}
 use Rattle.pk_walk.specs.Heads.{Head, IsNextWanted, Shows, head_after, held, seen_head}
-use Rattle.pk_walk.specs.declared.position.Position.{Position}
 use Rattle.pk_walk.specs.declared.position.Position.TheVariants.{First, From, Above}
 
 -- A place among the entries of a run; how many pages of the run the walk has passed, and the bytes of the last of them if it was read; and

@@ -1,13 +1,10 @@
 -- The counters of a workload, one command after another.
 use Rattle.std.proofs.Common.{◌≡◌, ℕ, ◌+◌, ◌<◌, ◌≤◌, ◌==◌, max, if◌then◌else◌, List, [], ◌∷◌, ◌++◌, length, Bool, true, false, refl, sym, ◌∙◌, ap, arith}
-use Rattle.pk_nvme.specs.declared.request.Request.{Request}
-use Rattle.pk_nvme.specs.declared.opcode.TheConstants.{RETRIEVE}
+use Rattle.pk_nvme.{specs.declared.request.Request.Request, specs.declared.opcode.TheConstants.RETRIEVE}
 use Rattle.pk_nvme.specs.declared.status.TheConstants.{SUCCESSFUL_COMPLETION, KEY_DOES_NOT_EXIST, INVALID_VALUE_SIZE, CAPACITY_EXCEEDED, UNRECOVERED_ERROR}
 use Rattle.pk_call.specs.declared.types.Outcome.{Outcome}
 use Rattle.pk_model.specs.Run.{Exchange}
-use Rattle.pk_wordrun.specs.Summary.{answered, retrieve_reads, most_read}
-use Rattle.pk_wordrun.specs.Sums.{Sums, IsOf}
-use Rattle.pk_wordrun.specs.declared.summary.Summary.{Summary}
+use Rattle.pk_wordrun.{specs.Summary.answered, specs.Summary.retrieve_reads, specs.Summary.most_read, specs.Sums.Sums, specs.Sums.IsOf, specs.declared.summary.Summary.Summary}
 
 abbrev one : Bool → ℕ
 one b = if b then 1 else 0

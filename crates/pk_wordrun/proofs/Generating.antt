@@ -1,55 +1,23 @@
 -- A workload, one command after another, and its summary.
 use Rattle.std.proofs.Common.{◌≡◌, ℕ, zero, suc, ◌+◌, ◌*◌, ◌%◌, ◌<◌, ◌≤◌, ◌==◌, nat_le, nat_lt, if◌then◌else◌, List, [], ◌∷◌, ◌++◌, length, Option, Some, Ok, Bool, true, false, not, refl, sym, ◌∙◌}
 use Rattle.std.proofs.Common.{ap, subst, arith, append-nil, append_assoc, length-append}
-use Rattle.std.specs.FinMap.{entries, len}
-use Rattle.std.proofs.lemmas.List.{length-map}
-use Rattle.std.proofs.lemmas.Bool.Decides.{nat_tests}
-use Rattle.pk_base.specs.Shape.{Shape}
-use Rattle.pk_base.specs.Page.{Flash as Pages}
-use Rattle.pk_base.specs.Entry.{Entry}
-use Rattle.pk_base.specs.Map.{Map, live}
-use Rattle.pk_nvme.specs.Command.{Command}
-use Rattle.pk_nvme.specs.Seen.{command_of}
-use Rattle.pk_nvme.specs.declared.request.Request.{Request}
+use Rattle.std.{specs.FinMap.entries, specs.FinMap.len, proofs.lemmas.List.length-map, proofs.lemmas.Bool.Decides.nat_tests}
+use Rattle.pk_base.{specs.Shape.Shape, specs.Page.Flash as Pages, specs.Entry.Entry, specs.Map.Map, specs.Map.live}
+use Rattle.pk_nvme.{specs.Command.Command, specs.Seen.command_of, specs.declared.request.Request.Request}
 use Rattle.pk_nvme.specs.declared.opcode.TheConstants.{STORE, RETRIEVE, LIST, DELETE, EXIST}
-use Rattle.pk_nand.specs.BoardState.{BoardState}
-use Rattle.pk_nand.specs.Calls.{Rose, longer}
-use Rattle.pk_nand.specs.Operations.{after_post, PostFailed}
+use Rattle.pk_nand.{specs.BoardState.BoardState, specs.Calls.Rose, specs.Calls.longer, specs.Operations.after_post, specs.Operations.PostFailed}
 use Rattle.pk_gen.specs.Workload.{Generator, workload, generator, request_of, value_of, a_of, b_of, c_of, is_store, value_len, request, tick}
-use Rattle.pk_call.specs.Drive.{CountsMap}
-use Rattle.pk_call.specs.Exec.{most_installs}
-use Rattle.pk_call.specs.Meter.{Meter, meter, MeteredAll}
-use Rattle.pk_call.specs.Seen.{in_space_of}
-use Rattle.pk_call.specs.declared.types.Counts.{Counts}
-use Rattle.pk_call.specs.Sight.{InSpace, Sight, in_space_at, map_of}
-use Rattle.pk_model.specs.Growth.{Goes}
-use Rattle.pk_model.specs.Kept.{rise}
-use Rattle.pk_model.specs.Wear.{is_worn, roots}
-use Rattle.pk_model.specs.Reading.{reading, Holds}
-use Rattle.pk_model.specs.Run.{Exchange, commands}
-use Rattle.pk_model.proofs.Growing.{Goes-reaches, weaken_went}
-use Rattle.pk_call.specs.Running.{DriveRuns}
-use Rattle.pk_serve.specs.Answered.{installs}
-use Rattle.pk_serve.proofs.Counting.{metered-roots, metered-unworn, few_unworn, commands-push}
-use Rattle.pk_port.specs.Asking.{KeptSilently}
-use Rattle.pk_port.specs.declared.halt.Halt.{Halt}
-use Rattle.pk_port.specs.declared.halt.Halt.TheVariants.{Stopped, Worn as UsedUp}
-use Rattle.pk_port.proofs.Growing.{asked-posts, asked-post_failed, went-silent}
-use Rattle.pk_wordrun.specs.Ends.{end_of}
-use Rattle.pk_wordrun.specs.Generated.{Generating, Generated, Unfinished}
-use Rattle.pk_wordrun.specs.Grouped.{StoppedIn, KeepsGroup, AddsToGroup, StopsGroup}
-use Rattle.pk_wordrun.specs.Summary.{summary_lines}
-use Rattle.pk_wordrun.specs.Sums.{Sums}
-use Rattle.pk_wordrun.specs.Tasks.{generate, SaysTask, KeptTask}
-use Rattle.pk_wordrun.specs.Told.{Told, turn_roots}
-use Rattle.pk_wordrun.specs.declared.end.WordEnd.TheVariants.{Done, Output}
-use Rattle.pk_wordrun.specs.declared.summary.Summary.{Summary}
-use Rattle.pk_wordrun.proofs.Grouping.{grouped_none, grouped_asked}
-use Rattle.pk_wordrun.proofs.Resting.{never_both}
-use Rattle.pk_wordrun.proofs.Telling.{keeps-flash, done_unworn, output_unworn, flash_unworn}
-use Rattle.pk_model.specs.Spaces.{Terms, in_space, terms_at}
-use Rattle.pk_port.specs.Steps.{mount}
-use Rattle.pk_port.proofs.Serving.{mounted_limits}
+use Rattle.pk_call.{specs.Drive.CountsMap, specs.Exec.most_installs, specs.Meter.Meter, specs.Meter.meter, specs.Meter.MeteredAll, specs.Seen.in_space_of, specs.declared.types.Counts.Counts}
+use Rattle.pk_call.{specs.Sight.InSpace, specs.Sight.Sight, specs.Sight.in_space_at, specs.Sight.map_of, specs.Running.DriveRuns}
+use Rattle.pk_model.{specs.Growth.Goes, specs.Kept.rise, specs.Wear.is_worn, specs.Wear.roots, specs.Reading.reading, specs.Reading.Holds, specs.Run.Exchange, specs.Run.commands}
+use Rattle.pk_model.{proofs.Growing.Goes-reaches, proofs.Growing.weaken_went, specs.Spaces.Terms, specs.Spaces.in_space, specs.Spaces.terms_at}
+use Rattle.pk_serve.{specs.Answered.installs, proofs.Counting.metered-roots, proofs.Counting.metered-unworn, proofs.Counting.few_unworn, proofs.Counting.commands-push}
+use Rattle.pk_port.{specs.Asking.KeptSilently, specs.declared.halt.Halt.Halt, specs.declared.halt.Halt.TheVariants.Stopped, specs.declared.halt.Halt.TheVariants.Worn as UsedUp, specs.Steps.mount}
+use Rattle.pk_port.{proofs.Growing.asked-posts, proofs.Growing.asked-post_failed, proofs.Growing.went-silent, proofs.Serving.mounted_limits}
+use Rattle.pk_wordrun.{specs.Ends.end_of, specs.Generated.Generating, specs.Generated.Generated, specs.Generated.Unfinished, specs.Summary.summary_lines, specs.Sums.Sums, proofs.Resting.never_both}
+use Rattle.pk_wordrun.{specs.Grouped.StoppedIn, specs.Grouped.KeepsGroup, specs.Grouped.AddsToGroup, specs.Grouped.StopsGroup, specs.Tasks.generate, specs.Tasks.SaysTask, specs.Tasks.KeptTask}
+use Rattle.pk_wordrun.{specs.Told.Told, specs.Told.turn_roots, specs.declared.end.WordEnd.TheVariants.Done, specs.declared.end.WordEnd.TheVariants.Output, specs.declared.summary.Summary.Summary}
+use Rattle.pk_wordrun.{proofs.Grouping.grouped_none, proofs.Grouping.grouped_asked, proofs.Telling.keeps-flash, proofs.Telling.done_unworn, proofs.Telling.output_unworn, proofs.Telling.flash_unworn}
 
 -- ---- the commands of a workload
 

@@ -1,38 +1,19 @@
 -- Commands that are committed in groups: what was kept is kept.
 use Rattle.std.proofs.Common.{◌≡◌, ◌≢◌, inl, inr, ℕ, ◌+◌, ◌≤◌, ◌<◌, List, [], ◌∷◌, ◌++◌, Option, Ok, refl, sym, ap, subst, ◌∙◌, arith, append-nil, replicate}
 use Rattle.std.proofs.lemmas.Fn.{FoldsTo-push}
-use Rattle.pk_base.specs.Shape.{Shape}
-use Rattle.pk_base.specs.Page.{Flash}
-use Rattle.pk_base.specs.Entry.{Entry}
-use Rattle.pk_base.specs.Mark.{all_posted}
-use Rattle.pk_base.specs.Map.{Map}
-use Rattle.pk_nvme.specs.Command.{Command}
-use Rattle.pk_nvme.specs.Reply.{Reply}
-use Rattle.pk_nand.specs.BoardState.{BoardState}
-use Rattle.pk_nand.specs.Calls.{Rose}
-use Rattle.pk_nand.specs.Effects.{OnlyFlash}
-use Rattle.pk_model.specs.Answer.{reply, map_after}
-use Rattle.pk_model.specs.Crashes.{CrashFinds, commit, command}
-use Rattle.pk_model.specs.Growth.{Reaches, Goes}
-use Rattle.pk_model.specs.Kept.{Kept, AtMost, rise}
-use Rattle.pk_model.specs.Reading.{reading, Holds}
-use Rattle.pk_model.specs.Run.{Exchange, commands, faults, records}
-use Rattle.pk_call.specs.Sight.{Sight}
-use Rattle.pk_model.specs.Wear.{roots}
+use Rattle.pk_base.{specs.Shape.Shape, specs.Page.Flash, specs.Entry.Entry, specs.Mark.all_posted, specs.Map.Map}
+use Rattle.pk_nvme.{specs.Command.Command, specs.Reply.Reply}
+use Rattle.pk_nand.{specs.BoardState.BoardState, specs.Calls.Rose, specs.Effects.OnlyFlash, proofs.Effects.only_then}
+use Rattle.pk_model.{specs.Answer.reply, specs.Answer.map_after, specs.Crashes.CrashFinds, specs.Crashes.commit, specs.Crashes.command, specs.Growth.Reaches, specs.Growth.Goes, specs.Wear.roots}
+use Rattle.pk_model.{specs.Kept.Kept, specs.Kept.AtMost, specs.Kept.rise, specs.Reading.reading, specs.Reading.Holds, specs.Run.Exchange, specs.Run.commands, specs.Run.faults, specs.Run.records}
 use Rattle.pk_model.proofs.Growing.{weaken, weaken_went, at_end, Reaches-then, Goes-then, Limited, Reaches-limited, Goes-limited}
-use Rattle.pk_call.specs.Call.{KeepsMap, CallReaches, CallGoes}
-use Rattle.pk_call.specs.Drive.{HoldsMap}
-use Rattle.pk_call.specs.Exec.{Executed, ExecStands, most_installs}
-use Rattle.pk_call.specs.Meter.{Meter, Metered, MeteredAll, meter, reads_after}
-use Rattle.pk_serve.specs.Serving.{StepWithin}
-use Rattle.pk_serve.proofs.Answering.{reply_other, answers}
-use Rattle.pk_serve.proofs.Counting.{at_most-zero, at_most-more, at_most-one, commands-push, faults-one}
-use Rattle.pk_port.specs.Asking.{KeptSilently, Asked}
-use Rattle.pk_port.proofs.Growing.{few_more, few_same, silent-more, asked-none}
-use Rattle.pk_wordrun.specs.Grouped.{exchange, Grouped, StoppedIn, KeepsGroup, AddsToGroup, StopsGroup}
-use Rattle.pk_nand.proofs.Effects.{only_then}
 use Rattle.pk_model.specs.Spaces.{Terms, limits_at}
-use Rattle.pk_serve.proofs.Limiting.{limits_on, limits_held}
+use Rattle.pk_call.{specs.Sight.Sight, specs.Call.KeepsMap, specs.Call.CallReaches, specs.Call.CallGoes, specs.Drive.HoldsMap, specs.Exec.Executed, specs.Exec.ExecStands, specs.Exec.most_installs}
+use Rattle.pk_call.specs.Meter.{Meter, Metered, MeteredAll, meter, reads_after}
+use Rattle.pk_serve.{specs.Serving.StepWithin, proofs.Answering.reply_other, proofs.Answering.answers, proofs.Limiting.limits_on, proofs.Limiting.limits_held}
+use Rattle.pk_serve.proofs.Counting.{at_most-zero, at_most-more, at_most-one, commands-push, faults-one}
+use Rattle.pk_port.{specs.Asking.KeptSilently, specs.Asking.Asked, proofs.Growing.few_more, proofs.Growing.few_same, proofs.Growing.silent-more, proofs.Growing.asked-none}
+use Rattle.pk_wordrun.specs.Grouped.{exchange, Grouped, StoppedIn, KeepsGroup, AddsToGroup, StopsGroup}
 
 module _ (shape : Shape) (terms : Terms) (start : Map) (a b : BoardState) (drive : Sight) (all : List Exchange) (w : Grouped shape terms start a b drive all) where
   abbrev now : Option ℕ

@@ -1,46 +1,24 @@
 -- A list that goes out piece by piece.
 use Rattle.std.proofs.Common.{IfSome, ◌≡◌, ◌⊎◌, inl, inr, ℕ, ◌≤◌, nat_le, true, false, List, [], ◌∷◌, ◌++◌, Option, Some, None, refl, sym, ◌∙◌, ap, subst, append-nil, append_assoc, arith}
-use Rattle.std.proofs.lemmas.Grind.{flat_map-append}
-use Rattle.std.specs.List.{AllByRecursion}
-use Rattle.pk_base.specs.Key.{Key}
-use Rattle.pk_base.specs.Shape.{Shape}
-use Rattle.pk_base.specs.Page.{Flash}
-use Rattle.pk_base.specs.Map.{Map}
-use Rattle.pk_base.specs.Mark.{Mark, all_posted, post}
+use Rattle.std.{proofs.lemmas.Grind.flat_map-append, specs.List.AllByRecursion}
+use Rattle.pk_base.{specs.Key.Key, specs.Shape.Shape, specs.Page.Flash, specs.Map.Map, specs.Mark.Mark, specs.Mark.all_posted, specs.Mark.post}
 use Rattle.pk_nvme.specs.Command.{Command}
-use Rattle.pk_nand.specs.BoardState.{BoardState, shape_or_none}
-use Rattle.pk_nand.specs.Calls.{Rose, longer}
-use Rattle.pk_nand.specs.Operations.{after_post, PostFailed}
-use Rattle.pk_nand.specs.Crash.{ReachedBy}
-use Rattle.pk_nand.specs.Effects.{OnlyReading}
-use Rattle.pk_nand.proofs.CutLemmas.{posted-append}
-use Rattle.pk_nand.proofs.Reaching.{Reached-start, Reached-then, Reached-post, Went-reached}
-use Rattle.pk_model.specs.Growth.{Reaches, Goes}
-use Rattle.pk_model.specs.Kept.{rise}
-use Rattle.pk_model.specs.Run.{commands}
-use Rattle.pk_model.specs.Reading.{reading, Holds}
+use Rattle.pk_nand.{specs.BoardState.BoardState, specs.BoardState.shape_or_none, specs.Calls.Rose, specs.Calls.longer, specs.Operations.after_post, specs.Operations.PostFailed, specs.Crash.ReachedBy}
+use Rattle.pk_nand.{specs.Effects.OnlyReading, proofs.CutLemmas.posted-append, proofs.Reaching.Reached-start, proofs.Reaching.Reached-then, proofs.Reaching.Reached-post, proofs.Reaching.Went-reached}
+use Rattle.pk_nand.{specs.Resting.RestsFlash, proofs.Resting.Rests-same, proofs.Resting.Rests-then}
+use Rattle.pk_model.{specs.Growth.Reaches, specs.Growth.Goes, specs.Kept.rise, specs.Run.commands, specs.Reading.reading, specs.Reading.Holds}
 use Rattle.pk_model.proofs.Growing.{weaken, Goes-reaches, Goes-then, grows_behind, Goes-post_failed, GrowsAlong-post}
-use Rattle.pk_model.specs.Wear.{root_number, roots, is_worn}
+use Rattle.pk_model.{specs.Wear.root_number, specs.Wear.roots, specs.Wear.is_worn, specs.Spaces.Terms, specs.Spaces.limits_at, specs.Spaces.limit_of, specs.Spaces.in_space}
 use Rattle.pk_call.specs.Meter.{meter}
 use Rattle.pk_serve.proofs.Counting.{at_most-zero, metered-unworn, few_unworn}
-use Rattle.pk_port.specs.Asking.{Ran}
-use Rattle.pk_port.proofs.Growing.{ran-next}
-use Rattle.pk_nand.specs.Resting.{RestsFlash}
-use Rattle.pk_nand.proofs.Resting.{Rests-same, Rests-then}
-use Rattle.pk_wordrun.proofs.Resting.{rests-reading, rests-posted, rests-unposted}
-use Rattle.pk_wordrun.proofs.Telling.{done_unworn, output_unworn, flash_unworn}
-use Rattle.pk_words.specs.Lines.{key_line, key_lines}
-use Rattle.pk_words.specs.Says.{SaysKeys, wanted_keys}
-use Rattle.pk_host.specs.Calls.{IsOwnKey}
-use Rattle.pk_words.specs.Listing.{IsOwnPlace, keys_left, start_at, asked_at}
-use Rattle.pk_words.specs.declared.listing.ListPosition.{ListPosition}
-use Rattle.pk_wordrun.specs.Pieces.{PieceAsked, PieceTold, PieceEnds}
-use Rattle.pk_wordrun.specs.Tasks.{list, KeptTask, KeptList}
-use Rattle.pk_wordrun.specs.Told.{Told, AreOf}
+use Rattle.pk_port.{specs.Asking.Ran, proofs.Growing.ran-next, proofs.Stepping.part_of}
+use Rattle.pk_wordrun.{proofs.Resting.rests-reading, proofs.Resting.rests-posted, proofs.Resting.rests-unposted, proofs.Telling.done_unworn, proofs.Telling.output_unworn, proofs.Telling.flash_unworn}
+use Rattle.pk_wordrun.{specs.Pieces.PieceAsked, specs.Pieces.PieceTold, specs.Pieces.PieceEnds, specs.Tasks.list, specs.Tasks.KeptTask, specs.Tasks.KeptList, specs.Told.Told, specs.Told.AreOf}
 use Rattle.pk_wordrun.specs.declared.end.WordEnd.{WordEnd}
 use Rattle.pk_wordrun.specs.declared.end.WordEnd.TheVariants.{Done, Output, Flash as FlashFailed, Worn}
-use Rattle.pk_model.specs.Spaces.{Terms, limits_at, limit_of, in_space}
-use Rattle.pk_port.proofs.Stepping.{part_of}
+use Rattle.pk_words.{specs.Lines.key_line, specs.Lines.key_lines, specs.Says.SaysKeys, specs.Says.wanted_keys, specs.declared.listing.ListPosition.ListPosition}
+use Rattle.pk_words.specs.Listing.{IsOwnPlace, keys_left, start_at, asked_at}
+use Rattle.pk_host.specs.Calls.{IsOwnKey}
 
 -- ---- places
 

@@ -1,23 +1,12 @@
 -- A drive that was opened fits its board.
-use Rattle.std.proofs.Common.{◌≡◌, ◌≤◌, ℕ, [], length, Option, Ok, subst, arith}
-use Rattle.pk_base.specs.Shape.{Shape, IsShape}
-use Rattle.pk_base.specs.Entry.{Entry}
-use Rattle.pk_base.specs.Page.{Flash}
-use Rattle.pk_base.specs.Map.{Map}
-use Rattle.std.proofs.Common.{List}
-use Rattle.pk_nand.specs.BoardState.{BoardState}
-use Rattle.pk_nand.specs.Calls.{IsReady}
-use Rattle.pk_model.specs.Laws.{IsHeldMap, MapHeld}
-use Rattle.pk_model.specs.Spaces.{limits_at, limit_of, in_space}
+use Rattle.std.proofs.Common.{◌≡◌, ◌≤◌, ℕ, [], length, Option, Ok, subst, arith, List}
+use Rattle.pk_base.{specs.Shape.Shape, specs.Shape.IsShape, specs.Entry.Entry, specs.Page.Flash, specs.Map.Map}
+use Rattle.pk_nand.{specs.BoardState.BoardState, specs.Calls.IsReady}
+use Rattle.pk_model.{specs.Laws.IsHeldMap, specs.Laws.MapHeld, specs.Spaces.limits_at, specs.Spaces.limit_of, specs.Spaces.in_space, specs.Reading.reading}
 use Rattle.pk_host.specs.Good.{IsGoodMap}
 use Rattle.pk_serve.proofs.Limiting.{limits_some}
-use Rattle.pk_port.proofs.Isolating.{part_alone, part_sized}
-use Rattle.pk_port.proofs.Serving.{mounted_limits}
-use Rattle.pk_model.specs.Reading.{reading}
-use Rattle.pk_call.specs.Sight.{Sight}
-use Rattle.pk_call.specs.Drive.{HoldsMap}
-use Rattle.pk_port.specs.Ready.{Fits}
-use Rattle.pk_port.specs.Steps.{mount}
+use Rattle.pk_port.{proofs.Isolating.part_alone, proofs.Isolating.part_sized, proofs.Serving.mounted_limits, specs.Ready.Fits, specs.Steps.mount}
+use Rattle.pk_call.{specs.Sight.Sight, specs.Drive.HoldsMap}
 
 module _ (agrees : Option Shape → Flash → Type 0) (shape : Shape) (b : BoardState) (d : Sight) where
   -- the first namespace of a map that is held

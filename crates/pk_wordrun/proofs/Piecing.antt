@@ -1,15 +1,12 @@
 -- A piece of a list whose command was served.
 use Rattle.std.proofs.Common.{◌≡◌, ◌∙◌, ap, refl, subst, sym, true, ℕ, List, [], Option}
-use Rattle.pk_base.specs.Map.{Map}
-use Rattle.pk_base.specs.Shape.{Shape}
+use Rattle.pk_base.{specs.Map.Map, specs.Shape.Shape}
 use Rattle.pk_nand.specs.BoardState.{BoardState}
-use Rattle.pk_model.specs.Reading.{reading, Holds}
-use Rattle.pk_model.specs.Run.{Exchange}
+use Rattle.pk_model.{specs.Reading.reading, specs.Reading.Holds, specs.Run.Exchange}
 use Rattle.pk_call.specs.Calling.{only_looks}
 use Rattle.pk_serve.specs.Serving.{StepWithin}
 use Rattle.pk_port.specs.Steps.{Mounted, Serves, seen}
-use Rattle.pk_words.specs.Listing.{Piece, asked_at}
-use Rattle.pk_words.specs.declared.listing.ListPosition.{ListPosition}
+use Rattle.pk_words.{specs.Listing.Piece, specs.Listing.asked_at, specs.declared.listing.ListPosition.ListPosition}
 use Rattle.pk_words.specs.declared.listing.ListPosition.TheVariants.{First, From, After}
 use Rattle.pk_wordrun.specs.Pieces.{PieceAsked}
 

@@ -1,10 +1,8 @@
 -- A drive fits its board after a post as before it.
 use Rattle.std.proofs.Common.{◌≡◌, List, ℕ, Option, sym, subst}
 use mathlib.Core.Logic.{∥∥₁_map}
-use Rattle.pk_base.specs.Shape.{Shape}
-use Rattle.pk_base.specs.Page.{Flash}
-use Rattle.pk_nand.specs.BoardState.{BoardState}
-use Rattle.pk_nand.specs.Operations.{after_post}
+use Rattle.pk_base.{specs.Shape.Shape, specs.Page.Flash}
+use Rattle.pk_nand.{specs.BoardState.BoardState, specs.Operations.after_post}
 use Rattle.pk_call.specs.Sight.{Sight}
 use Rattle.pk_port.specs.Ready.{Fits}
 

@@ -1,10 +1,7 @@
 -- A flash rests while commands only read, and a text is posted after them.
 use Rattle.std.proofs.Common.{◌≡◌, List, ℕ, refl, ap, true, false}
 use Rattle.pk_base.specs.Shape.{Shape}
-use Rattle.pk_nand.specs.BoardState.{BoardState}
-use Rattle.pk_nand.specs.Operations.{after_post, PostFailed}
-use Rattle.pk_nand.specs.Effects.{OnlyReading}
-use Rattle.pk_nand.specs.Resting.{RestsFlash}
+use Rattle.pk_nand.{specs.BoardState.BoardState, specs.Operations.after_post, specs.Operations.PostFailed, specs.Effects.OnlyReading, specs.Resting.RestsFlash}
 use Rattle.pk_nand.proofs.Resting.{Rests-start, Rests-then, Rests-post, Rests-post_failed}
 use Rattle.pk_call.specs.Calling.{only_looks}
 use Rattle.pk_words.specs.Question.{Question, put, get, delete, has, stat, command_of}

@@ -1,37 +1,21 @@
 -- A question that was answered, and what its answer makes of a board.
 use Rattle.std.proofs.Common.{◌≡◌, inl, inr, ℕ, List, [], ◌∷◌, Option, Some, refl, sym, ◌∙◌, ap, subst, true, false, arith}
-use Rattle.pk_base.specs.Shape.{Shape}
-use Rattle.pk_base.specs.Map.{Map}
+use Rattle.pk_base.{specs.Shape.Shape, specs.Map.Map}
 use Rattle.pk_nvme.specs.Command.{Command}
-use Rattle.pk_nand.specs.BoardState.{BoardState}
-use Rattle.pk_nand.specs.Calls.{Rose, longer}
-use Rattle.pk_nand.specs.Operations.{after_post, PostFailed}
-use Rattle.pk_nand.specs.Effects.{OnlyFlash}
+use Rattle.pk_nand.{specs.BoardState.BoardState, specs.Calls.Rose, specs.Calls.longer, specs.Operations.after_post, specs.Operations.PostFailed, specs.Effects.OnlyFlash, proofs.Resting.Rests-same}
 use Rattle.pk_nand.proofs.Reaching.{Reached-start, Went-reached}
-use Rattle.pk_model.specs.Growth.{Goes}
-use Rattle.pk_model.specs.Kept.{rise}
-use Rattle.pk_model.specs.Reading.{Holds}
-use Rattle.pk_model.specs.Run.{Exchange}
-use Rattle.pk_model.proofs.Growing.{Goes-reaches}
+use Rattle.pk_model.{specs.Growth.Goes, specs.Kept.rise, specs.Reading.Holds, specs.Run.Exchange, proofs.Growing.Goes-reaches}
+use Rattle.pk_model.specs.Spaces.{Terms, limits_at, limit_of, in_space}
 use Rattle.pk_call.specs.Meter.{Meter, meter}
 use Rattle.pk_serve.proofs.Counting.{at_most-zero}
-use Rattle.pk_port.specs.Asking.{Asked, KeptWord}
-use Rattle.pk_port.specs.Steps.{Mounted, seen, Serves, Stops, Fails, HasCause}
-use Rattle.pk_port.specs.declared.halt.Halt.{Halt}
-use Rattle.pk_port.specs.declared.halt.Halt.TheVariants.{Stopped, Worn as UsedUp}
+use Rattle.pk_port.{specs.Asking.Asked, specs.Asking.KeptWord, specs.Steps.Mounted, specs.Steps.seen, specs.Steps.Serves, specs.Steps.Stops, specs.Steps.Fails, specs.Steps.HasCause}
+use Rattle.pk_port.{specs.declared.halt.Halt.Halt, specs.declared.halt.Halt.TheVariants.Stopped, specs.declared.halt.Halt.TheVariants.Worn as UsedUp, proofs.Stepping.part_of}
 use Rattle.pk_port.proofs.Growing.{asked-none, asked-next, asked-stops, asked-posts, asked-post_failed, went-silent}
-use Rattle.pk_words.specs.Question.{Question, command_of, QuestionAnswers}
+use Rattle.pk_words.{specs.Question.Question, specs.Question.command_of, specs.Question.QuestionAnswers, specs.Said.Said, specs.Said.SaidOn}
 use Rattle.pk_host.specs.Port.{PortState}
-use Rattle.pk_words.specs.Said.{Said, SaidOn}
-use Rattle.pk_wordrun.specs.Ends.{end_of}
-use Rattle.pk_wordrun.specs.Tasks.{answer, SaysTask, KeptTask}
-use Rattle.pk_wordrun.specs.Told.{Told, KeepsInput}
-use Rattle.pk_wordrun.specs.declared.end.WordEnd.{WordEnd}
+use Rattle.pk_wordrun.{specs.Ends.end_of, specs.Tasks.answer, specs.Tasks.SaysTask, specs.Tasks.KeptTask, specs.Told.Told, specs.Told.KeepsInput, specs.declared.end.WordEnd.WordEnd}
 use Rattle.pk_wordrun.specs.declared.end.WordEnd.TheVariants.{Done, Output, Flash as FlashFailed, Worn}
-use Rattle.pk_nand.proofs.Resting.{Rests-same}
 use Rattle.pk_wordrun.proofs.Resting.{asked_looks, rests-reading, rests-posted, rests-unposted}
-use Rattle.pk_model.specs.Spaces.{Terms, limits_at, limit_of, in_space}
-use Rattle.pk_port.proofs.Stepping.{part_of}
 
 pub some_same : (x y : Map) → ◌≡◌ {A = Option Map} (Some x) (Some y) → x ≡ y
 some_same x y e = cc

@@ -1,24 +1,13 @@
 -- A workload on a drive, from a first state of a board to a later one.
 use Rattle.std.specs.Prelude.{◌≡◌, ℕ, ◌+◌, ◌*◌, ◌≤◌, List}
-use Rattle.pk_base.specs.Shape.{Shape}
-use Rattle.pk_base.specs.Map.{Map}
+use Rattle.pk_base.{specs.Shape.Shape, specs.Map.Map}
 use Rattle.pk_nand.specs.BoardState.{BoardState}
-use Rattle.pk_model.specs.Growth.{Goes}
-use Rattle.pk_model.specs.Kept.{rise}
-use Rattle.pk_model.specs.Run.{Exchange, commands}
+use Rattle.pk_model.{specs.Growth.Goes, specs.Kept.rise, specs.Run.Exchange, specs.Run.commands, specs.Wear.roots, specs.Spaces.Terms}
 use Rattle.pk_call.specs.Sight.{Sight}
-use Rattle.pk_model.specs.Wear.{roots}
 use Rattle.pk_gen.specs.Workload.{workload}
-use Rattle.pk_port.specs.Asking.{Asked, KeptSilently}
-use Rattle.pk_port.specs.declared.halt.Halt.{Halt}
-use Rattle.pk_wordrun.specs.Ends.{end_of}
-use Rattle.pk_wordrun.specs.Grouped.{Grouped}
-use Rattle.pk_wordrun.specs.Sums.{Sums}
-use Rattle.pk_wordrun.specs.Tasks.{generate}
-use Rattle.pk_wordrun.specs.Told.{EndsBy, KeepsInput, turn_roots}
-use Rattle.pk_wordrun.specs.declared.end.WordEnd.TheVariants.{Worn}
-use Rattle.pk_wordrun.specs.declared.summary.Summary.{Summary}
-use Rattle.pk_model.specs.Spaces.{Terms}
+use Rattle.pk_port.{specs.Asking.Asked, specs.Asking.KeptSilently, specs.declared.halt.Halt.Halt}
+use Rattle.pk_wordrun.{specs.Ends.end_of, specs.Grouped.Grouped, specs.Sums.Sums, specs.Tasks.generate, specs.Told.EndsBy, specs.Told.KeepsInput, specs.Told.turn_roots}
+use Rattle.pk_wordrun.{specs.declared.end.WordEnd.TheVariants.Worn, specs.declared.summary.Summary.Summary}
 
 -- The first `n` commands of the workload were answered, and are counted; entries of the last ones may be pending.
 pub record Generating (begin count : ℕ) (shape : Shape) (terms : Terms) (start : Map) (a b : BoardState) (drive : Sight) (s : Summary) : Type 0 where

@@ -1,20 +1,11 @@
 -- Commands that are committed in groups.
 use Rattle.std.specs.Prelude.{◌≡◌, ℕ, ◌≤◌, List, [], ◌∷◌, ◌++◌, Some}
-use Rattle.pk_base.specs.Shape.{Shape}
-use Rattle.pk_base.specs.Map.{Map}
-use Rattle.pk_nvme.specs.Command.{Command}
-use Rattle.pk_nvme.specs.Reply.{Reply}
-use Rattle.pk_nand.specs.BoardState.{BoardState}
-use Rattle.pk_nand.specs.Calls.{Rose}
-use Rattle.pk_nand.specs.Effects.{OnlyFlash}
-use Rattle.pk_model.specs.Growth.{Reaches, Goes}
-use Rattle.pk_model.specs.Kept.{AtMost, rise}
-use Rattle.pk_model.specs.Run.{Exchange, commands, RunWithin, faults}
-use Rattle.pk_call.specs.Sight.{Sight}
-use Rattle.pk_call.specs.Drive.{HoldsMap}
-use Rattle.pk_call.specs.Meter.{meter, MeteredAll}
+use Rattle.pk_base.{specs.Shape.Shape, specs.Map.Map}
+use Rattle.pk_nvme.{specs.Command.Command, specs.Reply.Reply}
+use Rattle.pk_nand.{specs.BoardState.BoardState, specs.Calls.Rose, specs.Effects.OnlyFlash}
+use Rattle.pk_model.{specs.Growth.Reaches, specs.Growth.Goes, specs.Kept.AtMost, specs.Kept.rise, specs.Run.Exchange, specs.Run.commands, specs.Run.RunWithin, specs.Run.faults, specs.Spaces.Terms}
+use Rattle.pk_call.{specs.Sight.Sight, specs.Drive.HoldsMap, specs.Meter.meter, specs.Meter.MeteredAll}
 use Rattle.pk_port.specs.Asking.{KeptSilently}
-use Rattle.pk_model.specs.Spaces.{Terms}
 
 -- a command, its reply and the pages that were read for it
 abbrev pub exchange : Command → Reply → ℕ → Exchange

@@ -1,22 +1,14 @@
 -- A piece of a list: one command, and what it gives to the host.
 use Rattle.std.specs.Prelude.{◌≡◌, ℕ, ◌≤◌, List, Option, true, false}
-use Rattle.pk_base.specs.Shape.{Shape}
-use Rattle.pk_base.specs.Map.{Map}
-use Rattle.pk_nand.specs.BoardState.{BoardState}
-use Rattle.pk_nand.specs.Calls.{Rose}
-use Rattle.pk_nand.specs.Operations.{after_post, PostFailed}
-use Rattle.pk_nand.specs.Effects.{OnlyReading}
-use Rattle.pk_model.specs.Reading.{Holds}
-use Rattle.pk_model.specs.Run.{Exchange}
-use Rattle.pk_model.specs.Wear.{is_worn}
+use Rattle.pk_base.{specs.Shape.Shape, specs.Map.Map}
+use Rattle.pk_nand.{specs.BoardState.BoardState, specs.Calls.Rose, specs.Operations.after_post, specs.Operations.PostFailed, specs.Effects.OnlyReading}
+use Rattle.pk_model.{specs.Reading.Holds, specs.Run.Exchange, specs.Wear.is_worn, specs.Spaces.Terms}
 use Rattle.pk_call.specs.Meter.{meter, Metered}
 use Rattle.pk_serve.specs.Serving.{StepWithin}
 use Rattle.pk_port.specs.Steps.{Mounted, seen}
-use Rattle.pk_words.specs.Listing.{Piece, asked_at}
-use Rattle.pk_words.specs.declared.listing.ListPosition.{ListPosition}
+use Rattle.pk_words.{specs.Listing.Piece, specs.Listing.asked_at, specs.declared.listing.ListPosition.ListPosition}
 use Rattle.pk_wordrun.specs.declared.end.WordEnd.{WordEnd}
 use Rattle.pk_wordrun.specs.declared.end.WordEnd.TheVariants.{Done, Output, Flash, Worn}
-use Rattle.pk_model.specs.Spaces.{Terms}
 
 -- a drive with these frames and limits that is not stopped, on this board
 abbrev pub working_on : BoardState → Terms → Mounted

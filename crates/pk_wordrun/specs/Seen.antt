@@ -2,8 +2,7 @@
 use Rattle.std.specs.Prelude.{◌<◌, ◌^◌, IfSome}
 use Rattle.pk_host.specs.Calls.{IsOwnKey}
 use Rattle.pk_words.specs.Question.{IsAllowed, seen as seen_question}
-use Rattle.pk_wordrun.specs.Tasks.{Task, answer, list, generate}
-use Rattle.pk_wordrun.specs.declared.task.Task.{Task as Code}
+use Rattle.pk_wordrun.{specs.Tasks.Task, specs.Tasks.answer, specs.Tasks.list, specs.Tasks.generate, specs.declared.task.Task.Task as Code}
 use Rattle.pk_wordrun.specs.declared.task.Task.TheVariants.{Answer, List as Listed, Generate}
 
 abbrev pub seen : Code → Task

@@ -1,8 +1,7 @@
 -- The summary of a workload that was served.
 use Rattle.std.specs.Prelude.{◌≡◌, ℕ, ◌+◌, max, ◌==◌, if◌then◌else◌, List, [], ◌∷◌, ◌++◌, length, codes}
 use Rattle.std.specs.FinMap.{len}
-use Rattle.pk_base.specs.Shape.{Shape}
-use Rattle.pk_base.specs.Map.{Map, live}
+use Rattle.pk_base.{specs.Shape.Shape, specs.Map.Map, specs.Map.live}
 use Rattle.pk_nvme.specs.declared.opcode.TheConstants.{RETRIEVE}
 use Rattle.pk_nvme.specs.declared.status.TheConstants.{SUCCESSFUL_COMPLETION, KEY_DOES_NOT_EXIST, INVALID_VALUE_SIZE, CAPACITY_EXCEEDED, UNRECOVERED_ERROR}
 use Rattle.pk_model.specs.Run.{Exchange}

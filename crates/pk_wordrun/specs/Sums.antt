@@ -4,8 +4,7 @@ use Rattle.pk_nvme.specs.declared.request.Request.{Request}
 use Rattle.pk_nvme.specs.declared.status.TheConstants.{SUCCESSFUL_COMPLETION, KEY_DOES_NOT_EXIST, INVALID_VALUE_SIZE, CAPACITY_EXCEEDED, UNRECOVERED_ERROR}
 use Rattle.pk_call.specs.declared.types.Outcome.{Outcome}
 use Rattle.pk_model.specs.Run.{Exchange}
-use Rattle.pk_wordrun.specs.Summary.{answered, most_read}
-use Rattle.pk_wordrun.specs.declared.summary.Summary.{Summary}
+use Rattle.pk_wordrun.{specs.Summary.answered, specs.Summary.most_read, specs.declared.summary.Summary.Summary}
 
 -- they are those of these exchanges
 pub record Sums (s : Summary) (all : List Exchange) : Type 0 where

@@ -1,19 +1,14 @@
 -- The words that ask a drive: what each says of the map that it finds, and which map it leaves.
 use Rattle.std.specs.Prelude.{◌≡◌, ℕ, List, [], ◌∷◌, ◌++◌, Option, Bool, true, false}
-use Rattle.pk_base.specs.Key.{Key}
-use Rattle.pk_base.specs.Shape.{Shape}
-use Rattle.pk_base.specs.Page.{Flash}
-use Rattle.pk_base.specs.Map.{Map}
+use Rattle.pk_base.{specs.Key.Key, specs.Shape.Shape, specs.Page.Flash, specs.Map.Map}
 use Rattle.pk_nand.specs.Calls.{Rose}
 use Rattle.pk_call.specs.Meter.{Meter}
-use Rattle.pk_model.specs.Reading.{Holds}
-use Rattle.pk_model.specs.Run.{Exchange}
+use Rattle.pk_model.{specs.Reading.Holds, specs.Run.Exchange, specs.Spaces.Terms, specs.Spaces.limit_of, specs.Spaces.limits_at, specs.Spaces.in_space}
 use Rattle.pk_gen.specs.Workload.{workload}
 use Rattle.pk_port.specs.Asking.{KeptWord}
 use Rattle.pk_words.specs.Question.{Question, put, get, delete, has, stat, command_of, QuestionAnswers}
 use Rattle.pk_words.specs.Says.{SaysKeys}
 use Rattle.pk_wordrun.specs.Summary.{SaysSummary}
-use Rattle.pk_model.specs.Spaces.{Terms, limit_of, limits_at, in_space}
 use Rattle.pk_nvme.specs.declared.limits.TheConstants.{NAMESPACE}
 
 -- a question, a list of the keys from one on, or a workload from a start, of n commands

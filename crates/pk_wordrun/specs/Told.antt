@@ -1,26 +1,18 @@
 -- What a word did to a board, from the opened drive on.
 use Rattle.std.specs.Prelude.{◌≡◌, ℕ, ◌+◌, ◌*◌, ◌≤◌, ◌<◌, ◌==◌, List, [], ◌∷◌, Bool, true, false, not}
 use Rattle.std.specs.List.{AllByRecursion}
-use Rattle.pk_base.specs.Shape.{Shape}
-use Rattle.pk_base.specs.Map.{Map}
+use Rattle.pk_base.{specs.Shape.Shape, specs.Map.Map}
 use Rattle.pk_nvme.specs.Command.{Command}
-use Rattle.pk_nand.specs.BoardState.{BoardState}
-use Rattle.pk_nand.specs.Calls.{Rose, longer}
-use Rattle.pk_nand.specs.Resting.{RestsFlash}
-use Rattle.pk_model.specs.Growth.{Goes}
-use Rattle.pk_model.specs.Reading.{Holds}
-use Rattle.pk_model.specs.Wear.{is_worn, roots}
+use Rattle.pk_nand.{specs.BoardState.BoardState, specs.Calls.Rose, specs.Calls.longer, specs.Resting.RestsFlash}
+use Rattle.pk_model.{specs.Growth.Goes, specs.Reading.Holds, specs.Wear.is_worn, specs.Wear.roots, specs.Spaces.Terms}
 use Rattle.pk_call.specs.Meter.{meter}
 use Rattle.pk_serve.specs.Ends.{NoFaults}
 use Rattle.pk_gen.specs.Workload.{workload}
 use Rattle.pk_port.specs.Asking.{Asked, Ran}
-use Rattle.pk_words.specs.Listing.{asked_at, start_at}
-use Rattle.pk_words.specs.Question.{command_of}
-use Rattle.pk_words.specs.declared.listing.ListPosition.{ListPosition}
+use Rattle.pk_words.{specs.Listing.asked_at, specs.Listing.start_at, specs.Question.command_of, specs.declared.listing.ListPosition.ListPosition}
 use Rattle.pk_wordrun.specs.Tasks.{Task, answer, list, generate, only_asks, SaysTask, KeptTask}
 use Rattle.pk_wordrun.specs.declared.end.WordEnd.{WordEnd}
 use Rattle.pk_wordrun.specs.declared.end.WordEnd.TheVariants.{Done, Output, Flash, Worn}
-use Rattle.pk_model.specs.Spaces.{Terms}
 
 -- a command begins: each word has one, but a workload of none
 abbrev pub has_command : Task → Bool

@@ -5,11 +5,8 @@ use Rattle.pk_nvme.specs.Command.{Command}
 use Rattle.pk_nand.specs.BoardState.{BoardState}
 use Rattle.pk_model.specs.Run.{Exchange}
 use Rattle.pk_call.specs.Sight.{Sight}
-use Rattle.pk_port.specs.Steps.{Mounted, Serves, Fails}
-use Rattle.pk_port.specs.declared.halt.Halt.{Halt}
-use Rattle.pk_wordrun.specs.Grouped.{AddsToGroup, StopsGroup}
-use Rattle.pk_wordrun.specs.Sums.{Sums}
-use Rattle.pk_wordrun.specs.declared.summary.Summary.{Summary}
+use Rattle.pk_port.{specs.Steps.Mounted, specs.Steps.Serves, specs.Steps.Fails, specs.declared.halt.Halt.Halt}
+use Rattle.pk_wordrun.{specs.Grouped.AddsToGroup, specs.Grouped.StopsGroup, specs.Sums.Sums, specs.declared.summary.Summary.Summary}
 
 -- it was served, or it was not answered, for this reason
 abbrev pub Turns : {X : Type 0} → Shape → Mounted → Mounted → Command → Result X Halt → Type 0

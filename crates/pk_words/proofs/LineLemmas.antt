@@ -1,12 +1,8 @@
 -- Lines, and how long they are.
 use Rattle.std.proofs.Common.{◌≡◌, ℕ, ◌+◌, ◌*◌, ◌≤◌, ◌<◌, List, [], ◌∷◌, ◌++◌, length, take, slice_index_or, sym, ap, ◌∙◌, arith}
-use Rattle.std.specs.Prelude.{codes}
-use Rattle.std.proofs.lemmas.List.{append-nil, length-append, take_more}
-use Rattle.std.proofs.lemmas.Grind.{flat_map-append}
+use Rattle.std.{specs.Prelude.codes, proofs.lemmas.List.append-nil, proofs.lemmas.List.length-append, proofs.lemmas.List.take_more, proofs.lemmas.Grind.flat_map-append}
 use Rattle.pk_base.specs.Key.{Key, bytes_of}
-use Rattle.pk_nvme.specs.Bytes.{RoomyList}
-use Rattle.pk_nvme.specs.Text.{hex_text}
-use Rattle.pk_nvme.proofs.TextLemmas.{length-hex_text}
+use Rattle.pk_nvme.{specs.Bytes.RoomyList, specs.Text.hex_text, proofs.TextLemmas.length-hex_text}
 use Rattle.pk_words.specs.Lines.{key_line, key_lines}
 
 pub length-key_line : (key : Key) → length (key_line key) ≡ 2 * length (bytes_of key) + 1

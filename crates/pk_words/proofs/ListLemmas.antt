@@ -1,34 +1,21 @@
 -- The keys of a list, piece by piece.
-use Rattle.std.proofs.Common.{IfSome, ◌≡◌, inl, inr, ◌⊎◌, ℕ, ◌-◌, ◌<◌, ◌==◌, nat_lt, if◌then◌else◌, cond, List, [], ◌∷◌, ◌++◌, length, filter, map, slice_index_or, Bool, true, false, not, Option, Some, None}
-use Rattle.std.proofs.Common.{is_some, Result, Ok, Err, refl, sym, ap, subst, ◌∙◌, arith, length-append}
-use Rattle.std.proofs.lemmas.Bool.{ltb-true}
-use Rattle.std.proofs.lemmas.List.{append-nil}
-use Rattle.std.specs.List.{AllByRecursion}
-use Rattle.std.specs.declared.cmp.Ordering.{Ordering}
+use Rattle.std.proofs.Common.{IfSome, ◌≡◌, inl, inr, ◌⊎◌, ℕ, ◌-◌, ◌<◌, ◌==◌, nat_lt, if◌then◌else◌, cond, List, [], ◌∷◌, ◌++◌, length, filter, map, slice_index_or, Bool, true, false, not, Option}
+use Rattle.std.proofs.Common.{Some, None, is_some, Result, Ok, Err, refl, sym, ap, subst, ◌∙◌, arith, length-append}
+use Rattle.std.{proofs.lemmas.Bool.ltb-true, proofs.lemmas.List.append-nil, specs.List.AllByRecursion, specs.declared.cmp.Ordering.Ordering, specs.FinMap.Entries.find}
 use Rattle.std.specs.declared.cmp.Ordering.TheVariants.{Less, Equal, Greater}
-use Rattle.std.specs.Ordering.{is_lt, is_eq, ordering_reverse}
-use Rattle.std.specs.FinMap.{keys, entries, get, get-entries}
-use Rattle.std.specs.FinMap.Entries.{find}
-use Rattle.pk_base.specs.Key.{Key, IsKey, key_cmp, IsBelow, IsRising}
-use Rattle.pk_base.specs.Map.{Map, keys_from}
+use Rattle.std.{specs.Ordering.is_lt, specs.Ordering.is_eq, specs.Ordering.ordering_reverse, specs.FinMap.keys, specs.FinMap.entries, specs.FinMap.get, specs.FinMap.get-entries}
+use Rattle.pk_base.{specs.Key.Key, specs.Key.IsKey, specs.Key.key_cmp, specs.Key.IsBelow, specs.Key.IsRising, specs.Map.Map, specs.Map.keys_from}
 use Rattle.pk_nand.specs.Calls.{Rose}
-use Rattle.pk_nvme.specs.Command.{Command, key_or_none}
-use Rattle.pk_nvme.specs.declared.opcode.Opcode.TheVariants.{Exist}
+use Rattle.pk_nvme.{specs.Command.Command, specs.Command.key_or_none, specs.declared.opcode.Opcode.TheVariants.Exist}
 use Rattle.pk_nvme.specs.declared.status.TheConstants.{KEY_DOES_NOT_EXIST, UNRECOVERED_ERROR}
 use Rattle.pk_model.proofs.MapLemmas.{key_total, key_antisymm}
-use Rattle.pk_host.specs.declared.types.HostError.{HostError}
-use Rattle.pk_host.specs.declared.types.HostError.TheVariants.{Refused, Port}
-use Rattle.pk_host.specs.Port.{PortState}
-use Rattle.pk_host.specs.Calls.{IsOwnKey, exist_of}
-use Rattle.pk_host.specs.Outcomes.{Gives, Tests, existed}
-use Rattle.pk_host.specs.Listing.{above, Pages, Follows, TellsKeys, listed_by}
+use Rattle.pk_host.{specs.declared.types.HostError.HostError, specs.declared.types.HostError.TheVariants.Refused, specs.declared.types.HostError.TheVariants.Port, specs.Port.PortState}
+use Rattle.pk_host.{specs.Calls.IsOwnKey, specs.Calls.exist_of, specs.Outcomes.Gives, specs.Outcomes.Tests, specs.Outcomes.existed, proofs.PageLemmas.next_page, proofs.PageLemmas.nothing_above}
+use Rattle.pk_host.{specs.Listing.above, specs.Listing.Pages, specs.Listing.Follows, specs.Listing.TellsKeys, specs.Listing.listed_by, proofs.CommandLemmas.keyed_fault, proofs.CommandLemmas.exist_by}
 use Rattle.pk_host.proofs.RisingLemmas.{all_middle, snoc_of, keys_rising, second_above}
-use Rattle.pk_host.proofs.PageLemmas.{next_page, nothing_above}
-use Rattle.pk_host.proofs.CommandLemmas.{keyed_fault, exist_by}
-use Rattle.pk_words.specs.declared.listing.ListPosition.TheVariants.{From, After}
+use Rattle.pk_words.{specs.declared.listing.ListPosition.TheVariants.From, specs.declared.listing.ListPosition.TheVariants.After, proofs.RankLemmas.after_first, proofs.RankLemmas.after_key}
 use Rattle.pk_words.specs.Lines.{key_line, key_lines, status_line, failed_line}
 use Rattle.pk_words.specs.Listing.{IsText, keys_left, position_after, pieces_left, Continues, ListEnds}
-use Rattle.pk_words.proofs.RankLemmas.{after_first, after_key}
 
 -- ---- keys that are not below a key: the key itself, if it exists, and those above it
 

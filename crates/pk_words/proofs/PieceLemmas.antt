@@ -1,16 +1,10 @@
 -- The pieces of a list, one after another: what they are together.
 use Rattle.std.proofs.Common.{◌≡◌, inl, inr, ℕ, ◌≤◌, List, [], ◌++◌, Option, Some, None, refl, sym, ap, ◌∙◌, arith, append_assoc}
-use Rattle.std.specs.Option.{IfSome}
-use Rattle.std.proofs.lemmas.List.{append-nil}
-use Rattle.std.proofs.lemmas.Grind.{flat_map-append}
+use Rattle.std.{specs.Option.IfSome, proofs.lemmas.List.append-nil, proofs.lemmas.Grind.flat_map-append}
 use Rattle.pk_base.specs.Key.{Key}
 use Rattle.pk_nand.specs.Calls.{Rose}
-use Rattle.pk_host.specs.Port.{PortState}
-use Rattle.pk_host.specs.Outcomes.{Leaves}
-use Rattle.pk_words.specs.declared.listing.ListPosition.{ListPosition}
-use Rattle.pk_words.specs.Lines.{key_line, key_lines}
-use Rattle.pk_words.specs.Says.{SaysKeys}
-use Rattle.pk_words.specs.Said.{Said}
+use Rattle.pk_host.{specs.Port.PortState, specs.Outcomes.Leaves}
+use Rattle.pk_words.{specs.declared.listing.ListPosition.ListPosition, specs.Lines.key_line, specs.Lines.key_lines, specs.Says.SaysKeys, specs.Said.Said}
 use Rattle.pk_words.specs.Listing.{Continues, ListEnds, Listed, keys_left, start_at}
 
 pub listed_begins : (from : Option Key) (p : PortState) → Listed from p p (start_at from) []

@@ -1,12 +1,9 @@
 -- A key's number rises with it.
 use Rattle.std.proofs.Common.{◌≡◌, ℕ, zero, suc, ◌+◌, ◌-◌, ◌*◌, ◌^◌, ◌≤◌, ◌<◌, cond, nat_lt, ◌==◌, true, false, List, [], ◌∷◌, length, refl, ap, arith}
-use Rattle.std.proofs.Math.Nat.{pow-succ', mul-le-mul_right}
-use Rattle.std.proofs.lemmas.Bool.{ltb-true, eqb-true}
-use Rattle.std.specs.declared.cmp.Ordering.{Ordering}
+use Rattle.std.{proofs.Math.Nat.pow-succ', proofs.Math.Nat.mul-le-mul_right, proofs.lemmas.Bool.ltb-true, proofs.lemmas.Bool.eqb-true, specs.declared.cmp.Ordering.Ordering}
 use Rattle.std.specs.declared.cmp.Ordering.TheVariants.{Less, Equal, Greater}
 use Rattle.std.specs.Ordering.{nat_cmp, ordering_then}
-use Rattle.pk_base.specs.Fields.{AreBytes}
-use Rattle.pk_base.specs.Key.{Key, IsKey, IsBelow, key_cmp}
+use Rattle.pk_base.{specs.Fields.AreBytes, specs.Key.Key, specs.Key.IsKey, specs.Key.IsBelow, specs.Key.key_cmp}
 use Rattle.pk_words.specs.Listing.{rank, IsText, pieces_after, most_pieces}
 
 tail_bytes : (b : ℕ) (k : List ℕ) → AreBytes (b ∷ k) → AreBytes k

@@ -1,18 +1,12 @@
 -- The lines of a Report one after another.
 use Rattle.std.proofs.Common.{◌≡◌, inl, inr, ℕ, ◌+◌, ◌*◌, ◌≤◌, ◌<◌, List, [], ◌∷◌, ◌++◌, length, drop, slice_index_or, replicate, Result, Err, refl, sym, ap, subst, ◌∙◌, arith, append_assoc, add-one}
-use Rattle.std.proofs.Math.Seq.{drop-cons}
-use Rattle.std.proofs.lemmas.List.{append-nil, drop_all}
+use Rattle.std.{proofs.Math.Seq.drop-cons, proofs.lemmas.List.append-nil, proofs.lemmas.List.drop_all}
 use Rattle.pk_base.specs.Fields.{u32_at}
 use Rattle.pk_nvme.specs.Bytes.{RoomyList}
-use Rattle.pk_host.specs.declared.types.HostError.{HostError}
-use Rattle.pk_host.specs.declared.types.HostError.TheVariants.{Refused, Port}
-use Rattle.pk_host.specs.Port.{PortState}
-use Rattle.pk_host.specs.Calls.{report}
-use Rattle.pk_host.specs.Outcomes.{stored, Gives, IsCause, IsRefusal, Numbers, Leaves}
+use Rattle.pk_host.{specs.declared.types.HostError.HostError, specs.declared.types.HostError.TheVariants.Refused, specs.declared.types.HostError.TheVariants.Port, specs.Port.PortState}
+use Rattle.pk_host.{specs.Calls.report, specs.Outcomes.stored, specs.Outcomes.Gives, specs.Outcomes.IsCause, specs.Outcomes.IsRefusal, specs.Outcomes.Numbers, specs.Outcomes.Leaves}
 use Rattle.pk_host.proofs.ReportLemmas.{report_leaves}
-use Rattle.pk_words.specs.Lines.{number_line, number_lines, report_names, report_lines, status_line}
-use Rattle.pk_words.specs.Says.{SaysNumbers}
-use Rattle.pk_words.specs.Said.{Said}
+use Rattle.pk_words.{specs.Lines.number_line, specs.Lines.number_lines, specs.Lines.report_names, specs.Lines.report_lines, specs.Lines.status_line, specs.Says.SaysNumbers, specs.Said.Said}
 
 -- the lines so far, and those of the numbers that remain
 pub record AreCounted (numbers : List ℕ) (text initial : RoomyList) (i : ℕ) : Type 0 where

@@ -1,28 +1,13 @@
 -- What a word says, from the reply of its command.
 use Rattle.std.proofs.Common.{◌≡◌, inl, inr, ℕ, ◌≤◌, min, true, false, if◌then◌else◌, List, [], ◌∷◌, length, take, Option, Some, None, Result, Ok, Err, refl, sym, ap, subst, ◌∙◌, arith}
-use Rattle.std.proofs.lemmas.List.{take_all}
-use Rattle.std.specs.FinMap.{get, entries, get-entries}
-use Rattle.std.specs.FinMap.Entries.{find}
-use Rattle.std.specs.Ordering.{is_eq}
-use Rattle.std.specs.List.{AllByRecursion}
-use Rattle.pk_base.specs.Fields.{AreBytes}
-use Rattle.pk_base.specs.Key.{Key, IsKey, key_cmp}
-use Rattle.pk_base.specs.Shape.{Shape, greatest}
-use Rattle.pk_base.specs.Map.{Map, IsMap}
+use Rattle.std.{proofs.lemmas.List.take_all, specs.FinMap.get, specs.FinMap.entries, specs.FinMap.get-entries, specs.FinMap.Entries.find, specs.Ordering.is_eq, specs.List.AllByRecursion}
+use Rattle.pk_base.{specs.Fields.AreBytes, specs.Key.Key, specs.Key.IsKey, specs.Key.key_cmp, specs.Shape.Shape, specs.Shape.greatest, specs.Map.Map, specs.Map.IsMap}
 use Rattle.pk_nand.specs.Calls.{Rose}
-use Rattle.pk_nvme.specs.Command.{Command}
-use Rattle.pk_nvme.specs.Reply.{Reply}
-use Rattle.pk_nvme.specs.declared.opcode.Opcode.TheVariants.{Retrieve}
-use Rattle.pk_host.specs.declared.types.HostError.{HostError}
-use Rattle.pk_host.specs.declared.types.HostError.TheVariants.{Refused, Port}
-use Rattle.pk_host.specs.Port.{PortState}
-use Rattle.pk_host.specs.Calls.{retrieve_of}
-use Rattle.pk_host.specs.Outcomes.{Gives, Fetches, IsFront, IsCause, IsRefusal, retrieved}
-use Rattle.pk_host.proofs.CallLemmas.{leaves_map}
-use Rattle.pk_host.proofs.CauseLemmas.{retrieve_cause}
-use Rattle.pk_words.specs.Lines.{status_line, value_line}
-use Rattle.pk_words.specs.Says.{SaysStatus, SaysValue, SaysFound}
-use Rattle.pk_words.specs.Said.{Said, IsStatus}
+use Rattle.pk_nvme.{specs.Command.Command, specs.Reply.Reply, specs.declared.opcode.Opcode.TheVariants.Retrieve}
+use Rattle.pk_host.{specs.declared.types.HostError.HostError, specs.declared.types.HostError.TheVariants.Refused, specs.declared.types.HostError.TheVariants.Port, specs.Port.PortState}
+use Rattle.pk_host.{specs.Calls.retrieve_of, specs.Outcomes.Gives, specs.Outcomes.Fetches, specs.Outcomes.IsFront, specs.Outcomes.IsCause, specs.Outcomes.IsRefusal, specs.Outcomes.retrieved}
+use Rattle.pk_host.{proofs.CallLemmas.leaves_map, proofs.CauseLemmas.retrieve_cause}
+use Rattle.pk_words.{specs.Lines.status_line, specs.Lines.value_line, specs.Says.SaysStatus, specs.Says.SaysValue, specs.Says.SaysFound, specs.Said.Said, specs.Said.IsStatus}
 
 -- a word that says how its command was answered
 pub said_status : {X : Type 0} (of : Reply → Result X HostError) (old new : PortState) (c : Command) (outcome : Result X HostError) (status : ℕ) (text : List ℕ)

@@ -1,7 +1,6 @@
 -- The lines that the words say.
 use Rattle.std.specs.Prelude.{ℕ, ◌+◌, ◌==◌, if◌then◌else◌, List, [], ◌∷◌, ◌++◌, flat_map, codes, Option, Some, None}
-use Rattle.pk_base.specs.Key.{Key, bytes_of}
-use Rattle.pk_base.specs.Fields.{u32_at}
+use Rattle.pk_base.{specs.Key.Key, specs.Key.bytes_of, specs.Fields.u32_at}
 use Rattle.pk_nvme.specs.Text.{number_text, hex_text, bytes_text}
 use Rattle.pk_nvme.specs.declared.status.TheConstants.{SUCCESSFUL_COMPLETION, KEY_DOES_NOT_EXIST, UNRECOVERED_ERROR}
 

@@ -1,19 +1,11 @@
 -- A list of keys that is said piece by piece.
 use Rattle.std.specs.Prelude.{◌≡◌, ◌⊎◌, ◌<◌, ℕ, zero, suc, ◌+◌, ◌-◌, ◌*◌, ◌^◌, List, [], ◌∷◌, ◌++◌, Option, Some, None}
 use Rattle.std.specs.FinMap.{keys}
-use Rattle.pk_base.specs.Fields.{AreBytes}
-use Rattle.pk_base.specs.Key.{Key, IsKey}
-use Rattle.pk_base.specs.Map.{Map, keys_from}
-use Rattle.pk_base.specs.declared.sizes.TheConstants.{KEY_BYTES}
+use Rattle.pk_base.{specs.Fields.AreBytes, specs.Key.Key, specs.Key.IsKey, specs.Map.Map, specs.Map.keys_from, specs.declared.sizes.TheConstants.KEY_BYTES}
 use Rattle.pk_nand.specs.Calls.{Rose}
 use Rattle.pk_nvme.specs.Command.{Command}
-use Rattle.pk_host.specs.Port.{PortState}
-use Rattle.pk_host.specs.Calls.{IsOwnKey, exist_of}
-use Rattle.pk_host.specs.Outcomes.{Leaves, list_of}
-use Rattle.pk_host.specs.Listing.{above}
-use Rattle.pk_words.specs.Lines.{failed_line, key_lines}
-use Rattle.pk_words.specs.Says.{wanted_keys}
-use Rattle.pk_words.specs.declared.listing.ListPosition.{ListPosition}
+use Rattle.pk_host.{specs.Port.PortState, specs.Calls.IsOwnKey, specs.Calls.exist_of, specs.Outcomes.Leaves, specs.Outcomes.list_of, specs.Listing.above}
+use Rattle.pk_words.{specs.Lines.failed_line, specs.Lines.key_lines, specs.Says.wanted_keys, specs.declared.listing.ListPosition.ListPosition}
 use Rattle.pk_words.specs.declared.listing.ListPosition.TheVariants.{First, From, After}
 
 -- the keys that are not said yet

@@ -1,12 +1,10 @@
 -- The words of one command each: what they ask for, their command, and what they say.
 use Rattle.std.specs.Prelude.{ℕ, ◌<◌, ◌^◌, List, length}
-use Rattle.pk_base.specs.Key.{Key}
-use Rattle.pk_base.specs.Shape.{Shape, greatest}
+use Rattle.pk_base.{specs.Key.Key, specs.Shape.Shape, specs.Shape.greatest}
 use Rattle.pk_nvme.specs.Command.{Command}
 use Rattle.pk_host.specs.Calls.{IsOwnKey, store_of, retrieve_of, delete_of, exist_of, report}
 use Rattle.pk_host.specs.declared.types.StoreRule.TheVariants.{Any}
-use Rattle.pk_words.specs.Says.{Saying, SaysStatus, SaysValue, SaysNumbers}
-use Rattle.pk_words.specs.declared.question.Question.{Question as Code}
+use Rattle.pk_words.{specs.Says.Saying, specs.Says.SaysStatus, specs.Says.SaysValue, specs.Says.SaysNumbers, specs.declared.question.Question.Question as Code}
 use Rattle.pk_words.specs.declared.question.Question.TheVariants.{Put, Get, Delete, Has, Stat}
 
 -- what a word of one command asks for

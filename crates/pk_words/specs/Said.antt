@@ -1,14 +1,9 @@
 -- What a word says over a port.
-use Rattle.std.specs.Prelude.{◌≡◌, ◌≢◌, ℕ, List, Some, Result, Ok, Err}
-use Rattle.std.specs.Option.{IfSome}
-use Rattle.pk_base.specs.Map.{Map}
-use Rattle.pk_base.specs.Shape.{Shape}
+use Rattle.std.{specs.Prelude.◌≡◌, specs.Prelude.◌≢◌, specs.Prelude.ℕ, specs.Prelude.List, specs.Prelude.Some, specs.Prelude.Result, specs.Prelude.Ok, specs.Prelude.Err, specs.Option.IfSome}
+use Rattle.pk_base.{specs.Map.Map, specs.Shape.Shape}
 use Rattle.pk_nand.specs.Calls.{Rose}
 use Rattle.pk_nvme.specs.Reply.{Reply}
-use Rattle.pk_host.specs.declared.types.HostError.{HostError}
-use Rattle.pk_host.specs.declared.types.HostError.TheVariants.{Port}
-use Rattle.pk_host.specs.declared.types.PortFault.{PortFault}
-use Rattle.pk_host.specs.Port.{PortState}
+use Rattle.pk_host.{specs.declared.types.HostError.HostError, specs.declared.types.HostError.TheVariants.Port, specs.declared.types.PortFault.PortFault, specs.Port.PortState}
 use Rattle.pk_words.specs.Says.{Saying}
 
 -- what contracts see of the words: the shape of the drives that they are for, and the text that was said last

@@ -1,15 +1,8 @@
 -- What each word says, from the map that it finds to the one that it leaves.
-use Rattle.std.specs.Prelude.{◌≡◌, ◌⊎◌, ℕ, List, ◌++◌, length, Option}
-use Rattle.std.specs.FinMap.{get}
-use Rattle.pk_base.specs.Key.{Key}
-use Rattle.pk_base.specs.Shape.{Shape}
-use Rattle.pk_base.specs.Map.{Map, keys_from}
-use Rattle.pk_nvme.specs.Command.{Command, key_or_none}
-use Rattle.pk_nvme.specs.Reply.{Reply}
-use Rattle.pk_nvme.specs.declared.status.TheConstants.{UNRECOVERED_ERROR}
-use Rattle.pk_model.specs.Answer.{report_bytes}
-use Rattle.pk_model.specs.Run.{Step}
-use Rattle.pk_model.specs.Spaces.{one_space}
+use Rattle.std.{specs.Prelude.◌≡◌, specs.Prelude.◌⊎◌, specs.Prelude.ℕ, specs.Prelude.List, specs.Prelude.◌++◌, specs.Prelude.length, specs.Prelude.Option, specs.FinMap.get}
+use Rattle.pk_base.{specs.Key.Key, specs.Shape.Shape, specs.Map.Map, specs.Map.keys_from}
+use Rattle.pk_nvme.{specs.Command.Command, specs.Command.key_or_none, specs.Reply.Reply, specs.declared.status.TheConstants.UNRECOVERED_ERROR}
+use Rattle.pk_model.{specs.Answer.report_bytes, specs.Run.Step, specs.Spaces.one_space}
 use Rattle.pk_words.specs.Lines.{failed_line, status_line, value_line, key_lines, report_lines}
 
 -- a text from one map of a namespace to another, on a drive of this shape, this limit of live pages and this many frames; and what holds if a read

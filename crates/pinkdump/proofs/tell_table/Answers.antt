@@ -1,8 +1,7 @@
 use Rattle.std.proofs.Common.{◌≡◌, ◌∙◌, sym, subst}
 use Rattle.pk_base.specs.Shape.{Shape}
 use Rattle.pk_nand.specs.Calls.{IsReady}
-use Rattle.pk_remap.specs.Places.{inner_shape}
-use Rattle.pk_remap.proofs.Opening.{with_spares}
+use Rattle.pk_remap.{specs.Places.inner_shape, proofs.Opening.with_spares}
 use Rattle.pinkdump.proofs.tell_table.Goals as goal
 
 pub newest-requires-clause-ready : goal.newest-requires-clause-ready

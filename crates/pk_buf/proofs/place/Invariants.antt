@@ -1,6 +1,5 @@
 -- all before `low` are below, and none from `high` on
-use Rattle.std.proofs.Common.{◌≡◌, ◌≤◌, ◌-◌, length, true, false}
-use Rattle.std.specs.List.{AllWithin}
+use Rattle.std.{proofs.Common.◌≡◌, proofs.Common.◌≤◌, proofs.Common.◌-◌, proofs.Common.length, proofs.Common.true, proofs.Common.false, specs.List.AllWithin}
 use Rattle.pk_buf.specs.Table.{is_below, content}
 use Rattle.pk_buf.proofs.place.Given as goal
 

@@ -1,6 +1,5 @@
-use Rattle.pk_buf.proofs.Places.{has_at_read, has_at_past}
+use Rattle.pk_buf.{proofs.Places.has_at_read, proofs.Places.has_at_past, proofs.search.Goals.else-at-slots-via-then-at-slots+else-has, proofs.search.Goals.else-at-slots-via-else-at-slots}
 use Rattle.pk_buf.proofs.search.Goals as goal
-use Rattle.pk_buf.proofs.search.Goals.{else-at-slots-via-then-at-slots+else-has, else-at-slots-via-else-at-slots}
 
 pub returns-then-has-clause-found : goal.returns-then-has-clause-found
 returns-then-has-clause-found c =

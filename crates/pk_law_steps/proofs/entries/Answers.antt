@@ -1,5 +1,4 @@
-use Rattle.pk_law_steps.proofs.Storing.{stores, deletes}
-use Rattle.pk_law_steps.proofs.Places.{fits_more}
+use Rattle.pk_law_steps.{proofs.Storing.stores, proofs.Storing.deletes, proofs.Places.fits_more}
 use Rattle.pk_law_steps.proofs.entries.Goals as goal
 
 pub returns-clause-stores : goal.returns-clause-stores

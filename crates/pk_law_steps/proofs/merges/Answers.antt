@@ -1,8 +1,4 @@
-use Rattle.pk_law_steps.proofs.FreedCounts.{freed_counted}
-use Rattle.pk_law_steps.proofs.Remaining.{merged_still}
-use Rattle.pk_law_steps.proofs.Spelling.{merged_grammar}
-use Rattle.pk_law_steps.proofs.Following.{merged_next}
-use Rattle.pk_law_steps.proofs.Freeing.{freed}
+use Rattle.pk_law_steps.{proofs.FreedCounts.freed_counted, proofs.Remaining.merged_still, proofs.Spelling.merged_grammar, proofs.Following.merged_next, proofs.Freeing.freed}
 use Rattle.pk_law_steps.proofs.merges.Goals as goal
 
 pub returns-clause-merged : goal.returns-clause-merged

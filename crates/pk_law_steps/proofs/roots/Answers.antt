@@ -1,5 +1,4 @@
-use Rattle.pk_law_steps.proofs.Committing.{commits, commits_pair, commit_done}
-use Rattle.pk_law_steps.proofs.Freezing.{freezes}
+use Rattle.pk_law_steps.{proofs.Committing.commits, proofs.Committing.commits_pair, proofs.Committing.commit_done, proofs.Freezing.freezes}
 use Rattle.pk_law_steps.proofs.roots.Goals as goal
 
 pub returns-clause-commits : goal.returns-clause-commits

@@ -1,5 +1,4 @@
-use Rattle.pk_law_steps.proofs.Amounts.{quota_fits}
-use Rattle.pk_law_steps.proofs.Outputs.{output_fits}
+use Rattle.pk_law_steps.{proofs.Amounts.quota_fits, proofs.Outputs.output_fits}
 use Rattle.pk_law_steps.proofs.sizes.Goals as goal
 
 pub returns-clause-output : goal.returns-clause-output

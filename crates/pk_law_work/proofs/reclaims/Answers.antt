@@ -1,5 +1,4 @@
-use Rattle.pk_law_work.proofs.Lowering.{reclaims, fills}
-use Rattle.pk_law_work.proofs.Victims.{light_victim}
+use Rattle.pk_law_work.{proofs.Lowering.reclaims, proofs.Lowering.fills, proofs.Victims.light_victim}
 use Rattle.pk_law_work.proofs.reclaims.Goals as goal
 
 pub returns-clause-steps : goal.returns-clause-steps

@@ -1,8 +1,6 @@
-use Rattle.std.proofs.Common.{◌∙◌, Option, sym, ap, arith}
-use Rattle.std.specs.Prelude.{option_map}
+use Rattle.std.{proofs.Common.◌∙◌, proofs.Common.Option, proofs.Common.sym, proofs.Common.ap, proofs.Common.arith, specs.Prelude.option_map}
 use Rattle.pk_nvme.specs.Bytes.{RoomyList}
-use Rattle.pk_asm.specs.Line.{Line, entry_in, line_bytes, entry_said}
-use Rattle.pk_asm.specs.Words.{words}
+use Rattle.pk_asm.{specs.Line.Line, specs.Line.entry_in, specs.Line.line_bytes, specs.Line.entry_said, specs.Words.words}
 use Rattle.pk_asm.proofs.LineLemmas.{says_entry, no_comment, entry_some, entry_none, bytes_said, emptied}
 use Rattle.pk_asm.proofs.assemble.assemble_line.Goals as goal
 

@@ -1,7 +1,5 @@
-use Rattle.std.proofs.Common.{◌∙◌, ap, sym, Option, List, ℕ}
-use Rattle.std.specs.Prelude.{option_map}
-use Rattle.pk_asm.proofs.SplitLemmas.{operands_fit, operands_below}
-use Rattle.pk_asm.proofs.LineLemmas.{said_named, entry_of_form}
+use Rattle.std.{proofs.Common.◌∙◌, proofs.Common.ap, proofs.Common.sym, proofs.Common.Option, proofs.Common.List, proofs.Common.ℕ, specs.Prelude.option_map}
+use Rattle.pk_asm.{proofs.SplitLemmas.operands_fit, proofs.SplitLemmas.operands_below, proofs.LineLemmas.said_named, proofs.LineLemmas.entry_of_form}
 use Rattle.pk_asm.proofs.assemble.entry_said.Goals as goal
 
 pub raw-requires-clause-fits : goal.raw-requires-clause-fits

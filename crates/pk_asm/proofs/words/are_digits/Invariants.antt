@@ -1,6 +1,4 @@
-use Rattle.std.proofs.Common.{◌≡◌, true, take}
-use Rattle.std.specs.Char.{is_ascii_digit}
-use Rattle.std.specs.List.{list_all}
+use Rattle.std.{proofs.Common.◌≡◌, proofs.Common.true, proofs.Common.take, specs.Char.is_ascii_digit, specs.List.list_all}
 use Rattle.pk_asm.proofs.words.are_digits.Given as goal
 
 abbrev pub invariant-loop-byte : goal.invariant-loop-byte

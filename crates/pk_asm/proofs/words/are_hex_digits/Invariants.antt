@@ -1,5 +1,4 @@
-use Rattle.std.proofs.Common.{◌≡◌, true, take}
-use Rattle.std.specs.List.{list_all}
+use Rattle.std.{proofs.Common.◌≡◌, proofs.Common.true, proofs.Common.take, specs.List.list_all}
 use Rattle.hex.specs.Hex.{is_hex_digit}
 use Rattle.pk_asm.proofs.words.are_hex_digits.Given as goal
 

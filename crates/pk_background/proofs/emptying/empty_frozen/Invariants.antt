@@ -1,5 +1,4 @@
-use Rattle.pk_background.specs.Emptying.{merges_left}
-use Rattle.pk_background.proofs.Emptied.{Emptying}
+use Rattle.pk_background.{specs.Emptying.merges_left, proofs.Emptied.Emptying}
 use Rattle.pk_background.proofs.emptying.empty_frozen.Given as goal
 
 abbrev pub invariant-merges : goal.invariant-merges

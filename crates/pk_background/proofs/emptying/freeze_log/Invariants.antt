@@ -1,5 +1,4 @@
-use Rattle.pk_background.specs.Emptying.{freeze_left_of}
-use Rattle.pk_background.proofs.Emptied.{Ongoing}
+use Rattle.pk_background.{specs.Emptying.freeze_left_of, proofs.Emptied.Ongoing}
 use Rattle.pk_background.proofs.emptying.freeze_log.Given as goal
 
 abbrev pub invariant-freezes : goal.invariant-freezes

@@ -1,9 +1,8 @@
 use Rattle.std.proofs.Common.{inl}
 use Rattle.pk_schedule.specs.Index.{index}
 use Rattle.pk_background.proofs.Inside.{some_freeze, freeze_first, freeze_breaks, freeze_went, freeze_failed}
-use Rattle.pk_background.proofs.MergeTicks.{freeze_does, freeze_fails}
+use Rattle.pk_background.{proofs.MergeTicks.freeze_does, proofs.MergeTicks.freeze_fails, proofs.emptying.freeze_once.Goals.in-Ok, proofs.emptying.freeze_once.Goals.in-Err}
 use Rattle.pk_background.proofs.emptying.freeze_once.Goals as goal
-use Rattle.pk_background.proofs.emptying.freeze_once.Goals.{in-Ok, in-Err}
 
 pub freeze_step-requires-clause-may : goal.freeze_step-requires-clause-may
 freeze_step-requires-clause-may g c =

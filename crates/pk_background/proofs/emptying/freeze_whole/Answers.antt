@@ -1,9 +1,7 @@
 use Rattle.std.proofs.Common.{subst, ap, ◌∙◌}
 use Rattle.pk_root.specs.Installing.{repeats_next}
 use Rattle.pk_parts.specs.Parts.{Parts}
-use Rattle.pk_background.specs.Emptying.{FreezesOnce}
-use Rattle.pk_background.specs.Pairing.{SettlesOr}
-use Rattle.pk_background.proofs.Whole.{may_settle_freeze, frozen_settled, frozen_unsettled, frozen_failed}
+use Rattle.pk_background.{specs.Emptying.FreezesOnce, specs.Pairing.SettlesOr, proofs.Whole.may_settle_freeze, proofs.Whole.frozen_settled, proofs.Whole.frozen_unsettled, proofs.Whole.frozen_failed}
 use Rattle.pk_background.proofs.emptying.freeze_whole.Goals as goal
 
 pub settle-requires : goal.settle-requires

@@ -1,7 +1,6 @@
 use Rattle.std.proofs.Common.{arith}
 use Rattle.pk_schedule.specs.Index.{index}
-use Rattle.pk_background.proofs.Inside.{some_work, merges_once}
-use Rattle.pk_background.proofs.MergeTicks.{merge_does, merge_fails}
+use Rattle.pk_background.{proofs.Inside.some_work, proofs.Inside.merges_once, proofs.MergeTicks.merge_does, proofs.MergeTicks.merge_fails}
 use Rattle.pk_background.proofs.emptying.merge_once.Goals as goal
 
 pub step-requires-clause-may : goal.step-requires-clause-may

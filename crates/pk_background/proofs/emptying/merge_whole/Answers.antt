@@ -1,6 +1,5 @@
 use Rattle.std.proofs.Common.{subst, ap, ◌∙◌, Ok}
-use Rattle.pk_background.specs.Emptying.{MergesOnce}
-use Rattle.pk_background.specs.Pairing.{SettlesOr}
+use Rattle.pk_background.{specs.Emptying.MergesOnce, specs.Pairing.SettlesOr}
 use Rattle.pk_background.proofs.Whole.{may_settle_merge, merged_settled, merged_unsettled, merged_idle, merged_failed}
 use Rattle.pk_background.proofs.emptying.merge_whole.Goals as goal
 

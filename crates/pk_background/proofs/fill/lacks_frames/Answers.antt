@@ -1,7 +1,6 @@
 use Rattle.std.proofs.Common.{◌≡◌, ◌∙◌, ap, arith, subst, sym}
 use Rattle.pk_run.specs.Kept.{is_pinned}
-use Rattle.pk_level.specs.Levels.{IsLevels, run_of}
-use Rattle.pk_level.specs.Arenas.{last_level}
+use Rattle.pk_level.{specs.Levels.IsLevels, specs.Levels.run_of, specs.Arenas.last_level}
 use Rattle.pk_parts.specs.Parts.{Parts, frames_of}
 use Rattle.pk_background.proofs.Filling.{all_filled, one_unfilled, pinned_next}
 use Rattle.pk_background.proofs.fill.lacks_frames.Goals as goal

@@ -1,7 +1,6 @@
 use Rattle.pk_reclaim.specs.Space.{reclaim_parts}
-use Rattle.pk_background.proofs.Ending.{some_end, commit_ended, commit_failed}
+use Rattle.pk_background.{proofs.Ending.some_end, proofs.Ending.commit_ended, proofs.Ending.commit_failed, proofs.pair.finish_commit.Goals.in-Ok, proofs.pair.finish_commit.Goals.in-Err}
 use Rattle.pk_background.proofs.pair.finish_commit.Goals as goal
-use Rattle.pk_background.proofs.pair.finish_commit.Goals.{in-Ok, in-Err}
 
 pub reclaim_step-requires-clause-may : goal.reclaim_step-requires-clause-may
 reclaim_step-requires-clause-may g c =

@@ -1,7 +1,6 @@
 use Rattle.std.proofs.Common.{ap, sym, ◌∙◌}
 use Rattle.pk_root.specs.Installing.{repeats_next}
-use Rattle.pk_parts.specs.Parts.{Parts}
-use Rattle.pk_parts.proofs.Halves.{commit_half}
+use Rattle.pk_parts.{specs.Parts.Parts, proofs.Halves.commit_half}
 use Rattle.pk_background.proofs.Pairs.{root_finishes, commit_finishes}
 use Rattle.pk_background.proofs.pair.finish_half.Goals as goal
 

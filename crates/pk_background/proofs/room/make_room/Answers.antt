@@ -2,18 +2,11 @@ use Rattle.std.proofs.Common.{ap, sym, ◌∙◌, ◌≡◌, ◌≤◌, arith, r
 use Rattle.pk_base.specs.Entry.{Entry}
 use Rattle.pk_log.specs.State.{needs_freeze}
 use Rattle.pk_law_work.specs.Calls.{commit_calls, room_calls, room_roots}
-use Rattle.pk_background.specs.Emptying.{HasRoom}
-use Rattle.pk_parts.specs.Moves.{LeavesValues}
-use Rattle.pk_parts.specs.Staying.{Stays}
-use Rattle.pk_background.proofs.Results.{on_ok}
+use Rattle.pk_background.{specs.Emptying.HasRoom, proofs.Results.on_ok, proofs.Results.not_wanted_ok, proofs.ReadSteps.running_says, proofs.ReadSteps.running_stopped, proofs.Rooming.still_numbers}
 use Rattle.pk_background.proofs.Steps.{leaves_none, leaves_twice, leaves_committed, shape_committed, may_after}
-use Rattle.pk_background.proofs.ReadSteps.{running_says, running_stopped}
 use Rattle.pk_background.proofs.Emptied.{none_reads, room_committed, committed_spends, not_committed}
 use Rattle.pk_background.proofs.Callings.{few_within, few_commit, spends_same, spends_still}
-use Rattle.pk_background.proofs.Rooming.{still_numbers}
-use Rattle.pk_parts.proofs.Staying.{stays_same, stays_then}
-use Rattle.pk_background.proofs.Results.{not_wanted_ok}
-use Rattle.pk_parts.proofs.Halves.{may_commit}
+use Rattle.pk_parts.{specs.Moves.LeavesValues, specs.Staying.Stays, proofs.Staying.stays_same, proofs.Staying.stays_then, proofs.Halves.may_commit}
 use Rattle.pk_background.proofs.room.make_room.Goals as goal
 
 pub commit_pending-requires : goal.commit_pending-requires

@@ -1,12 +1,9 @@
 use Rattle.std.proofs.Common.{arith, Err}
 use Rattle.pk_law_work.specs.Calls.{commit_calls, room_roots}
-use Rattle.pk_background.proofs.ReadSteps.{running_stopped}
-use Rattle.pk_parts.proofs.Stopping.{stopped_kept}
-use Rattle.pk_background.proofs.Steps.{shape_committed, leaves_committed}
+use Rattle.pk_background.{proofs.ReadSteps.running_stopped, proofs.Steps.shape_committed, proofs.Steps.leaves_committed, specs.Costs.reclaim_calls}
 use Rattle.pk_background.proofs.Callings.{few_within, few_commit, spends_still}
-use Rattle.pk_background.specs.Costs.{reclaim_calls}
 use Rattle.pk_background.proofs.Stored.{space_committed, space_made, space_spends, space_not_made, stays_made, most_committed}
-use Rattle.pk_parts.proofs.Halves.{may_commit}
+use Rattle.pk_parts.{proofs.Stopping.stopped_kept, proofs.Halves.may_commit}
 use Rattle.pk_background.proofs.space.make_space.Goals as goal
 
 pub commit_pending-requires : goal.commit_pending-requires

@@ -1,10 +1,8 @@
 use Rattle.std.proofs.Common.{◌≡◌, sym, ◌∙◌, []}
-use Rattle.pk_background.specs.Spacing.{SameMapAll, StaysSame}
-use Rattle.pk_background.proofs.Halted.{fails_running, fails_step}
-use Rattle.pk_parts.proofs.Stopping.{fails_stopped}
+use Rattle.pk_background.{specs.Spacing.SameMapAll, specs.Spacing.StaysSame, proofs.Halted.fails_running, proofs.Halted.fails_step}
 use Rattle.pk_background.proofs.SpaceSteps.{spacing_begin, may_space, most_still, spacing_more, less_spacing, spacing_end, spacing_failed, end_spends, broken_spends, failed_none, failed_stays}
-use Rattle.pk_background.proofs.SpaceSteps.{awaits_is}
-use Rattle.pk_background.proofs.SpaceSteps.{room_is}
+use Rattle.pk_background.proofs.SpaceSteps.{awaits_is, room_is}
+use Rattle.pk_parts.proofs.Stopping.{fails_stopped}
 use Rattle.pk_background.proofs.space.reclaim_for.Goals as goal
 
 pub reclaims-init : goal.reclaims-init

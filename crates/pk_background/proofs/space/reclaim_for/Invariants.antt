@@ -1,5 +1,4 @@
-use Rattle.pk_background.specs.Spacing.{space_left}
-use Rattle.pk_background.proofs.SpaceSteps.{Spacing}
+use Rattle.pk_background.{specs.Spacing.space_left, proofs.SpaceSteps.Spacing}
 use Rattle.pk_background.proofs.space.reclaim_for.Given as goal
 
 abbrev pub invariant-reclaims : goal.invariant-reclaims

@@ -1,8 +1,7 @@
 use Rattle.std.proofs.Common.{ap, true}
 use Rattle.pk_parts.specs.Parts.{Parts}
 use Rattle.pk_pool.proofs.Leaving.{unfreed_fits}
-use Rattle.pk_background.proofs.Advancing.{erase_advances, idle_advances, erase_failed}
-use Rattle.pk_background.proofs.Ticking.{one_erased, none_erased}
+use Rattle.pk_background.{proofs.Advancing.erase_advances, proofs.Advancing.idle_advances, proofs.Advancing.erase_failed, proofs.Ticking.one_erased, proofs.Ticking.none_erased}
 use Rattle.pk_background.proofs.tick.erase_step.Goals as goal
 
 pub erase_spare-requires-clause-fits : goal.erase_spare-requires-clause-fits

@@ -1,5 +1,4 @@
-use Rattle.std.proofs.Common.{subst}
-use Rattle.std.specs.List.{AllByRecursion}
+use Rattle.std.{proofs.Common.subst, specs.List.AllByRecursion}
 use Rattle.pk_run.specs.Kept.{IsKept}
 use Rattle.pk_level.specs.Levels.{IsLevels}
 use Rattle.pk_parts.specs.Parts.{Parts}

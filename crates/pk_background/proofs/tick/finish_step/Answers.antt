@@ -1,8 +1,7 @@
 use Rattle.std.proofs.Common.{subst}
 use Rattle.pk_pool.specs.Blocks.{IsShared}
 use Rattle.pk_parts.specs.Parts.{Parts}
-use Rattle.pk_background.specs.Pairing.{FinishesOr}
-use Rattle.pk_background.proofs.HalfTicks.{may_finish, half_advances, half_stops}
+use Rattle.pk_background.{specs.Pairing.FinishesOr, proofs.HalfTicks.may_finish, proofs.HalfTicks.half_advances, proofs.HalfTicks.half_stops}
 use Rattle.pk_background.proofs.tick.finish_step.Goals as goal
 
 pub finish_half-requires : goal.finish_half-requires

@@ -1,8 +1,7 @@
 use Rattle.std.proofs.Common.{subst}
 use Rattle.pk_pool.specs.Blocks.{IsShared}
 use Rattle.pk_parts.specs.Parts.{Parts}
-use Rattle.pk_background.specs.Emptying.{FreezesOnce}
-use Rattle.pk_background.proofs.MergeTicks.{may_empty, tick_frozen, tick_unfrozen}
+use Rattle.pk_background.{specs.Emptying.FreezesOnce, proofs.MergeTicks.may_empty, proofs.MergeTicks.tick_frozen, proofs.MergeTicks.tick_unfrozen}
 use Rattle.pk_background.proofs.tick.freeze_step.Goals as goal
 
 pub freeze_once-requires-clause-may : goal.freeze_once-requires-clause-may

@@ -1,6 +1,5 @@
 use Rattle.std.proofs.Common.{ap, subst, ◌∙◌, Ok, Err}
-use Rattle.pk_background.specs.Emptying.{MergesOnce}
-use Rattle.pk_background.specs.Merging.{DoesMerge, FailsMerge}
+use Rattle.pk_background.{specs.Emptying.MergesOnce, specs.Merging.DoesMerge, specs.Merging.FailsMerge}
 use Rattle.pk_background.proofs.MergeTicks.{may_empty, tick_merged, tick_unread, tick_stopped}
 use Rattle.pk_background.proofs.tick.merge_step.Goals as goal
 

@@ -1,8 +1,7 @@
 use Rattle.std.proofs.Common.{◌≡◌, refl, sym, true, false, subst}
 use Rattle.pk_pool.specs.Blocks.{IsShared}
 use Rattle.pk_parts.specs.Parts.{Parts, is_half}
-use Rattle.pk_background.specs.Reclaiming.{FailsReclaim}
-use Rattle.pk_background.proofs.SpaceSteps.{waits_is}
+use Rattle.pk_background.{specs.Reclaiming.FailsReclaim, proofs.SpaceSteps.waits_is}
 use Rattle.pk_background.proofs.ReclaimTicks.{may_reclaim, goes_on, ends_so, unread_so, stops_so, waits_may, waits_merged, waits_wanted, waits_advances}
 use Rattle.pk_background.proofs.tick.reclaim_step.Goals as goal
 

@@ -1,12 +1,7 @@
-use Rattle.std.proofs.Common.{arith, ◌<◌, length, length-set, ◌∙◌, ap}
-use Rattle.std.specs.FinMap.Entries.{is_sorted-put}
+use Rattle.std.{proofs.Common.arith, proofs.Common.◌<◌, proofs.Common.length, proofs.Common.length-set, proofs.Common.◌∙◌, proofs.Common.ap, specs.FinMap.Entries.is_sorted-put}
 use Rattle.std.proofs.lemmas.Cmp.{nat_list_cmp_total}
-use Rattle.pk_base.specs.Key.{key_cmp}
-use Rattle.pk_base.specs.Entry.{key_of}
-use Rattle.pk_base.specs.Seen.{entry}
-use Rattle.pk_buf.specs.declared.slot.Slot.{Slot}
-use Rattle.pk_buf.specs.Table.{contents}
-use Rattle.pk_buf.proofs.Places.{put_found, put_absent, room_in, written, same_table}
+use Rattle.pk_base.{specs.Key.key_cmp, specs.Entry.key_of, specs.Seen.entry}
+use Rattle.pk_buf.{specs.declared.slot.Slot.Slot, specs.Table.contents, proofs.Places.put_found, proofs.Places.put_absent, proofs.Places.room_in, proofs.Places.written, proofs.Places.same_table}
 use mathlib.Core.Bool.{false≢true}
 use Rattle.pk_buf.proofs.Buffer.put.Goals as goal
 

@@ -1,18 +1,11 @@
 use Rattle.std.proofs.Common.{◌∙◌, sym, ap, ◌≤◌, length, Err, arith}
 use Rattle.pk_base.specs.Shape.{charge}
-use Rattle.pk_parts.specs.Parts.{Parts}
-use Rattle.pk_changes.specs.Changes.{StaysBetween}
-use Rattle.pk_parts.specs.Moves.{KeepsAll, LeavesValues}
-use Rattle.pk_parts.specs.Staying.{Stays, StaysOrOpens}
-use Rattle.pk_changes.proofs.Following.{can_put_after, still_room, step_puts_later, stays_then, stays_kept, put_failed_before}
-use Rattle.pk_background.proofs.ReadSteps.{running_ok, running_failed, running_both}
-use Rattle.pk_parts.proofs.Staying.{stays_opens, opens_put}
-use Rattle.pk_background.proofs.Halted.{fails_running, fails_step}
+use Rattle.pk_parts.{specs.Parts.Parts, specs.Moves.KeepsAll, specs.Moves.LeavesValues, specs.Staying.Stays, specs.Staying.StaysOrOpens, proofs.Staying.stays_opens, proofs.Staying.opens_put}
 use Rattle.pk_parts.proofs.Stopping.{fails_stopped}
-use Rattle.pk_changes.proofs.Quieted.{put_reads_none}
-use Rattle.pk_changes.proofs.Programming.{put_idle}
+use Rattle.pk_changes.{specs.Changes.StaysBetween, proofs.Quieted.put_reads_none, proofs.Programming.put_idle, proofs.StoreCalls.spends_put}
+use Rattle.pk_changes.proofs.Following.{can_put_after, still_room, step_puts_later, stays_then, stays_kept, put_failed_before}
+use Rattle.pk_background.{proofs.ReadSteps.running_ok, proofs.ReadSteps.running_failed, proofs.ReadSteps.running_both, proofs.Halted.fails_running, proofs.Halted.fails_step}
 use Rattle.pk_background.proofs.Callings.{spends_still, spends_within}
-use Rattle.pk_changes.proofs.StoreCalls.{spends_put}
 use Rattle.pk_changes.proofs.change.put.Goals as goal
 
 pub make_room-requires-clause-may : goal.make_room-requires-clause-may

@@ -1,20 +1,12 @@
 use Rattle.std.proofs.Common.{refl, ap, sym, subst, ◌∙◌, arith, Ok, Err, length}
 use Rattle.pk_base.specs.Shape.{Shape, charge}
-use Rattle.pk_nand.specs.declared.types.Fault.TheVariants.{Stopped}
-use Rattle.pk_nand.specs.Calls.{IsReady}
+use Rattle.pk_nand.{specs.declared.types.Fault.TheVariants.Stopped, specs.Calls.IsReady}
 use Rattle.pk_model.proofs.Steps.{Step-broken}
-use Rattle.pk_parts.specs.Parts.{Parts, frames_of}
-use Rattle.pk_parts.specs.Moves.{KeepsAll, BreaksAll}
-use Rattle.pk_changes.specs.Noting.{IsPlaced}
-use Rattle.pk_changes.specs.Changes.{PutsAll, FailsToPut}
-use Rattle.pk_changes.proofs.Putting.{some_puts, some_put, put_changed, put_failed, put_broken}
-use Rattle.pk_parts.proofs.Stopping.{breaks_step, fails_stopped}
-use Rattle.pk_background.proofs.Steps.{later}
-use Rattle.pk_changes.proofs.Following.{stays_committed}
+use Rattle.pk_parts.{specs.Parts.Parts, specs.Parts.frames_of, specs.Moves.KeepsAll, specs.Moves.BreaksAll, proofs.Stopping.breaks_step, proofs.Stopping.fails_stopped}
 use Rattle.pk_parts.proofs.Staying.{opens_then, opens_then_ok}
-use Rattle.pk_changes.proofs.Noted.{noted_after_ok}
-use Rattle.pk_changes.proofs.Programming.{put_programs}
-use Rattle.pk_background.proofs.Callings.{few_within, few_then}
+use Rattle.pk_changes.{specs.Noting.IsPlaced, specs.Changes.PutsAll, specs.Changes.FailsToPut, proofs.Following.stays_committed, proofs.Noted.noted_after_ok, proofs.Programming.put_programs}
+use Rattle.pk_changes.proofs.Putting.{some_puts, some_put, put_changed, put_failed, put_broken}
+use Rattle.pk_background.{proofs.Steps.later, proofs.Callings.few_within, proofs.Callings.few_then}
 use Rattle.pk_changes.proofs.change.put_with_room.Goals as goal
 
 pub place_value-requires-clause-may : goal.place_value-requires-clause-may

@@ -1,14 +1,8 @@
 use Rattle.std.proofs.Common.{◌≤◌, length, Err, arith}
-use Rattle.pk_changes.specs.Changes.{StaysBetween}
-use Rattle.pk_parts.specs.Moves.{KeepsAll, LeavesValues}
-use Rattle.pk_parts.specs.Staying.{Stays}
+use Rattle.pk_changes.{specs.Changes.StaysBetween, proofs.Quieted.put_reads_none, proofs.Programming.take_idle}
 use Rattle.pk_changes.proofs.Following.{can_take_after, step_takes_later, stays_then, stays_kept, take_failed_before}
-use Rattle.pk_background.proofs.ReadSteps.{running_ok, running_failed, running_both}
-use Rattle.pk_parts.proofs.Staying.{stays_then as stays_twice}
-use Rattle.pk_background.proofs.Halted.{fails_running, fails_step}
-use Rattle.pk_parts.proofs.Stopping.{fails_stopped}
-use Rattle.pk_changes.proofs.Quieted.{put_reads_none}
-use Rattle.pk_changes.proofs.Programming.{take_idle}
+use Rattle.pk_parts.{specs.Moves.KeepsAll, specs.Moves.LeavesValues, specs.Staying.Stays, proofs.Staying.stays_then as stays_twice, proofs.Stopping.fails_stopped}
+use Rattle.pk_background.{proofs.ReadSteps.running_ok, proofs.ReadSteps.running_failed, proofs.ReadSteps.running_both, proofs.Halted.fails_running, proofs.Halted.fails_step}
 use Rattle.pk_background.proofs.Callings.{spends_still, spends_within, spends_then}
 use Rattle.pk_changes.proofs.change.take_out.Goals as goal
 

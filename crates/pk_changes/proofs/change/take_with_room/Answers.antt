@@ -1,16 +1,10 @@
 use Rattle.std.proofs.Common.{ap, sym, subst, arith, Ok, Err}
 use Rattle.pk_base.specs.Shape.{Shape}
-use Rattle.pk_nand.specs.declared.types.Fault.TheVariants.{Stopped}
-use Rattle.pk_nand.specs.Calls.{IsReady}
-use Rattle.pk_model.specs.Steps.{Step}
-use Rattle.pk_model.proofs.Steps.{Step-says}
-use Rattle.pk_parts.specs.Parts.{Parts, frames_of}
-use Rattle.pk_parts.specs.Moves.{KeepsAll, BreaksAll}
-use Rattle.pk_changes.specs.Changes.{TakesAll, FailsToTake}
-use Rattle.pk_changes.proofs.Putting.{some_drops, some_taken, take_changed, take_failed}
-use Rattle.pk_changes.proofs.Following.{stays_committed}
-use Rattle.pk_parts.proofs.Staying.{stays_then_ok}
-use Rattle.pk_changes.proofs.Programming.{take_programs}
+use Rattle.pk_nand.{specs.declared.types.Fault.TheVariants.Stopped, specs.Calls.IsReady}
+use Rattle.pk_model.{specs.Steps.Step, proofs.Steps.Step-says}
+use Rattle.pk_parts.{specs.Parts.Parts, specs.Parts.frames_of, specs.Moves.KeepsAll, specs.Moves.BreaksAll, proofs.Staying.stays_then_ok}
+use Rattle.pk_changes.{specs.Changes.TakesAll, specs.Changes.FailsToTake, proofs.Putting.some_drops, proofs.Putting.some_taken, proofs.Putting.take_changed, proofs.Putting.take_failed}
+use Rattle.pk_changes.{proofs.Following.stays_committed, proofs.Programming.take_programs}
 use Rattle.pk_changes.proofs.change.take_with_room.Goals as goal
 
 pub note_gone-requires-clause-drops : goal.note_gone-requires-clause-drops

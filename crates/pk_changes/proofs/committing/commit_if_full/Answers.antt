@@ -1,10 +1,7 @@
-use Rattle.pk_parts.proofs.Halves.{may_commit}
-use Rattle.pk_parts.proofs.Stopping.{stopped_kept}
-use Rattle.pk_background.proofs.Steps.{none_step}
+use Rattle.pk_parts.{proofs.Halves.may_commit, proofs.Stopping.stopped_kept, proofs.Staying.stays_same}
+use Rattle.pk_background.{proofs.Steps.none_step, proofs.Callings.few_same, proofs.Callings.few_commit}
 use Rattle.std.proofs.Common.{refl}
-use Rattle.pk_parts.proofs.Staying.{stays_same}
 use Rattle.pk_changes.proofs.Programming.{full_ok}
-use Rattle.pk_background.proofs.Callings.{few_same, few_commit}
 use Rattle.pk_changes.proofs.committing.commit_if_full.Goals as goal
 
 pub commit_pending-requires : goal.commit_pending-requires

@@ -1,9 +1,9 @@
 use Rattle.pk_changes.proofs.Entries.{gone_short, drops_spaced, drops_held, drops_leave, drops_fit, gone_stands}
+use Rattle.pk_changes.proofs.Programming.{pushed_more}
 use Rattle.std.proofs.Common.{◌∙◌, ap}
 use Rattle.pk_space.specs.Uses.{used_after}
 use Rattle.pk_values.specs.declared.span.Span.{Span}
 use Rattle.pk_parts.proofs.Staying.{note_stays}
-use Rattle.pk_changes.proofs.Programming.{pushed_more}
 use Rattle.pk_changes.proofs.noting.note_gone.Goals as goal
 
 pub span_at-before-requires : goal.span_at-before-requires

@@ -1,11 +1,9 @@
 use Rattle.pk_changes.proofs.Entries.{old_short, puts_spaced, puts_leave, puts_fit, put_moves, put_stands}
+use Rattle.pk_changes.{specs.Noting.pages_at, proofs.Noted.put_noted, proofs.Programming.pushed_more}
 use Rattle.std.proofs.Common.{ℕ, ◌∙◌, ap, sym}
 use Rattle.pk_base.specs.Shape.{charge}
 use Rattle.pk_space.specs.Uses.{used_after}
-use Rattle.pk_changes.specs.Noting.{pages_at}
 use Rattle.pk_parts.proofs.Staying.{note_stays}
-use Rattle.pk_changes.proofs.Noted.{put_noted}
-use Rattle.pk_changes.proofs.Programming.{pushed_more}
 use Rattle.pk_changes.proofs.noting.note_put.Goals as goal
 
 pub span_if_there-before-requires : goal.span_if_there-before-requires

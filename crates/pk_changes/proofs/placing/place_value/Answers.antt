@@ -1,8 +1,5 @@
-use Rattle.pk_changes.proofs.Writing.{place_step}
+use Rattle.pk_changes.{proofs.Writing.place_step, proofs.PlacedStays.place_stays, proofs.Programming.place_programs, proofs.Filling.few_placed}
 use Rattle.pk_background.proofs.Results.{on_ok}
-use Rattle.pk_changes.proofs.PlacedStays.{place_stays}
-use Rattle.pk_changes.proofs.Programming.{place_programs}
-use Rattle.pk_changes.proofs.Filling.{few_placed}
 use Rattle.pk_changes.proofs.placing.place_value.Goals as goal
 
 pub returns-clause-step : goal.returns-clause-step

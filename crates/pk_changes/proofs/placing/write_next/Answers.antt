@@ -1,6 +1,5 @@
 use Rattle.std.proofs.Common.{ℕ, inr, subst}
-use Rattle.pk_changes.specs.Placing.{Reserves}
-use Rattle.pk_changes.proofs.Filling.{places_value}
+use Rattle.pk_changes.{specs.Placing.Reserves, proofs.Filling.places_value}
 use Rattle.pk_changes.proofs.placing.write_next.Goals as goal
 
 pub returns-in-Ok-write_value-clause-places : goal.returns-in-Ok-write_value-clause-places

@@ -3,9 +3,7 @@ use Rattle.pk_base.specs.Shape.{Shape}
 use Rattle.pk_rootfmt.specs.Held.{Held}
 use Rattle.pk_model.specs.Growth.{Grows}
 use Rattle.pk_compact.proofs.FreezeStepping.{first_step, second_step, take_broken, epoch_least, newest_two, can_prepare_at, erase_step, erase_broken, can_install, root_step, root_broken}
-use Rattle.pk_compact.proofs.Growing.{took_grows, took_calls, erase_failed_calls}
-use Rattle.pk_compact.proofs.NextRoot.{programs_then}
-use Rattle.pk_compact.proofs.TakingOne.{is_shape}
+use Rattle.pk_compact.{proofs.Growing.took_grows, proofs.Growing.took_calls, proofs.Growing.erase_failed_calls, proofs.NextRoot.programs_then, proofs.TakingOne.is_shape}
 use Rattle.pk_compact.proofs.freezing.freeze_step.Goals as goal
 
 pub follow-requires-clause-epoch : goal.follow-requires-clause-epoch

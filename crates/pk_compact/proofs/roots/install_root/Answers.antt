@@ -1,7 +1,6 @@
 use Rattle.std.proofs.Common.{subst}
 use Rattle.pk_base.specs.Shape.{Shape, IsShape}
-use Rattle.pk_compact.proofs.Growing.{install_step}
-use Rattle.pk_compact.proofs.NextRoot.{greater}
+use Rattle.pk_compact.{proofs.Growing.install_step, proofs.NextRoot.greater}
 use Rattle.pk_compact.proofs.roots.install_root.Goals as goal
 
 pub program-requires-clause-grammar : goal.program-requires-clause-grammar

@@ -1,14 +1,10 @@
 use Rattle.std.proofs.Common.{◌≡◌, refl, sym, ap, subst, arith, ℕ, ◌≤◌, [], length}
-use Rattle.pk_parts.specs.Parts.{drive_limits}
-use Rattle.pk_parts.proofs.OwnLimits.{reported_length}
-use Rattle.pk_nvme.specs.Seen.{command_of}
-use Rattle.pk_nvme.specs.Opcode.{op_of}
-use Rattle.pk_nvme.specs.declared.opcode.Opcode.TheVariants.{Report}
+use Rattle.pk_parts.{specs.Parts.drive_limits, proofs.OwnLimits.reported_length}
+use Rattle.pk_nvme.{specs.Seen.command_of, specs.Opcode.op_of, specs.declared.opcode.Opcode.TheVariants.Report}
 use Rattle.pk_model.proofs.Answering.{key_spaced}
-use Rattle.pk_core.proofs.Executing.{executes_quiet}
-use Rattle.pk_call.specs.Calling.{only_looks}
-use Rattle.pk_core.proofs.Performing.{performs_looking, performs_store, performs_delete, performs_tick}
+use Rattle.pk_core.{proofs.Executing.executes_quiet, proofs.Performing.performs_looking, proofs.Performing.performs_store, proofs.Performing.performs_delete, proofs.Performing.performs_tick}
 use Rattle.pk_core.proofs.Callings.{few_for_looks}
+use Rattle.pk_call.specs.Calling.{only_looks}
 use Rattle.pk_background.proofs.Callings.{few_within, few_none}
 use Rattle.pk_core.proofs.engine.perform.Goals as goal
 

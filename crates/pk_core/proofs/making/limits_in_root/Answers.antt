@@ -2,8 +2,8 @@ use Rattle.std.proofs.Common.{◌∙◌, ℕ, List, subst, sym}
 use Rattle.pk_base.specs.Shape.{Shape}
 use Rattle.pk_space.specs.Limits.{AcceptsLimits}
 use Rattle.pk_core.proofs.WrittenLimits.{other_limits, root_grammar}
-use Rattle.pk_core.proofs.making.limits_in_root.Goals as goal
 use Rattle.pk_core.proofs.making.limits_in_root.Goals.{else-each-eq1-via-then-each-eq1+else-each-limit, else-each-eq1-via-else-each-eq1}
+use Rattle.pk_core.proofs.making.limits_in_root.Goals as goal
 
 pub returns-clause-grammar : goal.returns-clause-grammar
 returns-clause-grammar c =

@@ -1,5 +1,4 @@
-use Rattle.pk_core.proofs.Formatting.{Formed, programs_form, programs_of, programs_failed}
-use Rattle.pk_core.proofs.making.write_first_root.Given.{Over}
+use Rattle.pk_core.{proofs.Formatting.Formed, proofs.Formatting.programs_form, proofs.Formatting.programs_of, proofs.Formatting.programs_failed, proofs.making.write_first_root.Given.Over}
 use Rattle.pk_core.proofs.making.write_first_root.Goals as goal
 
 formed : (g : Over) (c : goal.In-Ok g) → Formed c.args.shape (g.B.Nand.state c.write_pair.new.board).pages c.args.limits.now

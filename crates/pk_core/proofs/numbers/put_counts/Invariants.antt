@@ -1,5 +1,4 @@
-use Rattle.std.proofs.Common.{◌≡◌, ◌*◌, length, take}
-use Rattle.std.specs.List.{flat_map}
+use Rattle.std.{proofs.Common.◌≡◌, proofs.Common.◌*◌, proofs.Common.length, proofs.Common.take, specs.List.flat_map}
 use Rattle.pk_base.specs.Fields.{u32}
 use Rattle.pk_core.proofs.numbers.put_counts.Given as goal
 

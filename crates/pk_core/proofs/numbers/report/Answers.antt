@@ -1,6 +1,5 @@
 use Rattle.std.proofs.Common.{◌∙◌, ◌≤◌, ℕ, subst, length}
-use Rattle.pk_parts.specs.Parts.{drive_limits}
-use Rattle.pk_parts.proofs.OwnLimits.{reported_length}
+use Rattle.pk_parts.{specs.Parts.drive_limits, proofs.OwnLimits.reported_length}
 use Rattle.pk_call.specs.Exec.{report_of}
 use Rattle.pk_core.proofs.Counting.{report_done}
 use Rattle.pk_core.proofs.numbers.report.Goals as goal

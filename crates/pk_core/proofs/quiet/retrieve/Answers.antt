@@ -1,16 +1,11 @@
 use Rattle.std.proofs.Common.{◌≤◌, ◌∙◌, length, ap, arith, subst, ◌-◌, refl, []}
 use Rattle.pk_nand.specs.Calls.{last_count}
-use Rattle.pk_parts.specs.Parts.{most_looks, drive_limits}
-use Rattle.pk_parts.specs.Quiet.{Looks}
+use Rattle.pk_parts.{specs.Parts.most_looks, specs.Parts.drive_limits, specs.Quiet.Looks}
 use Rattle.pk_core.proofs.Unchanging.{retrieve_found, retrieve_none, unread_value, front_of, front_moved, room_of, value_reads, value_breaks, few_of}
-use Rattle.pk_nvme.specs.Seen.{command_of}
-use Rattle.pk_call.specs.declared.types.Outcome.{Outcome}
-use Rattle.pk_core.proofs.Executing.{executes_quiet, same_but_walk}
-use Rattle.pk_core.proofs.LookedUp.{executes_unread}
-use Rattle.pk_core.proofs.Sights.{only_reads, only_failing}
+use Rattle.pk_core.{proofs.Executing.executes_quiet, proofs.Executing.same_but_walk, proofs.LookedUp.executes_unread, proofs.Sights.only_reads, proofs.Sights.only_failing}
 use Rattle.pk_core.proofs.Callings.{few_looked, few_failed, looks_less}
-use Rattle.pk_nvme.specs.Opcode.{op_of}
-use Rattle.pk_nvme.specs.declared.opcode.Opcode.TheVariants.{Retrieve}
+use Rattle.pk_nvme.{specs.Seen.command_of, specs.Opcode.op_of, specs.declared.opcode.Opcode.TheVariants.Retrieve}
+use Rattle.pk_call.specs.declared.types.Outcome.{Outcome}
 use Rattle.pk_model.proofs.Answering.{key_spaced}
 use Rattle.pk_core.proofs.quiet.retrieve.Goals as goal
 

@@ -1,18 +1,10 @@
 use Rattle.std.proofs.Common.{ap, arith, false, length, refl, []}
-use Rattle.pk_core.proofs.LookedUp.{looked_up, executes_behind, executes_unread}
-use Rattle.pk_core.proofs.Served.{delete_is_other}
-use Rattle.pk_core.proofs.Staying.{stays_from}
-use Rattle.pk_parts.proofs.Staying.{stays_same}
-use Rattle.pk_core.proofs.Statuses.{told_refused}
-use Rattle.pk_core.proofs.Programming.{quiet_delete_behind}
-use Rattle.pk_core.proofs.Quieted.{reads_behind, whole_looked}
-use Rattle.pk_core.proofs.Callings.{spends_reads, spends_failed}
-use Rattle.pk_parts.specs.Parts.{Parts, drive_limits}
+use Rattle.pk_core.{proofs.LookedUp.looked_up, proofs.LookedUp.executes_behind, proofs.LookedUp.executes_unread, proofs.Served.delete_is_other, proofs.Staying.stays_from, proofs.Statuses.told_refused}
+use Rattle.pk_core.{proofs.Programming.quiet_delete_behind, proofs.Quieted.reads_behind, proofs.Quieted.whole_looked, proofs.Callings.spends_reads, proofs.Callings.spends_failed}
+use Rattle.pk_parts.{proofs.Staying.stays_same, specs.Parts.Parts, specs.Parts.drive_limits}
 use Rattle.pk_changes.proofs.StoreCalls.{spends_delete}
-use Rattle.pk_nvme.specs.Opcode.{op_of}
-use Rattle.pk_nvme.specs.declared.opcode.Opcode.TheVariants.{Delete}
+use Rattle.pk_nvme.{specs.Opcode.op_of, specs.declared.opcode.Opcode.TheVariants.Delete, specs.Seen.command_of}
 use Rattle.pk_model.proofs.Answering.{key_spaced}
-use Rattle.pk_nvme.specs.Seen.{command_of}
 use Rattle.pk_core.proofs.store.delete.Goals as goal
 
 pub key-key-requires-clause-space : goal.key-key-requires-clause-space

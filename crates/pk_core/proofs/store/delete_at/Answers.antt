@@ -1,14 +1,9 @@
 use Rattle.std.proofs.Common.{ap, ◌-◌, [], refl, subst, arith, false, ℕ}
 use Rattle.pk_nvme.specs.Seen.{command_of}
 use Rattle.pk_call.specs.declared.types.Outcome.{Outcome}
-use Rattle.pk_core.specs.Done.{Executes}
+use Rattle.pk_core.{specs.Done.Executes, proofs.LookedUp.deletes_none, proofs.LookedUp.deletes_came, proofs.Amounts.room_few, proofs.Amounts.room_last, proofs.Executing.executes_quiet}
+use Rattle.pk_core.{proofs.Served.can_take, proofs.Served.delete_missing, proofs.Served.delete_came, proofs.Served.none_read, proofs.Whole.take_makes_whole, proofs.Statuses.told_refused}
 use Rattle.pk_parts.specs.Quiet.{Looks}
-use Rattle.pk_core.proofs.LookedUp.{deletes_none, deletes_came}
-use Rattle.pk_core.proofs.Amounts.{room_few, room_last}
-use Rattle.pk_core.proofs.Executing.{executes_quiet}
-use Rattle.pk_core.proofs.Served.{can_take, delete_missing, delete_came, none_read}
-use Rattle.pk_core.proofs.Whole.{take_makes_whole}
-use Rattle.pk_core.proofs.Statuses.{told_refused}
 use Rattle.pk_background.proofs.Callings.{spends_same}
 use Rattle.pk_core.proofs.store.delete_at.Goals as goal
 

@@ -1,21 +1,11 @@
 use Rattle.std.proofs.Common.{ap, arith, subst, false, length, refl, []}
-use Rattle.pk_core.proofs.LookedUp.{looked_up, executes_behind, executes_unread}
-use Rattle.pk_core.proofs.Served.{store_is_other}
-use Rattle.pk_core.proofs.Staying.{opens_from}
-use Rattle.pk_parts.proofs.Staying.{stays_same, stays_opens}
-use Rattle.pk_parts.specs.Staying.{IsNoted}
-use Rattle.pk_core.proofs.Statuses.{told_refused}
-use Rattle.pk_core.proofs.Programming.{quiet_store_behind}
-use Rattle.pk_core.proofs.Quieted.{reads_behind, whole_looked}
-use Rattle.pk_core.proofs.Stored.{room_looked}
+use Rattle.pk_core.{proofs.LookedUp.looked_up, proofs.LookedUp.executes_behind, proofs.LookedUp.executes_unread, proofs.Served.store_is_other, proofs.Staying.opens_from, proofs.Statuses.told_refused}
+use Rattle.pk_core.{proofs.Programming.quiet_store_behind, proofs.Quieted.reads_behind, proofs.Quieted.whole_looked, proofs.Stored.room_looked}
 use Rattle.pk_core.proofs.Callings.{spends_reads, spends_failed}
-use Rattle.pk_parts.specs.Parts.{Parts, drive_limits}
+use Rattle.pk_parts.{proofs.Staying.stays_same, proofs.Staying.stays_opens, specs.Staying.IsNoted, specs.Parts.Parts, specs.Parts.drive_limits, proofs.Unchanging.agrees_ready}
 use Rattle.pk_changes.proofs.StoreCalls.{spends_store}
-use Rattle.pk_nvme.specs.Opcode.{op_of}
-use Rattle.pk_nvme.specs.declared.opcode.Opcode.TheVariants.{Store}
+use Rattle.pk_nvme.{specs.Opcode.op_of, specs.declared.opcode.Opcode.TheVariants.Store, specs.Seen.command_of}
 use Rattle.pk_model.proofs.Answering.{key_spaced}
-use Rattle.pk_nvme.specs.Seen.{command_of}
-use Rattle.pk_parts.proofs.Unchanging.{agrees_ready}
 use Rattle.pk_core.proofs.store.store.Goals as goal
 
 pub key-key-requires-clause-space : goal.key-key-requires-clause-space

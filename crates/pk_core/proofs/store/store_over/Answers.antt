@@ -1,21 +1,15 @@
 use Rattle.std.proofs.Common.{ap, refl, sym, subst, ◌∙◌, length, ◌-◌, ◌+◌, is_some, arith, false, ℕ}
 use Rattle.pk_nvme.specs.Seen.{command_of}
-use Rattle.pk_base.specs.Shape.{charge}
+use Rattle.pk_base.{specs.Shape.charge, specs.Key.space_of}
 use Rattle.pk_call.specs.declared.types.Outcome.{Outcome}
-use Rattle.pk_core.specs.Done.{Executes}
+use Rattle.pk_core.{specs.Done.Executes, proofs.LookedUp.stores_none, proofs.LookedUp.stores_came, proofs.Amounts.store_few, proofs.Executing.executes_quiet, proofs.Whole.put_makes_whole}
+use Rattle.pk_core.proofs.Served.{short_place, key_within, can_put, store_refused, store_came, none_read}
+use Rattle.pk_core.{proofs.Statuses.told_refused, proofs.Statuses.store_refuses, proofs.StoreCalls.spends_stored}
 use Rattle.pk_changes.specs.Noting.{pages_at}
-use Rattle.pk_base.specs.Key.{space_of}
 use Rattle.pk_space.specs.Uses.{space_live}
 use Rattle.pk_model.specs.Spaces.{limit_of}
 use Rattle.pk_parts.specs.Parts.{terms_of}
-use Rattle.pk_core.proofs.LookedUp.{stores_none, stores_came}
-use Rattle.pk_core.proofs.Amounts.{store_few}
-use Rattle.pk_core.proofs.Executing.{executes_quiet}
-use Rattle.pk_core.proofs.Served.{short_place, key_within, can_put, store_refused, store_came, none_read}
-use Rattle.pk_core.proofs.Whole.{put_makes_whole}
-use Rattle.pk_core.proofs.Statuses.{told_refused, store_refuses}
 use Rattle.pk_background.proofs.Callings.{spends_same}
-use Rattle.pk_core.proofs.StoreCalls.{spends_stored}
 use Rattle.pk_core.proofs.store.store_over.Goals as goal
 
 pub fault_of_store-requires-clause-old_short : goal.fault_of_store-requires-clause-old_short

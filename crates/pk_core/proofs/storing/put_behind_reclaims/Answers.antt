@@ -1,11 +1,9 @@
 use Rattle.std.proofs.Common.{length, arith, sym, ap, ◌∙◌}
-use Rattle.pk_base.specs.Shape.{charge}
-use Rattle.pk_base.proofs.ShapeLemmas.{charge_most}
+use Rattle.pk_base.{specs.Shape.charge, proofs.ShapeLemmas.charge_most}
 use Rattle.pk_law_work.specs.Calls.{space_calls}
-use Rattle.pk_background.specs.Spacing.{needs}
+use Rattle.pk_background.{specs.Spacing.needs, proofs.Callings.spends_within}
 use Rattle.pk_core.proofs.Stored.{can_behind, room_behind, numbers_behind, stores_behind, stores_failed, stays_behind, stays_failed, fresh_behind, fresh_failed, opens_behind, space_numbers}
 use Rattle.pk_core.proofs.Stored.{store_numbers}
-use Rattle.pk_background.proofs.Callings.{spends_within}
 use Rattle.pk_changes.proofs.StoreCalls.{spends_behind}
 use Rattle.pk_core.proofs.storing.put_behind_reclaims.Goals as goal
 

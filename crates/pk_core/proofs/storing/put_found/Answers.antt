@@ -1,9 +1,8 @@
 use Rattle.std.proofs.Common.{◌∙◌, sym, refl, length, arith, ap}
-use Rattle.pk_parts.proofs.Staying.{stays_opens, stays_same}
+use Rattle.pk_parts.{proofs.Staying.stays_opens, proofs.Staying.stays_same, specs.Parts.Parts}
 use Rattle.pk_core.proofs.Stored.{its_drive, found_can, found_stores, found_unread, found_room, found_numbers, between_same, between_from, opens_looked}
-use Rattle.pk_base.specs.Shape.{charge}
-use Rattle.pk_parts.specs.Parts.{Parts}
 use Rattle.pk_core.proofs.Callings.{spends_reads, spends_breaks}
+use Rattle.pk_base.specs.Shape.{charge}
 use Rattle.pk_changes.proofs.StoreCalls.{spends_found}
 use Rattle.pk_core.proofs.storing.put_found.Goals as goal
 

@@ -1,10 +1,8 @@
 use Rattle.std.proofs.Common.{◌∙◌, sym, ap, length, arith}
-use Rattle.pk_base.proofs.ShapeLemmas.{charge_most}
-use Rattle.pk_background.specs.Spacing.{needs}
+use Rattle.pk_base.{proofs.ShapeLemmas.charge_most, specs.Shape.charge}
+use Rattle.pk_background.{specs.Spacing.needs, proofs.Callings.spends_within}
 use Rattle.pk_law_work.specs.Calls.{room_calls}
-use Rattle.pk_base.specs.Shape.{charge}
 use Rattle.pk_core.proofs.Stored.{store_can, put_stores, put_numbers, reads_if_room}
-use Rattle.pk_background.proofs.Callings.{spends_within}
 use Rattle.pk_core.proofs.storing.put_with_space.Goals as goal
 
 pub put_behind_reclaims-requires-clause-can : goal.put_behind_reclaims-requires-clause-can

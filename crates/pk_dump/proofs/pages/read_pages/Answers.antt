@@ -1,11 +1,9 @@
 use Rattle.std.proofs.Common.{List, ◌<◌, ◌∙◌, length, sym, ap, subst, arith}
 use Rattle.std.proofs.lemmas.List.Elements.{All-nil}
 use Rattle.pk_base.specs.Page.{page_at}
-use Rattle.pk_nand.specs.Seen.{states}
-use Rattle.pk_nand.specs.declared.types.PageState.{PageState}
+use Rattle.pk_nand.{specs.Seen.states, specs.declared.types.PageState.PageState}
 use Rattle.pk_scan.proofs.Boards.{stays_same, stays_both}
-use Rattle.pk_dump.specs.Pages.{AreFull}
-use Rattle.pk_dump.proofs.ReadPages.{states_next, full_next}
+use Rattle.pk_dump.{specs.Pages.AreFull, proofs.ReadPages.states_next, proofs.ReadPages.full_next}
 use Rattle.pk_dump.proofs.pages.read_pages.Goals as goal
 
 pub loop-page-init : goal.loop-page-init

@@ -1,7 +1,5 @@
-use Rattle.std.proofs.Common.{◌≤◌, ◌∙◌, ℕ, arith}
-use Rattle.std.proofs.lemmas.List.{length-map}
-use Rattle.pk_file.specs.Slots.{pages_of, slot_page}
-use Rattle.pk_file.proofs.Rows.{erase_left, erase_done}
+use Rattle.std.{proofs.Common.◌≤◌, proofs.Common.◌∙◌, proofs.Common.ℕ, proofs.Common.arith, proofs.lemmas.List.length-map}
+use Rattle.pk_file.{specs.Slots.pages_of, specs.Slots.slot_page, proofs.Rows.erase_left, proofs.Rows.erase_done}
 use Rattle.pk_file.proofs.file_board.erase_block.Goals as goal
 
 pub returns-then-cleared-clause-pages : goal.returns-then-cleared-clause-pages

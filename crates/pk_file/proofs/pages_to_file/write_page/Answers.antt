@@ -1,8 +1,7 @@
 use Rattle.std.proofs.Common.{◌∙◌, [], ◌∷◌, List, Option, ap}
 use Rattle.pk_image.specs.declared.tag.TheConstants.{TORN}
 use Rattle.pk_nand.specs.Calls.{longer}
-use Rattle.pk_file.specs.FileSteps.{FileStep, states_set}
-use Rattle.pk_file.proofs.Steps.{steps_more}
+use Rattle.pk_file.{specs.FileSteps.FileStep, specs.FileSteps.states_set, proofs.Steps.steps_more}
 use Rattle.pk_file.proofs.pages_to_file.write_page.Goals as goal
 
 pub returns-in-Ok-sync-2 : goal.returns-in-Ok-sync-2

@@ -1,7 +1,6 @@
 use Rattle.std.proofs.Common.{◌≡◌, length}
 use Rattle.pk_base.specs.Shape.{Shape}
-use Rattle.pk_file.specs.Slots.{pages_of, AllFit, ErasedRow}
-use Rattle.pk_file.specs.Extents.{extents_of}
+use Rattle.pk_file.{specs.Slots.pages_of, specs.Slots.AllFit, specs.Slots.ErasedRow, specs.Extents.extents_of}
 use Rattle.pk_file.proofs.slots.erase_slots.Given as goal
 
 abbrev pub invariant-loop-i : goal.invariant-loop-i

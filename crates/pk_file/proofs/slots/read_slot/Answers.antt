@@ -1,10 +1,7 @@
 use Rattle.std.proofs.Common.{◌∙◌, length, ap, sym}
 use Rattle.pk_base.specs.Page.{Page}
-use Rattle.pk_nand.specs.Operations.{filled}
-use Rattle.pk_nand.specs.Seen.{answer}
-use Rattle.pk_file.specs.Slots.{slot_page}
-use Rattle.pk_file.specs.Trims.{bytes_in}
-use Rattle.pk_file.proofs.Slotting.{page_here, room_for}
+use Rattle.pk_nand.{specs.Operations.filled, specs.Seen.answer}
+use Rattle.pk_file.{specs.Slots.slot_page, specs.Trims.bytes_in, proofs.Slotting.page_here, proofs.Slotting.room_for}
 use Rattle.pk_file.proofs.slots.read_slot.Goals as goal
 
 pub fill-requires : goal.fill-requires

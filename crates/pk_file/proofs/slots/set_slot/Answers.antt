@@ -1,7 +1,5 @@
 use Rattle.std.proofs.lemmas.List.{map-set}
-use Rattle.pk_file.specs.Slots.{slot_page}
-use Rattle.pk_file.specs.Extents.{extent_of}
-use Rattle.pk_file.proofs.Slotting.{fit_set}
+use Rattle.pk_file.{specs.Slots.slot_page, specs.Extents.extent_of, proofs.Slotting.fit_set}
 use Rattle.pk_file.proofs.slots.set_slot.Goals as goal
 
 pub returns-clause-pages : goal.returns-clause-pages

@@ -1,7 +1,6 @@
 use Rattle.std.proofs.Common.{◌≡◌, ◌∙◌, ◌+◌, ◌<◌, length, List, ℕ, take, sym, subst, arith}
 use Rattle.pk_base.specs.Shape.{Shape}
-use Rattle.pk_file.specs.declared.slot.Slot.{Slot}
-use Rattle.pk_file.specs.Slots.{state_bytes, SlotFits, AllFit}
+use Rattle.pk_file.{specs.declared.slot.Slot.Slot, specs.Slots.state_bytes, specs.Slots.SlotFits, specs.Slots.AllFit}
 use Rattle.pk_file.proofs.Slotting.{bytes_more, fit_more, byte_small, states_next}
 use Rattle.pk_file.proofs.slots.slots_of.Goals as goal
 

@@ -1,12 +1,8 @@
 use Rattle.std.proofs.Common.{arith, rules, inl, ap, sym, subst, Some, option_copied}
 use Rattle.std.proofs.lemmas.Grind.{common_steps}
-use Rattle.pk_base.specs.Page.{IsFlash}
-use Rattle.pk_base.specs.Mark.{erase}
-use Rattle.pk_nand.specs.Seen.{states}
-use Rattle.pk_nand.specs.BoardState.{shape_or_none}
-use Rattle.pk_nand.proofs.Leaving.{IsFlash-after, IsFlash-interrupted, full_erase}
-use Rattle.pk_flash.specs.Plan.{left_of}
-use Rattle.pk_flash.proofs.RowLemmas.{row_erased, row_left, row_outcome}
+use Rattle.pk_base.{specs.Page.IsFlash, specs.Mark.erase}
+use Rattle.pk_nand.{specs.Seen.states, specs.BoardState.shape_or_none, proofs.Leaving.IsFlash-after, proofs.Leaving.IsFlash-interrupted, proofs.Leaving.full_erase}
+use Rattle.pk_flash.{specs.Plan.left_of, proofs.RowLemmas.row_erased, proofs.RowLemmas.row_left, proofs.RowLemmas.row_outcome}
 use Rattle.pk_flash.proofs.calls.erase_block.Goals as goal
 
 pub returns-in-None-clause-pages : goal.returns-in-None-clause-pages

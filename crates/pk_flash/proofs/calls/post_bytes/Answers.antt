@@ -1,5 +1,4 @@
-use Rattle.std.proofs.Common.{take, drop, inl, ap, Some}
-use Rattle.std.proofs.lemmas.List.{take-append-drop}
+use Rattle.std.{proofs.Common.take, proofs.Common.drop, proofs.Common.inl, proofs.Common.ap, proofs.Common.Some, proofs.lemmas.List.take-append-drop}
 use Rattle.pk_flash.proofs.calls.post_bytes.Goals as goal
 
 pub returns-in-Some-clause-left : goal.returns-in-Some-clause-left

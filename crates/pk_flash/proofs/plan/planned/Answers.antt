@@ -1,5 +1,4 @@
-use Rattle.std.proofs.Common.{arith}
-use Rattle.std.proofs.lemmas.Grind.{common_steps}
+use Rattle.std.{proofs.Common.arith, proofs.lemmas.Grind.common_steps}
 use Rattle.pk_flash.proofs.PlanLemmas.{planned-append}
 use Rattle.pk_flash.proofs.plan.planned.Goals as goal
 

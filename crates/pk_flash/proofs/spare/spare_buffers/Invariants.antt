@@ -1,5 +1,4 @@
-use Rattle.std.proofs.Common.{◌≡◌, ◌≤◌, length}
-use Rattle.std.specs.Prelude.{vec_len, vec_capacity}
+use Rattle.std.{proofs.Common.◌≡◌, proofs.Common.◌≤◌, proofs.Common.length, specs.Prelude.vec_len, specs.Prelude.vec_capacity}
 use Rattle.pk_flash.specs.Spare.{AreSpare}
 use Rattle.pk_flash.proofs.spare.spare_buffers.Given as goal
 

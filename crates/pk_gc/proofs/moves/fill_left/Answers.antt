@@ -1,7 +1,6 @@
 use Rattle.std.proofs.Common.{◌++◌, ◌∷◌, [], List, ap, sym, ◌∙◌, arith}
 use Rattle.pk_base.specs.Entry.{Entry}
-use Rattle.pk_gc.specs.declared.moves.Move.{Move}
-use Rattle.pk_gc.proofs.Listing.{entries_left, left_push, take_next}
+use Rattle.pk_gc.{specs.declared.moves.Move.Move, proofs.Listing.entries_left, proofs.Listing.left_push, proofs.Listing.take_next}
 use Rattle.pk_gc.proofs.moves.fill_left.Goals as goal
 
 pub loop-m-preserved : goal.loop-m-preserved

@@ -1,5 +1,4 @@
-use Rattle.std.proofs.Common.{◌≡◌, ◌<◌, ap, ◌∙◌, arith, true, Some}
-use Rattle.std.specs.Prelude.{slice_get}
+use Rattle.std.{proofs.Common.◌≡◌, proofs.Common.◌<◌, proofs.Common.ap, proofs.Common.◌∙◌, proofs.Common.arith, proofs.Common.true, proofs.Common.Some, specs.Prelude.slice_get}
 use Rattle.pk_base.specs.Shape.{dense}
 use Rattle.pk_live.specs.Values.{Values, count_of}
 use Rattle.pk_gc.proofs.Victims.{some_victim, closed_behind, open_within}

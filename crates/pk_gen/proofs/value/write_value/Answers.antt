@@ -1,10 +1,6 @@
-use Rattle.std.proofs.Common.{ℕ, ◌+◌, ◌-◌, ◌%◌, ap, arith}
-use Rattle.std.specs.Prelude.{codes}
-use Rattle.pk_nvme.specs.Text.{number_text}
-use Rattle.pk_nvme.proofs.TextLemmas.{appended}
-use Rattle.pk_gen.specs.Workload.{letters}
-use Rattle.pk_gen.proofs.Keys.{few_digits}
-use Rattle.pk_gen.proofs.Values.{cleared, length-letters, value_written}
+use Rattle.std.{proofs.Common.ℕ, proofs.Common.◌+◌, proofs.Common.◌-◌, proofs.Common.◌%◌, proofs.Common.ap, proofs.Common.arith, specs.Prelude.codes}
+use Rattle.pk_nvme.{specs.Text.number_text, proofs.TextLemmas.appended}
+use Rattle.pk_gen.{specs.Workload.letters, proofs.Keys.few_digits, proofs.Values.cleared, proofs.Values.length-letters, proofs.Values.value_written}
 use Rattle.pk_gen.proofs.value.write_value.Goals as goal
 
 pub push_number-requires : goal.push_number-requires

@@ -1,7 +1,6 @@
 use Rattle.std.proofs.Common.{◌≤◌, [], ◌∷◌, length, sym, ap, subst, ◌∙◌}
 use Rattle.pk_nvme.specs.Command.{Command, IsWhole}
-use Rattle.pk_host.specs.Port.{room_of}
-use Rattle.pk_host.proofs.CompletionLemmas.{replied}
+use Rattle.pk_host.{specs.Port.room_of, proofs.CompletionLemmas.replied}
 use Rattle.pk_host.proofs.ask.ask.Goals as goal
 
 pub submit-requires-clause-whole : goal.submit-requires-clause-whole

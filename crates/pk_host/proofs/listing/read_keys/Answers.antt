@@ -1,5 +1,4 @@
-use Rattle.std.proofs.Common.{◌∙◌, ℕ, List, length, sym, ap, arith}
-use Rattle.std.specs.Option.{option_copied}
+use Rattle.std.{proofs.Common.◌∙◌, proofs.Common.ℕ, proofs.Common.List, proofs.Common.length, proofs.Common.sym, proofs.Common.ap, proofs.Common.arith, specs.Option.option_copied}
 use Rattle.pk_nvme.specs.Command.{key_or_none}
 use Rattle.pk_model.specs.Answer.{item_bytes}
 use Rattle.pk_host.proofs.ReadLemmas.{stops, goes_on, too_short}

@@ -1,7 +1,6 @@
 use Rattle.std.proofs.Common.{◌≡◌, ◌∙◌, List, ℕ, [], ◌∷◌, take, arith, sym, refl}
 use Rattle.std.proofs.lemmas.List.{take_all}
-use Rattle.pk_base.specs.Fields.{u32, zeros, spelled}
-use Rattle.pk_base.proofs.Tables.{joined, joined_spelled}
+use Rattle.pk_base.{specs.Fields.u32, specs.Fields.zeros, specs.Fields.spelled, proofs.Tables.joined, proofs.Tables.joined_spelled}
 use Rattle.pk_image.specs.Header.{image_magic, header_bytes}
 use Rattle.pk_image.proofs.head.put_header.Goals as goal
 

@@ -1,5 +1,4 @@
-use Rattle.pk_image.specs.Header.{named_shape}
-use Rattle.pk_image.proofs.HeaderLemmas.{named}
+use Rattle.pk_image.{specs.Header.named_shape, proofs.HeaderLemmas.named}
 use Rattle.pk_image.proofs.head.shape_in.Goals as goal
 
 pub returns-clause-named : goal.returns-clause-named

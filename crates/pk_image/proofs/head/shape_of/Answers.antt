@@ -1,5 +1,4 @@
-use Rattle.std.proofs.Common.{ap, ◌∙◌, sym}
-use Rattle.std.specs.Prelude.{is_ok}
+use Rattle.std.{proofs.Common.ap, proofs.Common.◌∙◌, proofs.Common.sym, specs.Prelude.is_ok}
 use Rattle.pk_image.proofs.HeaderLemmas.{short, names_one}
 use Rattle.pk_image.proofs.head.shape_of.Goals as goal
 

@@ -1,7 +1,5 @@
-use Rattle.std.proofs.Common.{◌≡◌, ◌∙◌, ap, arith, true, false, nat_le}
-use Rattle.std.proofs.lemmas.Bool.Decides.{nat_tests}
-use Rattle.pk_base.specs.Key.{space_of}
-use Rattle.pk_base.specs.Seen.{entry as seen}
+use Rattle.std.{proofs.Common.◌≡◌, proofs.Common.◌∙◌, proofs.Common.ap, proofs.Common.arith, proofs.Common.true, proofs.Common.false, proofs.Common.nat_le, proofs.lemmas.Bool.Decides.nat_tests}
+use Rattle.pk_base.{specs.Key.space_of, specs.Seen.entry as seen}
 use Rattle.pk_jrn.proofs.Replaying.{InSpacesTo-next, InSpacesTo-none}
 use Rattle.pk_jrn.proofs.entries.are_in_spaces.Goals as goal
 

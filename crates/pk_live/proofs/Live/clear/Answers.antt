@@ -1,7 +1,5 @@
-use Rattle.std.proofs.Common.{arith, ◌≡◌, ◌/◌}
-use Rattle.std.specs.Prelude.{slice_get, Some}
+use Rattle.std.{proofs.Common.arith, proofs.Common.◌≡◌, proofs.Common.◌/◌, specs.Prelude.slice_get, specs.Prelude.Some, proofs.lemmas.List.get_or_read}
 use Rattle.std.proofs.lemmas.Option.{slice_get_within, get_or_from_slice_get}
-use Rattle.std.proofs.lemmas.List.{get_or_read}
 use Rattle.pk_live.proofs.Counts.{counted_set, counts_cover, block_of}
 use Rattle.pk_live.proofs.Live.clear.Goals as goal
 

@@ -1,7 +1,5 @@
-use Rattle.std.proofs.Common.{arith, ◌≡◌, ◌≤◌, ◌+◌, ◌/◌, ◌%◌}
-use Rattle.std.specs.Prelude.{slice_get, Some}
-use Rattle.std.proofs.lemmas.Option.{slice_get_within, get_or_from_slice_get}
-use Rattle.std.proofs.lemmas.List.{get_or_read}
+use Rattle.std.{proofs.Common.arith, proofs.Common.◌≡◌, proofs.Common.◌≤◌, proofs.Common.◌+◌, proofs.Common.◌/◌, proofs.Common.◌%◌, specs.Prelude.slice_get, specs.Prelude.Some}
+use Rattle.std.{proofs.lemmas.Option.slice_get_within, proofs.lemmas.Option.get_or_from_slice_get, proofs.lemmas.List.get_or_read}
 use Rattle.pk_live.proofs.Counts.{counted_set, counts_are_small, block_of}
 use Rattle.pk_live.proofs.Live.set.Goals as goal
 

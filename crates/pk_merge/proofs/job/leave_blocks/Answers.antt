@@ -1,6 +1,5 @@
 use Rattle.std.proofs.Common.{◌∙◌}
-use Rattle.pk_pool.specs.Blocks.{freed}
-use Rattle.pk_pool.proofs.Leaving.{freed_owned, freed_fits, unfreed_fits}
+use Rattle.pk_pool.{specs.Blocks.freed, proofs.Leaving.freed_owned, proofs.Leaving.freed_fits, proofs.Leaving.unfreed_fits}
 use Rattle.pk_merge.proofs.Freeing.{first_owned, still_owned, freed_next, unready_next}
 use Rattle.pk_merge.proofs.job.leave_blocks.Goals as goal
 

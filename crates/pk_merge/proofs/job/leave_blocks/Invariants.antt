@@ -1,8 +1,7 @@
 use Rattle.std.proofs.Common.{◌≡◌, drop}
 use Rattle.pk_base.specs.Page.{Flash}
 use Rattle.pk_plan.specs.declared.owner.Owner.{Owner}
-use Rattle.pk_pool.specs.Blocks.{given_back, freed, used_by, PoolOnFlash}
-use Rattle.pk_pool.specs.Unready.{unready}
+use Rattle.pk_pool.{specs.Blocks.given_back, specs.Blocks.freed, specs.Blocks.used_by, specs.Blocks.PoolOnFlash, specs.Unready.unready}
 use Rattle.pk_merge.specs.Jobs.{AreOwned}
 use Rattle.pk_merge.proofs.job.leave_blocks.Given as goal
 

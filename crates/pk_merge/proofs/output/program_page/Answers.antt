@@ -1,10 +1,8 @@
-use Rattle.std.proofs.Common.{◌∙◌, ap, sym, length, arith, ℕ}
-use Rattle.std.proofs.lemmas.List.{length-map}
+use Rattle.std.{proofs.Common.◌∙◌, proofs.Common.ap, proofs.Common.sym, proofs.Common.length, proofs.Common.arith, proofs.Common.ℕ, proofs.lemmas.List.length-map}
 use Rattle.pk_base.specs.Seen.{entry as seen, entries as seen_all}
 use Rattle.pk_nand.proofs.Writing.{shape_is}
 use Rattle.pk_run.specs.Kept.{with_page}
-use Rattle.pk_merge.proofs.Places.{InOrder-output, page_exists}
-use Rattle.pk_merge.proofs.Programming.{programs_page, first_of}
+use Rattle.pk_merge.{proofs.Places.InOrder-output, proofs.Places.page_exists, proofs.Programming.programs_page, proofs.Programming.first_of}
 use Rattle.pk_merge.proofs.output.program_page.Goals as goal
 
 pub write_page-requires-clause-order : goal.write_page-requires-clause-order

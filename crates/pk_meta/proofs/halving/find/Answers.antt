@@ -1,7 +1,6 @@
 use Rattle.std.proofs.Common.{ℕ, subst, Option}
 use Rattle.pk_base.specs.Seen.{entry as seen}
-use Rattle.pk_meta.specs.PageChecks.{IsPlaceOf}
-use Rattle.pk_meta.proofs.FindLemmas.{there}
+use Rattle.pk_meta.{specs.PageChecks.IsPlaceOf, proofs.FindLemmas.there}
 use Rattle.pk_meta.proofs.halving.find.Goals as goal
 
 pub returns-in-Some : goal.returns-in-Some

@@ -1,12 +1,10 @@
 use Rattle.std.proofs.Common.{◌≤◌, length, Some, None, sym, subst, ◌∙◌, arith}
 use Rattle.pk_base.specs.Shape.{Shape, greatest}
-use Rattle.pk_mirror.specs.Agreement.{IsPart, HaveSame}
-use Rattle.pk_mirror.specs.Spending.{to_store}
-use Rattle.pk_nvme.specs.declared.opcode.TheConstants.{STORE}
-use Rattle.pk_mirror.proofs.PairLemmas.{still_alike}
+use Rattle.pk_mirror.{specs.Agreement.IsPart, specs.Agreement.HaveSame, specs.Spending.to_store, proofs.PairLemmas.still_alike}
 use Rattle.pk_mirror.proofs.VisitLemmas.{asking_more, cause_later, asked_later}
 use Rattle.pk_mirror.proofs.SpendLemmas.{took_spent, took_spending, took_settled}
 use Rattle.pk_mirror.proofs.PageLemmas.{turning_begins, turning_goes, turning_keeps, turning_fails, turned_all, turns_as, smaller_as}
+use Rattle.pk_nvme.specs.declared.opcode.TheConstants.{STORE}
 use Rattle.pk_mirror.proofs.resync.copy_all.Goals as goal
 
 pub loop-next-init : goal.loop-next-init

@@ -1,8 +1,5 @@
-use Rattle.pk_mirror.specs.Agreement.{IsPart, HaveSame}
-use Rattle.pk_mirror.specs.Ranks.{keys_left}
-use Rattle.pk_mirror.specs.Spending.{to_store}
+use Rattle.pk_mirror.{specs.Agreement.IsPart, specs.Agreement.HaveSame, specs.Ranks.keys_left, specs.Spending.to_store, proofs.PageLemmas.IsTurning}
 use Rattle.pk_nvme.specs.declared.opcode.TheConstants.{STORE}
-use Rattle.pk_mirror.proofs.PageLemmas.{IsTurning}
 use Rattle.pk_mirror.proofs.resync.copy_all.Given as goal
 
 abbrev pub invariant-loop-next : goal.invariant-loop-next

@@ -1,9 +1,7 @@
 use Rattle.std.proofs.Common.{◌≤◌, ◌++◌, length, sym, subst, ◌∙◌, arith}
 use Rattle.pk_base.specs.Shape.{Shape, greatest}
 use Rattle.pk_nvme.specs.declared.opcode.TheConstants.{DELETE}
-use Rattle.pk_mirror.specs.Agreement.{AreAny}
-use Rattle.pk_mirror.specs.Spending.{to_delete}
-use Rattle.pk_mirror.proofs.PairLemmas.{still_alike, on_ok_map, if_err_map}
+use Rattle.pk_mirror.{specs.Agreement.AreAny, specs.Spending.to_delete, proofs.PairLemmas.still_alike, proofs.PairLemmas.on_ok_map, proofs.PairLemmas.if_err_map}
 use Rattle.pk_mirror.proofs.VisitLemmas.{asking_more, cause_later, asked_before, asked_later}
 use Rattle.pk_mirror.proofs.SpendLemmas.{resync_both, resync_first, goes_all, between, spending_spent}
 use Rattle.pk_mirror.proofs.PageLemmas.{both_phases, second_phase_fails}

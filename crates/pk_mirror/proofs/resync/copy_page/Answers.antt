@@ -1,17 +1,10 @@
 use Rattle.std.proofs.Common.{◌≡◌, ◌≤◌, ℕ, List, [], inl, Option, Some, None, length, refl, sym, subst, ◌∙◌}
 use Rattle.std.specs.Option.{option_copied}
 use Rattle.pk_base.specs.Shape.{Shape, greatest}
-use Rattle.pk_nvme.specs.Command.{key_or_none}
-use Rattle.pk_host.specs.Listing.{listed_by}
-use Rattle.pk_host.specs.TookLaws.{took_none}
-use Rattle.pk_mirror.specs.declared.error.Side.TheVariants.{First}
-use Rattle.pk_mirror.specs.Agreement.{HaveSame, IsPart}
-use Rattle.pk_mirror.specs.Spending.{to_store}
-use Rattle.pk_nvme.specs.declared.opcode.TheConstants.{STORE}
-use Rattle.pk_mirror.proofs.ReplyLemmas.{listed_tells}
-use Rattle.pk_mirror.proofs.PairLemmas.{still_alike}
-use Rattle.pk_mirror.proofs.AskLemmas.{list_unread}
-use Rattle.pk_mirror.proofs.KeyLemmas.{first_cause, side_unread, list_keeps, lacks_both}
+use Rattle.pk_nvme.{specs.Command.key_or_none, specs.declared.opcode.TheConstants.STORE}
+use Rattle.pk_host.{specs.Listing.listed_by, specs.TookLaws.took_none}
+use Rattle.pk_mirror.{specs.declared.error.Side.TheVariants.First, specs.Agreement.HaveSame, specs.Agreement.IsPart, specs.Spending.to_store, proofs.ReplyLemmas.listed_tells}
+use Rattle.pk_mirror.{proofs.PairLemmas.still_alike, proofs.AskLemmas.list_unread, proofs.KeyLemmas.first_cause, proofs.KeyLemmas.side_unread, proofs.KeyLemmas.list_keeps, proofs.KeyLemmas.lacks_both}
 use Rattle.pk_mirror.proofs.VisitLemmas.{asking_one, asking_more, cause_later, fails_kept, asked_one, asked_before}
 use Rattle.pk_mirror.proofs.SpendLemmas.{spent_none, spending_looks, looks_no_store, moved_first, moved_first_spent}
 use Rattle.pk_mirror.proofs.PageLemmas.{page_some, page_falls, falls_next, short_from, own_from, turns_some, turns_none}

@@ -1,12 +1,10 @@
 use Rattle.std.proofs.Common.{◌≤◌, length, Some, None, sym, subst, ◌∙◌, arith}
 use Rattle.pk_base.specs.Shape.{Shape, greatest}
-use Rattle.pk_mirror.specs.Agreement.{AreAny, NoOther}
-use Rattle.pk_mirror.specs.Spending.{to_delete}
-use Rattle.pk_nvme.specs.declared.opcode.TheConstants.{DELETE}
-use Rattle.pk_mirror.proofs.PairLemmas.{still_alike}
+use Rattle.pk_mirror.{specs.Agreement.AreAny, specs.Agreement.NoOther, specs.Spending.to_delete, proofs.PairLemmas.still_alike}
 use Rattle.pk_mirror.proofs.VisitLemmas.{asking_more, cause_later, asked_later}
 use Rattle.pk_mirror.proofs.SpendLemmas.{took_spent, took_spending, took_settled}
 use Rattle.pk_mirror.proofs.PageLemmas.{turning_begins, turning_goes, turning_keeps, turning_fails, turned_all, turns_as, smaller_as}
+use Rattle.pk_nvme.specs.declared.opcode.TheConstants.{DELETE}
 use Rattle.pk_mirror.proofs.resync.drop_all.Goals as goal
 
 pub loop-next-init : goal.loop-next-init

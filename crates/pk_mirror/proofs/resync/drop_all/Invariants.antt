@@ -1,8 +1,5 @@
-use Rattle.pk_mirror.specs.Agreement.{AreAny, NoOther}
-use Rattle.pk_mirror.specs.Ranks.{keys_left}
-use Rattle.pk_mirror.specs.Spending.{to_delete}
+use Rattle.pk_mirror.{specs.Agreement.AreAny, specs.Agreement.NoOther, specs.Ranks.keys_left, specs.Spending.to_delete, proofs.PageLemmas.IsTurning}
 use Rattle.pk_nvme.specs.declared.opcode.TheConstants.{DELETE}
-use Rattle.pk_mirror.proofs.PageLemmas.{IsTurning}
 use Rattle.pk_mirror.proofs.resync.drop_all.Given as goal
 
 abbrev pub invariant-loop-next : goal.invariant-loop-next

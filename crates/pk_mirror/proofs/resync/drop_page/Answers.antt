@@ -1,16 +1,9 @@
 use Rattle.std.proofs.Common.{◌≡◌, ℕ, List, [], inl, Option, Some, None, refl}
 use Rattle.std.specs.Option.{option_copied}
-use Rattle.pk_nvme.specs.Command.{key_or_none}
-use Rattle.pk_host.specs.Listing.{listed_by}
-use Rattle.pk_host.specs.TookLaws.{took_none}
-use Rattle.pk_mirror.specs.declared.error.Side.TheVariants.{Second}
-use Rattle.pk_mirror.specs.Agreement.{NoOther, AreAny}
-use Rattle.pk_mirror.specs.Spending.{to_delete}
-use Rattle.pk_nvme.specs.declared.opcode.TheConstants.{DELETE}
-use Rattle.pk_mirror.proofs.ReplyLemmas.{listed_tells}
-use Rattle.pk_mirror.proofs.PairLemmas.{still_alike}
-use Rattle.pk_mirror.proofs.AskLemmas.{list_unread}
-use Rattle.pk_mirror.proofs.KeyLemmas.{second_cause, side_unread, list_keeps}
+use Rattle.pk_nvme.{specs.Command.key_or_none, specs.declared.opcode.TheConstants.DELETE}
+use Rattle.pk_host.{specs.Listing.listed_by, specs.TookLaws.took_none}
+use Rattle.pk_mirror.{specs.declared.error.Side.TheVariants.Second, specs.Agreement.NoOther, specs.Agreement.AreAny, specs.Spending.to_delete, proofs.ReplyLemmas.listed_tells}
+use Rattle.pk_mirror.{proofs.PairLemmas.still_alike, proofs.AskLemmas.list_unread, proofs.KeyLemmas.second_cause, proofs.KeyLemmas.side_unread, proofs.KeyLemmas.list_keeps}
 use Rattle.pk_mirror.proofs.VisitLemmas.{asking_none, cause_later, fails_kept, asked_one, asked_before}
 use Rattle.pk_mirror.proofs.SpendLemmas.{took_spent, took_spending, goes_same, spent_looks, spending_looks, looks_no_delete}
 use Rattle.pk_mirror.proofs.PageLemmas.{page_some, page_falls, falls_next, short_from, own_from, turns_some, turns_none}

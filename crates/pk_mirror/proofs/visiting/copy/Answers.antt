@@ -1,14 +1,10 @@
 use Rattle.std.proofs.Common.{inr, Some, None, [], refl, arith}
 use Rattle.pk_host.specs.Outcomes.{retrieved, stored}
-use Rattle.pk_mirror.specs.declared.error.Side.TheVariants.{First}
-use Rattle.pk_nvme.specs.declared.opcode.TheConstants.{STORE}
-use Rattle.pk_mirror.specs.Agreement.{IsPart}
-use Rattle.pk_mirror.specs.Spending.{to_store}
-use Rattle.pk_mirror.proofs.ReplyLemmas.{retrieved_tells, stored_tells}
-use Rattle.pk_mirror.proofs.AskLemmas.{retrieve_unread}
+use Rattle.pk_mirror.{specs.declared.error.Side.TheVariants.First, specs.Agreement.IsPart, specs.Spending.to_store, proofs.ReplyLemmas.retrieved_tells, proofs.ReplyLemmas.stored_tells}
+use Rattle.pk_mirror.{proofs.AskLemmas.retrieve_unread, proofs.VisitLemmas.asking_one}
 use Rattle.pk_mirror.proofs.KeyLemmas.{fetched_as, fits_told, visits_lacking, visits_stored, first_cause, second_cause, side_unread, store_unread, retrieve_keeps}
 use Rattle.pk_mirror.proofs.SpendLemmas.{spent_none, spending_looks, looks_no_store, stored_one, storing_one, found_has}
-use Rattle.pk_mirror.proofs.VisitLemmas.{asking_one}
+use Rattle.pk_nvme.specs.declared.opcode.TheConstants.{STORE}
 use Rattle.pk_mirror.proofs.visiting.copy.Goals as goal
 
 pub returns-in-Ok-None-clause-visits : goal.returns-in-Ok-None-clause-visits

@@ -1,13 +1,9 @@
 use Rattle.std.proofs.Common.{◌≤◌, [], ◌∷◌, ◌++◌, length, take, sym, ap, subst, ◌∙◌, arith}
 use Rattle.std.proofs.lemmas.List.{take_more, take_all}
-use Rattle.pk_base.specs.Key.{Key}
-use Rattle.pk_base.specs.Shape.{Shape, greatest}
-use Rattle.pk_mirror.specs.Agreement.{IsPart, HaveSame}
-use Rattle.pk_mirror.specs.Spending.{to_store}
-use Rattle.pk_nvme.specs.declared.opcode.TheConstants.{STORE}
-use Rattle.pk_mirror.proofs.PairLemmas.{still_alike}
+use Rattle.pk_base.{specs.Key.Key, specs.Shape.Shape, specs.Shape.greatest}
+use Rattle.pk_mirror.{specs.Agreement.IsPart, specs.Agreement.HaveSame, specs.Spending.to_store, proofs.PairLemmas.still_alike, proofs.SpendLemmas.took_spending, proofs.SpendLemmas.took_settled}
 use Rattle.pk_mirror.proofs.VisitLemmas.{visiting_begins, visiting_goes, visiting_all, visiting_keeps, cause_later, fails_later, asking_more}
-use Rattle.pk_mirror.proofs.SpendLemmas.{took_spending, took_settled}
+use Rattle.pk_nvme.specs.declared.opcode.TheConstants.{STORE}
 use Rattle.pk_mirror.proofs.visiting.copy_all_missing.Goals as goal
 
 pub loop-i-init : goal.loop-i-init

@@ -1,8 +1,6 @@
 use Rattle.std.proofs.Common.{take}
-use Rattle.pk_mirror.specs.Agreement.{IsPart, HaveSame}
-use Rattle.pk_mirror.specs.Spending.{to_store}
+use Rattle.pk_mirror.{specs.Agreement.IsPart, specs.Agreement.HaveSame, specs.Spending.to_store, proofs.VisitLemmas.IsVisiting}
 use Rattle.pk_nvme.specs.declared.opcode.TheConstants.{STORE}
-use Rattle.pk_mirror.proofs.VisitLemmas.{IsVisiting}
 use Rattle.pk_mirror.proofs.visiting.copy_all_missing.Given as goal
 
 abbrev pub invariant-loop-i : goal.invariant-loop-i

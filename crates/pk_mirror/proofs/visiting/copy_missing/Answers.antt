@@ -1,15 +1,11 @@
 use Rattle.std.proofs.Common.{[], inr, refl}
-use Rattle.pk_host.specs.Outcomes.{existed}
-use Rattle.pk_host.specs.TookLaws.{took_none}
-use Rattle.pk_mirror.specs.declared.error.Side.TheVariants.{Second}
-use Rattle.pk_mirror.specs.Agreement.{IsPart, HaveSame}
-use Rattle.pk_nvme.specs.declared.opcode.TheConstants.{STORE}
-use Rattle.pk_mirror.specs.Spending.{to_store}
-use Rattle.pk_mirror.proofs.ReplyLemmas.{existed_tells}
+use Rattle.pk_host.{specs.Outcomes.existed, specs.TookLaws.took_none}
+use Rattle.pk_mirror.{specs.declared.error.Side.TheVariants.Second, specs.Agreement.IsPart, specs.Agreement.HaveSame, specs.Spending.to_store, proofs.ReplyLemmas.existed_tells}
 use Rattle.pk_mirror.proofs.PairLemmas.{still_alike, on_ok_map, if_err_map}
 use Rattle.pk_mirror.proofs.KeyLemmas.{visits_there, visits_from, lacked, second_cause, side_unread, exist_unread, exist_keeps}
 use Rattle.pk_mirror.proofs.VisitLemmas.{asking_none, cause_later, fails_kept}
 use Rattle.pk_mirror.proofs.SpendLemmas.{took_spent, took_spending, goes_same, spent_looks, spending_looks, looks_no_store}
+use Rattle.pk_nvme.specs.declared.opcode.TheConstants.{STORE}
 use Rattle.pk_mirror.proofs.visiting.copy_missing.Goals as goal
 
 pub copy-requires-clause-alike : goal.copy-requires-clause-alike

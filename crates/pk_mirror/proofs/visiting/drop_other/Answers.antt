@@ -1,14 +1,9 @@
 use Rattle.std.proofs.Common.{[], sym, ◌∙◌}
-use Rattle.pk_host.specs.Outcomes.{existed}
-use Rattle.pk_host.specs.TookLaws.{took_none}
-use Rattle.pk_mirror.specs.declared.error.Side.TheVariants.{Second}
-use Rattle.pk_nvme.specs.declared.opcode.TheConstants.{DELETE}
-use Rattle.pk_mirror.specs.Agreement.{AreAny}
-use Rattle.pk_mirror.specs.Spending.{to_delete}
-use Rattle.pk_mirror.proofs.ReplyLemmas.{existed_tells}
+use Rattle.pk_host.{specs.Outcomes.existed, specs.TookLaws.took_none}
+use Rattle.pk_mirror.{specs.declared.error.Side.TheVariants.Second, specs.Agreement.AreAny, specs.Spending.to_delete, proofs.ReplyLemmas.existed_tells, proofs.VisitLemmas.cause_later}
 use Rattle.pk_mirror.proofs.KeyLemmas.{visits_kept, visits_deleted, second_cause, side_unread, delete_unread}
-use Rattle.pk_mirror.proofs.VisitLemmas.{cause_later}
 use Rattle.pk_mirror.proofs.SpendLemmas.{took_spent, took_spending, goes_same, spent_looks, spending_looks, asking_looks, looks_no_delete, deleted_one, deleting_one}
+use Rattle.pk_nvme.specs.declared.opcode.TheConstants.{DELETE}
 use Rattle.pk_mirror.proofs.visiting.drop_other.Goals as goal
 
 pub returns-in-Ok-false-clause-visits : goal.returns-in-Ok-false-clause-visits

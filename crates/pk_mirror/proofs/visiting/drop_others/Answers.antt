@@ -1,13 +1,9 @@
 use Rattle.std.proofs.Common.{◌≤◌, [], ◌∷◌, ◌++◌, length, take, sym, ap, subst, ◌∙◌, arith}
 use Rattle.std.proofs.lemmas.List.{take_more, take_all}
-use Rattle.pk_base.specs.Key.{Key}
-use Rattle.pk_base.specs.Shape.{Shape, greatest}
-use Rattle.pk_mirror.specs.Agreement.{AreAny, NoOther}
-use Rattle.pk_mirror.specs.Spending.{to_delete}
-use Rattle.pk_nvme.specs.declared.opcode.TheConstants.{DELETE}
-use Rattle.pk_mirror.proofs.PairLemmas.{still_alike}
+use Rattle.pk_base.{specs.Key.Key, specs.Shape.Shape, specs.Shape.greatest}
+use Rattle.pk_mirror.{specs.Agreement.AreAny, specs.Agreement.NoOther, specs.Spending.to_delete, proofs.PairLemmas.still_alike, proofs.SpendLemmas.took_spending, proofs.SpendLemmas.took_settled}
 use Rattle.pk_mirror.proofs.VisitLemmas.{visiting_begins, visiting_goes, visiting_all, visiting_keeps, cause_later, fails_later, asking_more}
-use Rattle.pk_mirror.proofs.SpendLemmas.{took_spending, took_settled}
+use Rattle.pk_nvme.specs.declared.opcode.TheConstants.{DELETE}
 use Rattle.pk_mirror.proofs.visiting.drop_others.Goals as goal
 
 pub loop-i-init : goal.loop-i-init

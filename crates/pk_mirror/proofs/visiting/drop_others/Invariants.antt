@@ -1,8 +1,6 @@
 use Rattle.std.proofs.Common.{take}
-use Rattle.pk_mirror.specs.Agreement.{AreAny, NoOther}
-use Rattle.pk_mirror.specs.Spending.{to_delete}
+use Rattle.pk_mirror.{specs.Agreement.AreAny, specs.Agreement.NoOther, specs.Spending.to_delete, proofs.VisitLemmas.IsVisiting}
 use Rattle.pk_nvme.specs.declared.opcode.TheConstants.{DELETE}
-use Rattle.pk_mirror.proofs.VisitLemmas.{IsVisiting}
 use Rattle.pk_mirror.proofs.visiting.drop_others.Given as goal
 
 abbrev pub invariant-loop-i : goal.invariant-loop-i

@@ -1,12 +1,9 @@
 use Rattle.std.proofs.Common.{◌≡◌, true, false, inr, Some, None, refl, sym, subst, arith, ◌≤◌, length}
 use Rattle.pk_base.specs.Shape.{Shape, greatest}
 use Rattle.pk_host.specs.Outcomes.{retrieved}
-use Rattle.pk_mirror.specs.declared.error.Side.TheVariants.{First, Second}
-use Rattle.pk_mirror.proofs.ReplyLemmas.{retrieved_tells}
-use Rattle.pk_mirror.proofs.AskLemmas.{retrieve_unread}
+use Rattle.pk_mirror.{specs.declared.error.Side.TheVariants.First, specs.declared.error.Side.TheVariants.Second, proofs.ReplyLemmas.retrieved_tells, proofs.AskLemmas.retrieve_unread}
 use Rattle.pk_mirror.proofs.KeyLemmas.{fetched_as, fits_told, no_other_none, no_other_same, first_cause, second_cause, side_unread, retrieve_keeps}
-use Rattle.pk_mirror.proofs.SpendLemmas.{found_there}
-use Rattle.pk_mirror.proofs.VisitLemmas.{asking_none, asking_one}
+use Rattle.pk_mirror.{proofs.SpendLemmas.found_there, proofs.VisitLemmas.asking_none, proofs.VisitLemmas.asking_one}
 use Rattle.pk_mirror.proofs.visiting.has_other.Goals as goal
 
 pub returns-in-Ok-None-clause-tells : goal.returns-in-Ok-None-clause-tells

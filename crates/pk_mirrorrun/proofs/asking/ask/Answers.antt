@@ -1,10 +1,8 @@
 use Rattle.std.proofs.Common.{◌≤◌, ◌∙◌, ℕ, List, [], rules, sym, ap, subst}
 use Rattle.pk_base.specs.Shape.{limit}
 use Rattle.pk_model.specs.Spaces.{limit_of, in_space}
-use Rattle.pk_port.proofs.Stepping.{part_of}
-use Rattle.pk_port.proofs.Serving.{mounted_limits}
+use Rattle.pk_port.{proofs.Stepping.part_of, proofs.Serving.mounted_limits, specs.Steps.mount, specs.Steps.standing}
 use Rattle.pk_serve.proofs.Limiting.{first_most}
-use Rattle.pk_port.specs.Steps.{mount, standing}
 use Rattle.pk_mirror.proofs.PairLemmas.{on_ok_map}
 use Rattle.pk_mirrorwords.specs.PairTasks.{seen}
 use Rattle.pk_mirrorrun.proofs.Lending.{told_pair, said_lent}

@@ -1,9 +1,6 @@
 use Rattle.std.proofs.Common.{◌≡◌, Some, OnOk, sym, subst}
 use Rattle.pk_base.specs.Map.{Map}
-use Rattle.pk_mirrorwords.specs.PairTasks.{seen}
-use Rattle.pk_mirrorwords.specs.PairAnswers.{PairDone}
-use Rattle.pk_mirrorwords.specs.declared.task.PairTask.{PairTask}
-use Rattle.pk_mirrorwords.proofs.Composing.{one_of_asking}
+use Rattle.pk_mirrorwords.{specs.PairTasks.seen, specs.PairAnswers.PairDone, specs.declared.task.PairTask.PairTask, proofs.Composing.one_of_asking}
 use Rattle.pk_mirrorwords.proofs.answering.ask_in_step.Goals as goal
 
 pub returns-in-Get-clause-done : goal.returns-in-Get-clause-done

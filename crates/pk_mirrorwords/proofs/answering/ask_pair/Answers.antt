@@ -1,8 +1,7 @@
 use Rattle.std.proofs.Common.{inl, inr, ◌∙◌}
 use Rattle.pk_mirrorwords.specs.PairTasks.{seen}
 use Rattle.pk_mirrorwords.proofs.Composing.{first_both, first_asks, second_both, second_alone, done_later, fails_later, resync_fails, resync_failed, in_step_after}
-use Rattle.pk_mirror.proofs.PairLemmas.{on_ok_map, if_err_map}
-use Rattle.pk_mirror.proofs.VisitLemmas.{asked_before}
+use Rattle.pk_mirror.{proofs.PairLemmas.on_ok_map, proofs.PairLemmas.if_err_map, proofs.VisitLemmas.asked_before}
 use Rattle.pk_mirrorwords.proofs.answering.ask_pair.Goals as goal
 
 pub resync-requires : goal.resync-requires

@@ -1,11 +1,8 @@
 use Rattle.std.proofs.Common.{refl, ap, ◌∙◌}
-use Rattle.pk_nvme.specs.Bytes.{RoomyList}
-use Rattle.pk_nvme.specs.declared.opcode.Opcode.TheVariants.{Delete}
-use Rattle.pk_host.specs.Calls.{delete_of}
-use Rattle.pk_host.specs.Outcomes.{existed}
+use Rattle.pk_nvme.{specs.Bytes.RoomyList, specs.declared.opcode.Opcode.TheVariants.Delete}
+use Rattle.pk_host.{specs.Calls.delete_of, specs.Outcomes.existed}
 use Rattle.pk_mirror.proofs.ReplyLemmas.{existed_tells}
-use Rattle.pk_mirrorwords.specs.PairTasks.{delete}
-use Rattle.pk_mirrorwords.proofs.Replying.{write_done, write_fails, true_line, false_line}
+use Rattle.pk_mirrorwords.{specs.PairTasks.delete, proofs.Replying.write_done, proofs.Replying.write_fails, proofs.Replying.true_line, proofs.Replying.false_line}
 use Rattle.pk_mirrorwords.proofs.answering.delete.Goals as goal
 
 pub delete-requires-clause-pair : goal.delete-requires-clause-pair

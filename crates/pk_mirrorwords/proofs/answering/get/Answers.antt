@@ -2,10 +2,8 @@ use Rattle.std.proofs.Common.{List, ℕ, Some, Err, ap, ◌∙◌}
 use Rattle.pk_nvme.specs.Bytes.{RoomyList}
 use Rattle.pk_host.specs.Outcomes.{retrieved}
 use Rattle.pk_words.specs.Lines.{value_line}
-use Rattle.pk_mirror.specs.declared.error.MirrorError.{MirrorError}
-use Rattle.pk_mirror.proofs.WriteLemmas.{true_false}
-use Rattle.pk_mirrorwords.specs.PairTasks.{get}
-use Rattle.pk_mirrorwords.proofs.Replying.{asked_fails, asks_within, both_kept, value_found, value_missing}
+use Rattle.pk_mirror.{specs.declared.error.MirrorError.MirrorError, proofs.WriteLemmas.true_false}
+use Rattle.pk_mirrorwords.{specs.PairTasks.get, proofs.Replying.asked_fails, proofs.Replying.asks_within, proofs.Replying.both_kept, proofs.Replying.value_found, proofs.Replying.value_missing}
 use Rattle.pk_mirrorwords.proofs.Paging.{retrieves_ask}
 use Rattle.pk_mirrorwords.proofs.answering.get.Goals as goal
 

@@ -1,12 +1,8 @@
 use Rattle.std.proofs.Common.{refl, ap, ◌∙◌}
-use Rattle.pk_nvme.specs.Bytes.{RoomyList}
-use Rattle.pk_nvme.specs.declared.opcode.Opcode.TheVariants.{Store}
-use Rattle.pk_host.specs.Calls.{store_of}
-use Rattle.pk_host.specs.Outcomes.{stored}
-use Rattle.pk_host.specs.declared.types.StoreRule.TheVariants.{Any}
+use Rattle.pk_nvme.{specs.Bytes.RoomyList, specs.declared.opcode.Opcode.TheVariants.Store}
+use Rattle.pk_host.{specs.Calls.store_of, specs.Outcomes.stored, specs.declared.types.StoreRule.TheVariants.Any}
 use Rattle.pk_mirror.proofs.ReplyLemmas.{stored_tells}
-use Rattle.pk_mirrorwords.specs.PairTasks.{put}
-use Rattle.pk_mirrorwords.proofs.Replying.{write_done, write_fails, stored_line}
+use Rattle.pk_mirrorwords.{specs.PairTasks.put, proofs.Replying.write_done, proofs.Replying.write_fails, proofs.Replying.stored_line}
 use Rattle.pk_mirrorwords.proofs.answering.put.Goals as goal
 
 pub store-requires-clause-pair : goal.store-requires-clause-pair

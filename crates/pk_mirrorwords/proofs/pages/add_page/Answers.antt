@@ -1,7 +1,5 @@
-use Rattle.std.proofs.Common.{◌<◌, length, ap}
-use Rattle.std.specs.Option.{option_copied}
-use Rattle.pk_nvme.specs.Bytes.{RoomyList}
-use Rattle.pk_nvme.specs.Command.{key_or_none}
+use Rattle.std.{proofs.Common.◌<◌, proofs.Common.length, proofs.Common.ap, specs.Option.option_copied}
+use Rattle.pk_nvme.{specs.Bytes.RoomyList, specs.Command.key_or_none}
 use Rattle.pk_host.specs.Listing.{listed_by}
 use Rattle.pk_mirror.proofs.PageLemmas.{own_from, page_falls}
 use Rattle.pk_mirrorwords.proofs.Replying.{asks_within}

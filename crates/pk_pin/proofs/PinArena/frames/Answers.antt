@@ -1,5 +1,4 @@
-use Rattle.std.proofs.Common.{arith}
-use Rattle.std.proofs.lemmas.Grind.{common_steps}
+use Rattle.std.{proofs.Common.arith, proofs.lemmas.Grind.common_steps}
 use Rattle.pk_pin.proofs.Cuts.{length-chunks}
 use Rattle.pk_pin.proofs.PinArena.frames.Goals as goal
 

@@ -1,5 +1,4 @@
-use Rattle.std.proofs.Common.{◌≡◌, take}
-use Rattle.std.specs.Prelude.{count_by}
+use Rattle.std.{proofs.Common.◌≡◌, proofs.Common.take, specs.Prelude.count_by}
 use Rattle.pk_pool.specs.Blocks.{is_ready}
 use Rattle.pk_pool.proofs.pool.count_ready.Given as goal
 

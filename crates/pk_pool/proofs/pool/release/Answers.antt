@@ -1,6 +1,4 @@
-use Rattle.std.proofs.Common.{◌<◌, length, arith}
-use Rattle.std.proofs.lemmas.List.{get_or_default}
-use Rattle.std.proofs.lemmas.List.Edits.{map_over_more}
+use Rattle.std.{proofs.Common.◌<◌, proofs.Common.length, proofs.Common.arith, proofs.lemmas.List.get_or_default, proofs.lemmas.List.Edits.map_over_more}
 use Rattle.pk_pool.specs.Blocks.{freed_state}
 use Rattle.pk_pool.proofs.pool.release.Goals as goal
 

@@ -6,9 +6,7 @@ use denote.RattleType
 use denote.Param.Laws
 use Rattle.pk_drive.specs.declared.engine.Engine
 use Rattle.pk_nand.specs.declared.board.Nand
-use Rattle.pk_port.specs.Ready.{Fits}
-use Rattle.pk_port.proofs.Lifting.{lifted}
-use Rattle.pk_port.proofs.step.serve_lent.Statement.{statement}
+use Rattle.pk_port.{specs.Ready.Fits, proofs.Lifting.lifted, proofs.step.serve_lent.Statement.statement}
 use Rattle.pk_port.proofs.step.serve_lent.Tie as tie
 use Rattle.pk_port.proofs.step.serve_lent.Reads as reads
 use Rattle.pk_port.proofs.step.serve_lent.Lts as lts

@@ -1,7 +1,5 @@
 use Rattle.pk_base.specs.Seen.{entries as seen_all}
-use Rattle.pk_reclaim.proofs.Whole.{can_step}
-use Rattle.pk_reclaim.proofs.Handed.{handed, small_behind}
-use Rattle.pk_reclaim.proofs.Repeated.{repeats_in}
+use Rattle.pk_reclaim.{proofs.Whole.can_step, proofs.Handed.handed, proofs.Handed.small_behind, proofs.Repeated.repeats_in}
 use Rattle.pk_log.proofs.Standing.{epoch_blocks_are}
 use Rattle.pk_reclaim.proofs.step.reclaim_step.Goals as goal
 

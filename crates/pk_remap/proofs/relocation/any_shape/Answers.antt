@@ -1,5 +1,4 @@
-use Rattle.std.proofs.Common.{sym, ap, ◌∙◌}
-use Rattle.std.specs.Prelude.{is_ok}
+use Rattle.std.{proofs.Common.sym, proofs.Common.ap, proofs.Common.◌∙◌, specs.Prelude.is_ok}
 use Rattle.pk_remap.proofs.Opening.{small_is}
 use Rattle.pk_remap.proofs.relocation.any_shape.Goals as goal
 

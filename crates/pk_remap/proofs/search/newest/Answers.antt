@@ -1,14 +1,8 @@
 use Rattle.std.proofs.Common.{◌≡◌, ◌+◌, ◌*◌, ℕ, suc, sym, ap, subst, ◌∙◌, arith, Option}
 use Rattle.pk_base.specs.Page.{Flash, page_at}
-use Rattle.pk_nand.specs.BoardState.{BoardState}
-use Rattle.pk_nand.specs.Operations.{after_read}
-use Rattle.pk_nand.specs.Counts.{after_reads}
-use Rattle.pk_remap.specs.Table.{SpareTable}
-use Rattle.pk_remap.specs.Newest.{table_in, first_table_page}
-use Rattle.pk_remap.specs.Searched.{table_found, table_read}
-use Rattle.pk_remap.proofs.Finding.{Found}
-use Rattle.pk_remap.proofs.Searching.{read_table, searched-step, searched-all}
-use Rattle.pk_remap.proofs.Searching.{search_failed}
+use Rattle.pk_nand.{specs.BoardState.BoardState, specs.Operations.after_read, specs.Counts.after_reads}
+use Rattle.pk_remap.{specs.Table.SpareTable, specs.Newest.table_in, specs.Newest.first_table_page, specs.Searched.table_found, specs.Searched.table_read, proofs.Finding.Found}
+use Rattle.pk_remap.proofs.Searching.{read_table, searched-step, searched-all, search_failed}
 use Rattle.pk_remap.proofs.search.newest.Goals as goal
 
 pub loop-i-preserved : goal.loop-i-preserved

@@ -1,8 +1,7 @@
 use Rattle.std.proofs.Common.{◌≡◌, length}
 use Rattle.pk_base.specs.Page.{page_at}
 use Rattle.pk_nand.specs.Counts.{after_reads}
-use Rattle.pk_remap.specs.Searched.{table_found, UsesAtMost}
-use Rattle.pk_remap.proofs.Finding.{Found}
+use Rattle.pk_remap.{specs.Searched.table_found, specs.Searched.UsesAtMost, proofs.Finding.Found}
 use Rattle.pk_remap.proofs.search.newest.Given as goal
 
 abbrev pub invariant-loop-i : goal.invariant-loop-i

@@ -1,6 +1,5 @@
 use Rattle.std.proofs.Common.{◌∙◌, ap, arith}
-use Rattle.pk_remap.specs.Table.{SpareTable, table_page}
-use Rattle.pk_remap.proofs.TableLemmas.{table_parts, page_again}
+use Rattle.pk_remap.{specs.Table.SpareTable, specs.Table.table_page, proofs.TableLemmas.table_parts, proofs.TableLemmas.page_again}
 use Rattle.pk_remap.proofs.table.encode.Goals as goal
 
 pub returns-clause-again : goal.returns-clause-again

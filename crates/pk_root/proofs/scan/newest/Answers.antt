@@ -1,9 +1,7 @@
 use Rattle.std.proofs.Common.{◌≡◌, ◌∙◌, ◌*◌, arith, ap}
-use Rattle.pk_base.specs.Shape.{root_pages}
-use Rattle.pk_base.specs.Page.{page_at}
+use Rattle.pk_base.{specs.Shape.root_pages, specs.Page.page_at}
 use Rattle.pk_rootfmt.specs.Newest.{newest_root}
-use Rattle.pk_root.specs.Scanned.{found_at}
-use Rattle.pk_root.proofs.Scanning.{Scanned-next, Scanned-end, found_page, found_place, found_grammar}
+use Rattle.pk_root.{specs.Scanned.found_at, proofs.Scanning.Scanned-next, proofs.Scanning.Scanned-end, proofs.Scanning.found_page, proofs.Scanning.found_place, proofs.Scanning.found_grammar}
 use Rattle.pk_root.proofs.scan.newest.Given.{Over}
 use Rattle.pk_root.proofs.scan.newest.Goals as goal
 

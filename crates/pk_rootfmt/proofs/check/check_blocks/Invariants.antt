@@ -1,6 +1,5 @@
 use Rattle.std.proofs.Common.{◌≡◌, ◌+◌, ◌-◌, ◌*◌, [], drop}
-use Rattle.pk_rootfmt.specs.Root.{u16s_at}
-use Rattle.pk_rootfmt.specs.Fault.{blocks_fault}
+use Rattle.pk_rootfmt.{specs.Root.u16s_at, specs.Fault.blocks_fault}
 use Rattle.pk_rootfmt.proofs.check.check_blocks.Given as goal
 
 abbrev pub invariant-loop-i : goal.invariant-loop-i

@@ -1,7 +1,5 @@
 use Rattle.std.proofs.Common.{◌≡◌, ◌∙◌, ◌+◌, ◌-◌, ◌*◌, ap, sym, subst, arith, Some, true, false, ℕ, drop, nat_lt}
-use Rattle.pk_rootfmt.specs.Root.{u32s_at}
-use Rattle.pk_rootfmt.specs.Fault.{limits_fault}
-use Rattle.pk_rootfmt.proofs.LimitLoop.{test, rest, limit_stop, limit_more, limit_end}
+use Rattle.pk_rootfmt.{specs.Root.u32s_at, specs.Fault.limits_fault, proofs.LimitLoop.test, proofs.LimitLoop.rest, proofs.LimitLoop.limit_stop, proofs.LimitLoop.limit_more, proofs.LimitLoop.limit_end}
 use Rattle.pk_rootfmt.proofs.check.check_limits.Goals as goal
 
 pub loop-i-init : goal.loop-i-init

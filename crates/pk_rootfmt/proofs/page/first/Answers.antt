@@ -1,7 +1,5 @@
 use Rattle.std.proofs.Common.{◌∙◌, ◌∷◌, [], arith}
-use Rattle.pk_rootfmt.specs.Held.{first}
-use Rattle.pk_rootfmt.proofs.LimitLemmas.{limits_few, limits_room}
-use Rattle.pk_rootfmt.proofs.PageLemmas.{root_parts, parts_root}
+use Rattle.pk_rootfmt.{specs.Held.first, proofs.LimitLemmas.limits_few, proofs.LimitLemmas.limits_room, proofs.PageLemmas.root_parts, proofs.PageLemmas.parts_root}
 use Rattle.pk_rootfmt.proofs.EncodeLemmas.{written, encoded}
 use Rattle.pk_rootfmt.proofs.page.first.Goals as goal
 

@@ -1,6 +1,5 @@
 use Rattle.std.proofs.Common.{◌≡◌, ◌∙◌, ◌+◌, ◌-◌, ◌*◌, ◌++◌, ap, sym, subst, arith, length, take, ℕ, List}
-use Rattle.std.specs.List.{flat_map}
-use Rattle.std.proofs.lemmas.List.{take_all, append_assoc}
+use Rattle.std.{specs.List.flat_map, proofs.lemmas.List.take_all, proofs.lemmas.List.append_assoc}
 use Rattle.pk_base.specs.Fields.{u32, zeros}
 use Rattle.pk_rootfmt.proofs.LimitLemmas.{not_none, some_wide, some_spelled}
 use Rattle.pk_rootfmt.proofs.page.put_limits.Goals as goal

@@ -1,7 +1,5 @@
-use Rattle.pk_scan.specs.Used.{held_limits}
+use Rattle.pk_scan.{specs.Used.held_limits, specs.Adopts.owned_blocks, proofs.Accepting.accepted, proofs.Accepting.refused_untaken, proofs.Accepting.refused_value}
 use Rattle.std.proofs.Common.{sym, ◌∙◌}
-use Rattle.pk_scan.specs.Adopts.{owned_blocks}
-use Rattle.pk_scan.proofs.Accepting.{accepted, refused_untaken, refused_value}
 use Rattle.pk_scan.proofs.accept.accept_value.Goals as goal
 
 pub returns-then-not-take_value-clause-err : goal.returns-then-not-take_value-clause-err

@@ -1,8 +1,6 @@
 use Rattle.std.proofs.Common.{◌∙◌, ℕ, List, length, sym, subst}
 use Rattle.pk_plan.specs.declared.owner.Owner.TheVariants.{Journal}
-use Rattle.pk_scan.specs.Adopts.{is_among, Adopts, MayAdopt}
-use Rattle.pk_scan.proofs.Adopting.{may_front, may_back}
-use Rattle.pk_scan.proofs.Naming.{two_is, older_is}
+use Rattle.pk_scan.{specs.Adopts.is_among, specs.Adopts.Adopts, specs.Adopts.MayAdopt, proofs.Adopting.may_front, proofs.Adopting.may_back, proofs.Naming.two_is, proofs.Naming.older_is}
 use Rattle.pk_scan.proofs.adopt.adopt_epochs.Goals as goal
 
 pub adopt_all-requires : goal.adopt_all-requires

@@ -1,5 +1,4 @@
-use Rattle.std.proofs.Common.{◌≡◌, ◌+◌, ◌-◌, ℕ, subst, arith, Some}
-use Rattle.std.specs.Prelude.{slice_get}
+use Rattle.std.{proofs.Common.◌≡◌, proofs.Common.◌+◌, proofs.Common.◌-◌, proofs.Common.ℕ, proofs.Common.subst, proofs.Common.arith, proofs.Common.Some, specs.Prelude.slice_get}
 use Rattle.pk_scan.proofs.Adopting.{may_next, RunsAdopting-next}
 use Rattle.pk_scan.proofs.adopt.adopt_runs.Goals as goal
 

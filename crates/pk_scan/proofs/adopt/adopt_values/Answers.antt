@@ -1,8 +1,8 @@
 use Rattle.std.proofs.Common.{◌∙◌, ◌<◌, ◌+◌, ◌≤◌, true, false, length, sym, subst, arith}
 use Rattle.pk_pool.specs.Blocks.{Blocks}
 use Rattle.pk_scan.proofs.Closing.{settled, flag_at, next_is_spare, room_left, ValuesAdopting, ValuesAdopting-passed, ValuesAdopting-next, ValuesAdopting-end}
-use Rattle.pk_scan.proofs.adopt.adopt_values.Goals as goal
 use Rattle.pk_scan.proofs.adopt.adopt_values.Goals.{then-is_closed, else-is_closed}
+use Rattle.pk_scan.proofs.adopt.adopt_values.Goals as goal
 
 pub adopt-requires-clause-free : goal.adopt-requires-clause-free
 adopt-requires-clause-free g c =

@@ -1,10 +1,7 @@
 use Rattle.std.proofs.Common.{sym, subst}
 use Rattle.pk_base.specs.Shape.{Shape}
 use Rattle.pk_jrn.specs.Epochs.{JournalEpoch, AllExist}
-use Rattle.pk_scan.specs.OpeningParts.{NewestHeld}
-use Rattle.pk_scan.proofs.RootFacts.{newest_two, newest_exist}
-use Rattle.pk_scan.proofs.EpochsHeld.{newest_held}
-use Rattle.pk_scan.proofs.Exact.{newest_exact}
+use Rattle.pk_scan.{specs.OpeningParts.NewestHeld, proofs.RootFacts.newest_two, proofs.RootFacts.newest_exist, proofs.EpochsHeld.newest_held, proofs.Exact.newest_exact}
 use Rattle.pk_scan.proofs.epochs.read_newest.Goals as goal
 
 pub replay_in-requires-clause-blocks : goal.replay_in-requires-clause-blocks

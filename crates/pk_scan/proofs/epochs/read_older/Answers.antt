@@ -1,14 +1,8 @@
-use Rattle.std.proofs.Common.{◌≡◌, ◌∙◌, ◌*◌, ℕ, sym, ap, subst, Err}
-use Rattle.std.specs.Prelude.{slice_index}
-use Rattle.pk_base.specs.Shape.{Shape}
-use Rattle.pk_base.specs.Page.{page_at}
-use Rattle.pk_base.specs.Refusal.{damaged}
+use Rattle.std.{proofs.Common.◌≡◌, proofs.Common.◌∙◌, proofs.Common.◌*◌, proofs.Common.ℕ, proofs.Common.sym, proofs.Common.ap, proofs.Common.subst, proofs.Common.Err, specs.Prelude.slice_index}
+use Rattle.pk_base.{specs.Shape.Shape, specs.Page.page_at, specs.Refusal.damaged}
 use Rattle.pk_model.specs.Found.{older_epoch}
 use Rattle.pk_jrn.specs.Epochs.{AllExist}
-use Rattle.pk_scan.proofs.RootFacts.{older_exist}
-use Rattle.pk_scan.proofs.Boards.{stays_reads}
-use Rattle.pk_scan.proofs.Exact.{older_exact, none_exact}
-use Rattle.pk_scan.proofs.EpochsHeld.{older_not_named, older_without}
+use Rattle.pk_scan.{proofs.RootFacts.older_exist, proofs.Boards.stays_reads, proofs.Exact.older_exact, proofs.Exact.none_exact, proofs.EpochsHeld.older_not_named, proofs.EpochsHeld.older_without}
 use Rattle.pk_scan.proofs.epochs.read_older.Goals as goal
 
 pub replay_in-requires-clause-blocks : goal.replay_in-requires-clause-blocks

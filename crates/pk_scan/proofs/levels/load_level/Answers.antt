@@ -1,15 +1,11 @@
 use Rattle.std.proofs.Common.{◌≡◌, ◌∙◌, ℕ, ◌*◌, ◌≤◌, length, refl, sym, ap, subst, arith}
 use Rattle.std.specs.Prelude.{nat_le}
-use Rattle.pk_base.specs.Shape.{Shape, IsShape, cap, page_entries, run_pages, run_blocks}
+use Rattle.pk_base.{specs.Shape.Shape, specs.Shape.IsShape, specs.Shape.cap, specs.Shape.page_entries, specs.Shape.run_pages, specs.Shape.run_blocks, proofs.ShapeLemmas.entries_some}
 use Rattle.pk_model.specs.RootLimits.{root_spaces}
 use Rattle.pk_run.specs.Kept.{Kept, empty}
-use Rattle.pk_scan.specs.Runs.{MayLoadRun, HasRun, NotRead}
+use Rattle.pk_scan.{specs.Runs.MayLoadRun, specs.Runs.HasRun, specs.Runs.NotRead, proofs.Boards.reads_none, proofs.Boards.stays_same, proofs.Boards.stays_ready_behind, proofs.Rereading.pages_most}
+use Rattle.pk_scan.{proofs.RootFacts.level_few, proofs.RootFacts.level_blocks, proofs.RootFacts.level_exist, proofs.RunsHeld.level_loaded, proofs.RunsHeld.level_not_loaded, proofs.RunsHeld.le_of}
 use Rattle.pk_nand.specs.Counts.{after_reads}
-use Rattle.pk_scan.proofs.Boards.{reads_none, stays_same, stays_ready_behind}
-use Rattle.pk_scan.proofs.Rereading.{pages_most}
-use Rattle.pk_scan.proofs.RootFacts.{level_few, level_blocks, level_exist}
-use Rattle.pk_scan.proofs.RunsHeld.{level_loaded, level_not_loaded, le_of}
-use Rattle.pk_base.proofs.ShapeLemmas.{entries_some}
 use Rattle.pk_scan.proofs.levels.load_level.Goals as goal
 
 pub load_run-requires-clause-may : goal.load_run-requires-clause-may

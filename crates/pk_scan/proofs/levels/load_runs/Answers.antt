@@ -1,8 +1,6 @@
 use Rattle.std.proofs.Common.{◌≡◌, ◌∙◌, ℕ, suc, ◌+◌, take, refl, subst, arith}
 use Rattle.pk_nand.specs.Counts.{after_reads}
-use Rattle.pk_scan.specs.Reads.{pages_of_runs}
-use Rattle.pk_scan.proofs.Boards.{stays_same, stays_both}
-use Rattle.pk_scan.proofs.Exact.{runs_exact_next, runs_exact_end}
+use Rattle.pk_scan.{specs.Reads.pages_of_runs, proofs.Boards.stays_same, proofs.Boards.stays_both, proofs.Exact.runs_exact_next, proofs.Exact.runs_exact_end}
 use Rattle.pk_scan.proofs.RootFacts.{counts_four, runs_four}
 use Rattle.pk_scan.proofs.RunsHeld.{RunsTo, RunsTo-start, level_may, RunsTo-next, RunsTo-refused, runs_loaded}
 use Rattle.pk_scan.proofs.levels.load_runs.Goals as goal

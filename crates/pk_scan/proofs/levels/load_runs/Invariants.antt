@@ -1,8 +1,6 @@
 use Rattle.std.proofs.Common.{◌≡◌, length, take}
 use Rattle.pk_nand.specs.Counts.{after_reads}
-use Rattle.pk_scan.specs.Board.{StaysReady}
-use Rattle.pk_scan.specs.Reads.{pages_of_runs}
-use Rattle.pk_scan.proofs.RunsHeld.{RunsTo}
+use Rattle.pk_scan.{specs.Board.StaysReady, specs.Reads.pages_of_runs, proofs.RunsHeld.RunsTo}
 use Rattle.pk_scan.proofs.levels.load_runs.Given as goal
 
 abbrev pub invariant-loop-place : goal.invariant-loop-place

@@ -1,5 +1,4 @@
-use Rattle.pk_scan.proofs.Boards.{rest_failed, stays_reads, stays_ready_behind}
-use Rattle.pk_scan.proofs.Opened.{no_root}
+use Rattle.pk_scan.{proofs.Boards.rest_failed, proofs.Boards.stays_reads, proofs.Boards.stays_ready_behind, proofs.Opened.no_root}
 use Rattle.pk_scan.proofs.lists.find_root.Goals as goal
 
 pub returns-in-Ok-None-clause-err : goal.returns-in-Ok-None-clause-err

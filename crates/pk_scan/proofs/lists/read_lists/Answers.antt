@@ -1,6 +1,5 @@
 use Rattle.std.proofs.Common.{◌∙◌}
-use Rattle.pk_scan.proofs.Boards.{reads_both, stays_both}
-use Rattle.pk_scan.proofs.Exact.{lists_exact}
+use Rattle.pk_scan.{proofs.Boards.reads_both, proofs.Boards.stays_both, proofs.Exact.lists_exact}
 use Rattle.pk_scan.proofs.Opened.{older_refuses, newest_refuses, newest_here, runs_refuse, all_held}
 use Rattle.pk_scan.proofs.lists.read_lists.Goals as goal
 

@@ -1,11 +1,8 @@
 use Rattle.std.proofs.Common.{◌≡◌, ◌+◌, refl, sym, ap, subst}
-use Rattle.pk_base.specs.Page.{page_at}
-use Rattle.pk_base.specs.Shape.{root_pages}
+use Rattle.pk_base.{specs.Page.page_at, specs.Shape.root_pages}
 use Rattle.pk_nand.specs.Counts.{after_reads}
 use Rattle.pk_rootfmt.specs.Root.{Root}
-use Rattle.pk_scan.specs.Reads.{list_reads}
-use Rattle.pk_scan.proofs.Boards.{stays_both}
-use Rattle.pk_scan.proofs.Whole.{root_then_lists, lists_refuse, finds_lists}
+use Rattle.pk_scan.{specs.Reads.list_reads, proofs.Boards.stays_both, proofs.Whole.root_then_lists, proofs.Whole.lists_refuse, proofs.Whole.finds_lists}
 use Rattle.pk_scan.proofs.opening.fill_lists.Goals as goal
 
 pub returns-in-Ok-read_lists-clause-finds : goal.returns-in-Ok-read_lists-clause-finds

@@ -1,23 +1,15 @@
 use Rattle.std.proofs.Common.{◌≡◌, ◌+◌, ◌∙◌, ℕ, List, [], sym, subst, Result, ap}
-use Rattle.pk_base.specs.Key.{Key}
-use Rattle.pk_base.specs.Refusal.{Refusal}
+use Rattle.pk_base.{specs.Key.Key, specs.Refusal.Refusal, specs.Shape.Shape, specs.Page.page_at}
 use Rattle.pk_rootfmt.specs.Root.{Root, named}
 use Rattle.pk_pool.specs.Blocks.{Blocks, unused}
-use Rattle.pk_base.specs.Shape.{Shape}
-use Rattle.pk_base.specs.Page.{page_at}
 use Rattle.pk_nand.specs.Counts.{after_reads}
-use Rattle.pk_model.specs.Values.{values_of}
+use Rattle.pk_model.{specs.Values.values_of, specs.RootLimits.root_limits}
 use Rattle.pk_law_steps.specs.Under.{places}
 use Rattle.pk_walk.specs.Walking.{most_read}
-use Rattle.pk_scan.specs.OpeningParts.{PartNotOpened, ReadsValues}
-use Rattle.pk_scan.specs.Reads.{value_reads}
+use Rattle.pk_scan.{specs.OpeningParts.PartNotOpened, specs.OpeningParts.ReadsValues, specs.Reads.value_reads, specs.Adopts.owned_blocks, specs.Adopts.NamesOwned, specs.Used.IsUseOf}
+use Rattle.pk_scan.{proofs.Owned.owned_named, proofs.Owned.values_same, proofs.Owned.Lives-same, proofs.Whole.left_to_give, proofs.Whole.places_are}
 use Rattle.pk_live.proofs.Nothing.{Lives-none}
-use Rattle.pk_scan.specs.Adopts.{owned_blocks, NamesOwned}
-use Rattle.pk_scan.proofs.Owned.{owned_named, values_same, Lives-same}
-use Rattle.pk_scan.proofs.Whole.{left_to_give, places_are}
 use Rattle.pk_scan.proofs.opening.fill_values.Goals as goal
-use Rattle.pk_model.specs.RootLimits.{root_limits}
-use Rattle.pk_scan.specs.Used.{IsUseOf}
 
 named_now : (shape : Shape) (root : Root) (old new : Blocks) → old ≡ unused shape → NamesOwned root old new → NamesOwned root (unused shape) new
 named_now shape root old new is owned = subst (λ (p : Blocks). NamesOwned root p new) is owned

@@ -1,13 +1,9 @@
 use Rattle.std.proofs.Common.{◌≡◌, ◌∙◌, true, refl, sym, ap, subst, []}
-use Rattle.pk_base.specs.Shape.{Shape, IsShape}
-use Rattle.pk_base.specs.Page.{Flash}
+use Rattle.pk_base.{specs.Shape.Shape, specs.Shape.IsShape, specs.Page.Flash}
 use Rattle.pk_pool.specs.Blocks.{Blocks, PoolOnFlash, unused}
 use Rattle.pk_rootfmt.specs.Root.{named, is_root}
 use Rattle.pk_law_steps.specs.Under.{places}
-use Rattle.pk_scan.specs.Opened.{FoundOnFlash}
-use Rattle.pk_scan.proofs.Boards.{reads_none, rest_both}
-use Rattle.pk_scan.proofs.Closing.{may_adopt_values, many_closed}
-use Rattle.pk_scan.proofs.Owners.{has_owners}
+use Rattle.pk_scan.{specs.Opened.FoundOnFlash, proofs.Boards.reads_none, proofs.Boards.rest_both, proofs.Closing.may_adopt_values, proofs.Closing.many_closed, proofs.Owners.has_owners}
 use Rattle.pk_scan.proofs.Whole.{awaits_lists, awaits_values, held_behind, scan_opened, scan_reads, scan_refuses}
 use Rattle.pk_scan.proofs.opening.scan.Goals as goal
 

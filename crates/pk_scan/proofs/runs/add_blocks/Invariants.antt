@@ -1,6 +1,5 @@
 use Rattle.std.proofs.Common.{◌≡◌, ◌++◌, List, take}
-use Rattle.pk_base.specs.Entry.{Entry}
-use Rattle.pk_base.specs.Page.{Flash}
+use Rattle.pk_base.{specs.Entry.Entry, specs.Page.Flash}
 use Rattle.pk_pin.specs.Frames.{Frames}
 use Rattle.pk_run.specs.Kept.{RunOnFlash}
 use Rattle.pk_scan.proofs.runs.add_blocks.Given as goal

@@ -1,9 +1,8 @@
 use Rattle.std.proofs.Common.{◌≡◌, ◌∙◌, ◌<◌, ◌-◌, ℕ, min, refl, ap, subst, arith}
 use Rattle.std.specs.Int.{div_ceil}
-use Rattle.pk_base.specs.Shape.{page_entries, run_pages}
+use Rattle.pk_base.{specs.Shape.page_entries, specs.Shape.run_pages, proofs.ShapeLemmas.entries_some}
 use Rattle.pk_scan.proofs.Loading.{Loading-start, Loading-next, Loading-refused, Loading-end, page_awaited, pages_loaded, stays_not_read, some_left, stands_now}
 use Rattle.pk_scan.proofs.Boards.{stays_reads}
-use Rattle.pk_base.proofs.ShapeLemmas.{entries_some}
 use Rattle.pk_scan.proofs.runs.read_pages.Goals as goal
 
 pub loop-init : goal.loop-init

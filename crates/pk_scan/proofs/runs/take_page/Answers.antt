@@ -1,6 +1,5 @@
 use Rattle.std.proofs.Common.{arith}
-use Rattle.pk_scan.proofs.Leasing.{kept_more, kept_wanted}
-use Rattle.pk_scan.proofs.Loading.{page_exists, page_taken, read_whole}
+use Rattle.pk_scan.{proofs.Leasing.kept_more, proofs.Leasing.kept_wanted, proofs.Loading.page_exists, proofs.Loading.page_taken, proofs.Loading.read_whole}
 use Rattle.pk_scan.proofs.runs.take_page.Goals as goal
 
 pub read-requires-clause-exists : goal.read-requires-clause-exists

@@ -1,11 +1,8 @@
 use Rattle.std.proofs.Common.{◌∙◌, ℕ, ◌+◌, ◌-◌, ◌/◌, ◌==◌, ◌<◌, ◌≤◌, ◌&&◌, ap, subst, arith, cond}
-use Rattle.std.specs.Prelude.{count_by, nat_le, IsTrue, ◌↔◌}
-use Rattle.std.specs.List.{list_any}
+use Rattle.std.{specs.Prelude.count_by, specs.Prelude.nat_le, specs.Prelude.IsTrue, specs.Prelude.◌↔◌, specs.List.list_any}
 use Rattle.pk_base.specs.Shape.{limit, data_blocks}
-use Rattle.pk_live.specs.Values.{count_of, IsLive}
-use Rattle.pk_live.proofs.Counts.{sum-le-pages}
-use Rattle.pk_scan.specs.Adopts.{owned_blocks}
-use Rattle.pk_scan.proofs.Taking.{named_refuses, overlap_refuses, counts_decide}
+use Rattle.pk_live.{specs.Values.count_of, specs.Values.IsLive, proofs.Counts.sum-le-pages}
+use Rattle.pk_scan.{specs.Adopts.owned_blocks, proofs.Taking.named_refuses, proofs.Taking.overlap_refuses, proofs.Taking.counts_decide}
 use Rattle.pk_scan.proofs.taken.has_room.Goals as goal
 
 pub overflow_add-pages : goal.overflow_add-pages

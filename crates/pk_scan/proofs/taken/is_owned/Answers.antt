@@ -1,6 +1,5 @@
 use Rattle.std.proofs.Common.{◌∙◌, sym, ap}
-use Rattle.pk_scan.specs.Adopts.{has_owner}
-use Rattle.pk_scan.proofs.Owned.{owned_is}
+use Rattle.pk_scan.{specs.Adopts.has_owner, proofs.Owned.owned_is}
 use Rattle.pk_scan.proofs.taken.is_owned.Goals as goal
 
 pub returns : goal.returns

@@ -1,13 +1,9 @@
-use Rattle.pk_scan.specs.Used.{held_limits}
+use Rattle.pk_scan.{specs.Used.held_limits, specs.Adopts.owned_blocks, proofs.Using.use_of_more, proofs.Using.not_fitting, proofs.Using.fitting, proofs.Using.value_count_most}
+use Rattle.pk_scan.{proofs.UseRoom.use_small, proofs.Taking.free, proofs.Taking.block_closes, proofs.Taking.Lives-more}
 use Rattle.std.proofs.Common.{◌≡◌, ℕ, ◌/◌, ◌∙◌, true, length, sym, ap, arith}
 use Rattle.std.proofs.Math.ListN.{set}
-use Rattle.pk_base.specs.Shape.{charge}
+use Rattle.pk_base.{specs.Shape.charge, proofs.ShapeLemmas.charge_least}
 use Rattle.pk_live.specs.Values.{Values}
-use Rattle.pk_scan.specs.Adopts.{owned_blocks}
-use Rattle.pk_base.proofs.ShapeLemmas.{charge_least}
-use Rattle.pk_scan.proofs.Using.{use_of_more, not_fitting, fitting, value_count_most}
-use Rattle.pk_scan.proofs.UseRoom.{use_small}
-use Rattle.pk_scan.proofs.Taking.{free, block_closes, Lives-more}
 use Rattle.pk_scan.proofs.taken.take_value.Goals as goal
 
 pub returns-then-not-has_room-clause-fits : goal.returns-then-not-has_room-clause-fits

@@ -1,8 +1,5 @@
-use Rattle.std.proofs.Common.{sym, nat_eq}
-use Rattle.std.specs.List.{starts_with}
-use Rattle.std.proofs.lemmas.Bool.{eqb-true, eq-eqb, false_from_ne_true}
-use Rattle.pk_segfmt.specs.Value.{head_bytes}
-use Rattle.pk_segfmt.proofs.StoredLemmas.{length-head_bytes}
+use Rattle.std.{proofs.Common.sym, proofs.Common.nat_eq, specs.List.starts_with, proofs.lemmas.Bool.eqb-true, proofs.lemmas.Bool.eq-eqb, proofs.lemmas.Bool.false_from_ne_true}
+use Rattle.pk_segfmt.{specs.Value.head_bytes, proofs.StoredLemmas.length-head_bytes}
 use Rattle.pk_scan.proofs.Heads.{head_told, same_told, same_found, none_found, begun}
 use Rattle.pk_scan.proofs.values.begins_with_head.Goals as goal
 

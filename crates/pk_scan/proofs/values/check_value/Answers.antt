@@ -1,7 +1,6 @@
 use Rattle.std.proofs.Common.{◌≡◌, arith}
 use Rattle.pk_base.specs.Shape.{charge}
-use Rattle.pk_scan.proofs.Checking.{Checking-refused, Checking-end, refused_rest}
-use Rattle.pk_scan.proofs.Boards.{stays_reads, stays_ready_behind}
+use Rattle.pk_scan.{proofs.Checking.Checking-refused, proofs.Checking.Checking-end, proofs.Checking.refused_rest, proofs.Boards.stays_reads, proofs.Boards.stays_ready_behind}
 use Rattle.pk_scan.proofs.values.check_value.Goals as goal
 
 pub returns-in-Err-clause-err : goal.returns-in-Err-clause-err

@@ -1,16 +1,10 @@
-use Rattle.pk_scan.specs.Used.{held_limits}
-use Rattle.std.proofs.Common.{◌∙◌, List, [], sym, subst, arith}
-use Rattle.pk_base.specs.Key.{Key}
-use Rattle.pk_base.specs.Entry.{Place}
-use Rattle.pk_base.specs.Page.{Flash, page_at}
-use Rattle.pk_model.specs.Values.{values_of}
-use Rattle.pk_scan.specs.Adopts.{owned_blocks}
-use Rattle.pk_scan.specs.Accepted.{Accepted}
-use Rattle.pk_scan.specs.OpeningParts.{PartNotOpened}
-use Rattle.pk_scan.specs.declared.errors.OpenError.{OpenError}
+use Rattle.pk_scan.{specs.Used.held_limits, specs.Adopts.owned_blocks, specs.Accepted.Accepted, specs.OpeningParts.PartNotOpened, specs.declared.errors.OpenError.OpenError}
 use Rattle.pk_scan.proofs.ValuesHeld.{place, limit_few, few_taken, TakenTo-start, put_next, gone_next, none_next, place_next, TakenTo-next, TakenTo-refused, TakenTo-all, TakenTo-end}
 use Rattle.pk_scan.proofs.ValuesRead.{HaveRead, HaveRead-start, HaveRead-next, HaveRead-end}
 use Rattle.pk_scan.proofs.Boards.{reads_none, reads_both, rest_reads, rest_both, stays_same, stays_both, stays_reads, stays_ready_behind}
+use Rattle.std.proofs.Common.{◌∙◌, List, [], sym, subst, arith}
+use Rattle.pk_base.{specs.Key.Key, specs.Entry.Place, specs.Page.Flash, specs.Page.page_at}
+use Rattle.pk_model.specs.Values.{values_of}
 use Rattle.pk_scan.proofs.visible.read_values.Goals as goal
 
 pub overflow_add-keys-end : goal.overflow_add-keys-end

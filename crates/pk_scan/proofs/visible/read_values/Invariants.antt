@@ -1,10 +1,5 @@
-use Rattle.pk_scan.specs.Used.{held_limits}
+use Rattle.pk_scan.{specs.Used.held_limits, specs.Adopts.owned_blocks, specs.Board.StaysReady, specs.Opening.OnlyReads, proofs.ValuesHeld.TakenTo, proofs.ValuesRead.HaveRead}
 use Rattle.std.proofs.Common.{◌≡◌, length}
-use Rattle.pk_scan.specs.Adopts.{owned_blocks}
-use Rattle.pk_scan.specs.Board.{StaysReady}
-use Rattle.pk_scan.specs.Opening.{OnlyReads}
-use Rattle.pk_scan.proofs.ValuesHeld.{TakenTo}
-use Rattle.pk_scan.proofs.ValuesRead.{HaveRead}
 use Rattle.pk_scan.proofs.visible.read_values.Given as goal
 
 abbrev pub invariant-loop-keys : goal.invariant-loop-keys

@@ -1,6 +1,5 @@
 use Rattle.std.proofs.Common.{◌≡◌, ◌∙◌, ap, [], ◌∷◌, length, slice_index}
-use Rattle.pk_pool.specs.Blocks.{given_back, freed}
-use Rattle.pk_pool.proofs.Leaving.{left_and_freed, freed_fits, unfreed_fits}
+use Rattle.pk_pool.{specs.Blocks.given_back, specs.Blocks.freed, proofs.Leaving.left_and_freed, proofs.Leaving.freed_fits, proofs.Leaving.unfreed_fits}
 use Rattle.pk_plan.specs.declared.owner.Owner.TheVariants.{Journal}
 use Rattle.pk_compact.proofs.Pairs.{two_are}
 use Rattle.pk_schedule.proofs.exchange.retire_named.Goals as goal

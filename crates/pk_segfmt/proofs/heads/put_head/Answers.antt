@@ -1,8 +1,6 @@
 use Rattle.std.proofs.Common.{◌≡◌, ◌∙◌, ◌-◌, List, ℕ, [], ◌∷◌, length, take, refl}
-use Rattle.pk_base.specs.Fields.{u32, padded, zeros, spelled}
-use Rattle.pk_base.proofs.Tables.{joined, joined_spelled}
-use Rattle.pk_segfmt.specs.Head.{value_magic}
-use Rattle.pk_segfmt.specs.Value.{head_bytes}
+use Rattle.pk_base.{specs.Fields.u32, specs.Fields.padded, specs.Fields.zeros, specs.Fields.spelled, proofs.Tables.joined, proofs.Tables.joined_spelled}
+use Rattle.pk_segfmt.{specs.Head.value_magic, specs.Value.head_bytes}
 use Rattle.pk_segfmt.proofs.heads.put_head.Goals as goal
 
 -- the rows of a head's table

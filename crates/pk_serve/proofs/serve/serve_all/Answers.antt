@@ -1,8 +1,6 @@
 use Rattle.std.proofs.Common.{inl, inr, ap, sym, subst, nat_le}
-use Rattle.pk_serve.specs.Ends.{IsFault}
-use Rattle.pk_serve.proofs.Closing.{Finish-closed, Finish-broken, Runs-fault, no_fault}
-use Rattle.pk_serve.proofs.Blaming.{blames-still, blames-behind}
-use Rattle.pk_serve.proofs.Consuming.{consumes_failed, consumes-still}
+use Rattle.pk_serve.{specs.Ends.IsFault, proofs.Closing.Finish-closed, proofs.Closing.Finish-broken, proofs.Closing.Runs-fault, proofs.Closing.no_fault}
+use Rattle.pk_serve.{proofs.Blaming.blames-still, proofs.Blaming.blames-behind, proofs.Consuming.consumes_failed, proofs.Consuming.consumes-still}
 use Rattle.pk_serve.proofs.serve.serve_all.Goals as goal
 
 pub returns-in-Output-clause-runs : goal.returns-in-Output-clause-runs

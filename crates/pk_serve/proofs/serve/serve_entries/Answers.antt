@@ -1,9 +1,7 @@
 use Rattle.std.proofs.Common.{◌≡◌, inl, inr, refl, ◌∙◌, ap, arith, true, false}
 use Rattle.pk_queue.specs.Queue.{bytes_of}
-use Rattle.pk_serve.proofs.Looping.{Looping-start, Looping-next, Finish-quits, none_taken}
-use Rattle.pk_serve.proofs.Blaming.{blames-then, blames-entry}
-use Rattle.pk_serve.proofs.Consuming.{consumed-none, consumed-next, consumes-entry, consumes-quits}
-use Rattle.pk_serve.proofs.Parting.{runs_on-then}
+use Rattle.pk_serve.{proofs.Looping.Looping-start, proofs.Looping.Looping-next, proofs.Looping.Finish-quits, proofs.Looping.none_taken, proofs.Blaming.blames-then, proofs.Blaming.blames-entry}
+use Rattle.pk_serve.{proofs.Consuming.consumed-none, proofs.Consuming.consumed-next, proofs.Consuming.consumes-entry, proofs.Consuming.consumes-quits, proofs.Parting.runs_on-then}
 use Rattle.pk_serve.proofs.serve.serve_entries.Goals as goal
 
 true_false : true ≡ false → ⊥

@@ -1,11 +1,8 @@
 use Rattle.std.proofs.Common.{◌≡◌, ℕ, []}
-use Rattle.pk_base.specs.Shape.{Shape}
-use Rattle.pk_base.specs.Map.{Map}
+use Rattle.pk_base.{specs.Shape.Shape, specs.Map.Map}
 use Rattle.pk_queue.specs.Queue.{bytes_of}
 use Rattle.pk_call.specs.Drive.{HoldsMap}
-use Rattle.pk_serve.specs.Part.{KeepsRunning}
-use Rattle.pk_serve.specs.Script.{Consumed}
-use Rattle.pk_serve.specs.Loop.{Looping}
+use Rattle.pk_serve.{specs.Part.KeepsRunning, specs.Script.Consumed, specs.Loop.Looping}
 use Rattle.pk_serve.proofs.serve.serve_entries.Given as goal
 use Rattle.pk_model.specs.Spaces.{Terms}
 

@@ -1,9 +1,8 @@
 use Rattle.std.proofs.Common.{inl, inr, sym, ◌∙◌}
 use Rattle.pk_queue.specs.Queue.{bytes_of}
-use Rattle.pk_serve.specs.declared.end.End.TheVariants.{Truncated, Input}
+use Rattle.pk_serve.{specs.declared.end.End.TheVariants.Truncated, specs.declared.end.End.TheVariants.Input, proofs.Parting.runs_on-then}
 use Rattle.pk_serve.proofs.Nexting.{InputAdvances-one, InputFails-one, BreaksOff-value, FailsAt-value, worn_is, Quits-entry}
 use Rattle.pk_serve.proofs.Blaming.{quiet-entry, quiet-value, quiet-no_value, blames-cause, blames-then, blames-value, blames-entry}
-use Rattle.pk_serve.proofs.Parting.{runs_on-then}
 use Rattle.pk_serve.proofs.serve.serve_next.Goals as goal
 
 pub returns-in-Ok-serve_one-clause-advances : goal.returns-in-Ok-serve_one-clause-advances

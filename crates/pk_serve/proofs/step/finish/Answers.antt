@@ -1,7 +1,6 @@
 use Rattle.std.proofs.Common.{ap}
 use Rattle.pk_queue.specs.Queue.{bytes_of}
-use Rattle.pk_serve.proofs.Finishing.{keeps_held, breaks_held, posts_all, breaks_head, breaks_data}
-use Rattle.pk_serve.proofs.Blaming.{quiet-then}
+use Rattle.pk_serve.{proofs.Finishing.keeps_held, proofs.Finishing.breaks_held, proofs.Finishing.posts_all, proofs.Finishing.breaks_head, proofs.Finishing.breaks_data, proofs.Blaming.quiet-then}
 use Rattle.pk_serve.proofs.Parting.{running-still, faulted-then}
 use Rattle.pk_serve.proofs.step.finish.Goals as goal
 

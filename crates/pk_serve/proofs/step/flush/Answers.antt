@@ -1,9 +1,7 @@
 use Rattle.std.proofs.Common.{ℕ, List, refl, subst}
 use Rattle.pk_queue.specs.Queue.{bytes_of}
-use Rattle.pk_serve.specs.Serving.{ServingBroken, Flushed}
-use Rattle.pk_serve.proofs.Giving.{commit-breaks, flushes, flush-breaks}
-use Rattle.pk_serve.proofs.Blaming.{quiet-then, quiet-flash}
-use Rattle.pk_serve.proofs.Parting.{running-still, faulted-then}
+use Rattle.pk_serve.{specs.Serving.ServingBroken, specs.Serving.Flushed, proofs.Giving.commit-breaks, proofs.Giving.flushes, proofs.Giving.flush-breaks}
+use Rattle.pk_serve.{proofs.Blaming.quiet-then, proofs.Blaming.quiet-flash, proofs.Parting.running-still, proofs.Parting.faulted-then}
 use Rattle.pk_serve.proofs.step.flush.Goals as goal
 
 pub returns-in-Err-clause-fails : goal.returns-in-Err-clause-fails

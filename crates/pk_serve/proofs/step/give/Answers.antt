@@ -1,5 +1,4 @@
-use Rattle.pk_serve.proofs.Giving.{posts_one, post-breaks}
-use Rattle.pk_serve.proofs.Blaming.{quiet-post}
+use Rattle.pk_serve.{proofs.Giving.posts_one, proofs.Giving.post-breaks, proofs.Blaming.quiet-post}
 use Rattle.pk_serve.proofs.step.give.Goals as goal
 
 pub returns-in-Ok-clause-posts : goal.returns-in-Ok-clause-posts

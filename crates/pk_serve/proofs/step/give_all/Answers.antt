@@ -1,9 +1,6 @@
 use Rattle.std.proofs.Common.{suc, ◌+◌, ◌≡◌, ◌∙◌, take, drop, sym, ap, arith}
 use Rattle.pk_queue.specs.Queue.{bytes_of}
-use Rattle.pk_serve.proofs.Giving.{posts_both, breaks_second}
-use Rattle.pk_serve.proofs.Blaming.{quiet-then}
-use Rattle.pk_serve.proofs.Parting.{faulted-then}
-use Rattle.pk_serve.proofs.Queueing.{bytes_of-next, bytes_of-all}
+use Rattle.pk_serve.{proofs.Giving.posts_both, proofs.Giving.breaks_second, proofs.Blaming.quiet-then, proofs.Parting.faulted-then, proofs.Queueing.bytes_of-next, proofs.Queueing.bytes_of-all}
 use Rattle.pk_serve.proofs.step.give_all.Goals as goal
 
 pub returns-in-Err-clause-breaks : goal.returns-in-Err-clause-breaks

@@ -1,8 +1,6 @@
 use Rattle.std.proofs.Common.{take}
 use Rattle.pk_queue.specs.Queue.{bytes_of}
-use Rattle.pk_serve.specs.Ends.{NoFaults}
-use Rattle.pk_serve.specs.Part.{OnlyGives}
-use Rattle.pk_serve.specs.Serving.{Posts}
+use Rattle.pk_serve.{specs.Ends.NoFaults, specs.Part.OnlyGives, specs.Serving.Posts}
 use Rattle.pk_serve.proofs.step.give_all.Given as goal
 
 abbrev pub invariant-loop-head : goal.invariant-loop-head

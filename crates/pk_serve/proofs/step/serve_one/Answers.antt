@@ -1,16 +1,12 @@
 use Rattle.std.proofs.Common.{◌≡◌, ◌+◌, ◌∙◌, refl, sym, subst, ap}
 use Rattle.pk_base.specs.Shape.{Shape}
 use Rattle.pk_nvme.specs.Seen.{command_of}
-use Rattle.pk_nand.specs.BoardState.{shape_of, shape_or_none}
+use Rattle.pk_nand.{specs.BoardState.shape_of, specs.BoardState.shape_or_none, proofs.Effects.rose_from}
 use Rattle.pk_queue.specs.Queue.{bytes_of}
 use Rattle.pk_call.specs.Exec.{IsValue}
-use Rattle.pk_serve.proofs.Commanding.{stops_before, stops_in, serves_all, stops_behind}
-use Rattle.pk_serve.proofs.Skipping.{stands_value, reaches_value, went_value}
-use Rattle.pk_serve.proofs.Blaming.{quiet-then, quiet-flash}
-use Rattle.pk_serve.proofs.Finishing.{keeps_record, breaks_record}
+use Rattle.pk_serve.{proofs.Commanding.stops_before, proofs.Commanding.stops_in, proofs.Commanding.serves_all, proofs.Commanding.stops_behind, proofs.Blaming.quiet-then, proofs.Blaming.quiet-flash}
+use Rattle.pk_serve.{proofs.Skipping.stands_value, proofs.Skipping.reaches_value, proofs.Skipping.went_value, proofs.Finishing.keeps_record, proofs.Finishing.breaks_record, proofs.Counting.unworn_few}
 use Rattle.pk_serve.proofs.Parting.{faulted-then, runs_on-then}
-use Rattle.pk_serve.proofs.Counting.{unworn_few}
-use Rattle.pk_nand.proofs.Effects.{rose_from}
 use Rattle.pk_serve.proofs.step.serve_one.Goals as goal
 
 pub returns-in-Err-clause-stops : goal.returns-in-Err-clause-stops

@@ -1,10 +1,7 @@
 use Rattle.std.proofs.Common.{◌+◌, ◌≤◌, refl, subst, arith}
 use Rattle.pk_base.specs.Shape.{Shape}
-use Rattle.pk_merge.specs.declared.source.Source.TheVariants.{Run}
-use Rattle.pk_merge.specs.Jobs.{pins}
-use Rattle.pk_test_engine.specs.Opened.{HasRoom}
-use Rattle.pk_test_engine.proofs.Beginning.{has_cap, begins_for}
-use Rattle.pk_test_engine.proofs.Carried.{carried}
+use Rattle.pk_merge.{specs.declared.source.Source.TheVariants.Run, specs.Jobs.pins}
+use Rattle.pk_test_engine.{specs.Opened.HasRoom, proofs.Beginning.has_cap, proofs.Beginning.begins_for, proofs.Carried.carried}
 use Rattle.pk_test_engine.proofs.begin.begin.Goals as goal
 
 pub returns-clause-runs : goal.returns-clause-runs

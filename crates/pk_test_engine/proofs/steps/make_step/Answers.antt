@@ -1,6 +1,5 @@
 use Rattle.std.proofs.Common.{◌≡◌, Bool, Result, Err, refl}
-use Rattle.pk_nand.specs.declared.types.Fault.{Fault}
-use Rattle.pk_nand.specs.declared.types.Fault.TheVariants.{Reading}
+use Rattle.pk_nand.{specs.declared.types.Fault.Fault, specs.declared.types.Fault.TheVariants.Reading}
 use Rattle.pk_test_engine.proofs.Carried.{carried}
 use Rattle.pk_test_engine.proofs.steps.make_step.Goals as goal
 

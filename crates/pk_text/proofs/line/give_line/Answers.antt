@@ -1,5 +1,4 @@
-use Rattle.std.proofs.Common.{◌≡◌, Some, None, ap, ◌∙◌}
-use Rattle.std.specs.Prelude.{option_map}
+use Rattle.std.{proofs.Common.◌≡◌, proofs.Common.Some, proofs.Common.None, proofs.Common.ap, proofs.Common.◌∙◌, specs.Prelude.option_map}
 use Rattle.pk_asm.specs.Line.{says, entry_in}
 use Rattle.pk_text.proofs.Lining.{LineGives-none, LineGives-some}
 use Rattle.pk_text.proofs.line.give_line.Goals as goal

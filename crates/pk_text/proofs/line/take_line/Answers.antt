@@ -1,7 +1,6 @@
 use Rattle.std.proofs.Common.{ap, ◌∙◌, subst, sym, arith, List, ℕ, length, rules}
 use Rattle.std.proofs.lemmas.Grind.{common_steps}
-use Rattle.pk_text.specs.Steps.{Fed, IsLine}
-use Rattle.pk_text.proofs.Turning.{Failed-then, Fed-empty, Fed-over_none, is_none, not_empty}
+use Rattle.pk_text.{specs.Steps.Fed, specs.Steps.IsLine, proofs.Turning.Failed-then, proofs.Turning.Fed-empty, proofs.Turning.Fed-over_none, proofs.Turning.is_none, proofs.Turning.not_empty}
 use Rattle.pk_text.proofs.Lining.{Line-ended, Line-final, Line-more, IsLine-more, plain_byte}
 use Rattle.pk_text.proofs.line.take_line.Goals as goal
 

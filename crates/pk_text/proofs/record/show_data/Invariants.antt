@@ -1,7 +1,5 @@
 use Rattle.std.proofs.Common.{◌≡◌, ℕ, List}
-use Rattle.pk_text.specs.Written.{Written}
-use Rattle.pk_text.specs.Records.{data_shown}
-use Rattle.pk_text.specs.Steps.{TextAdvances, ahead}
+use Rattle.pk_text.{specs.Written.Written, specs.Records.data_shown, specs.Steps.TextAdvances, specs.Steps.ahead}
 use Rattle.pk_text.proofs.record.show_data.Given as goal
 
 abbrev pub invariant-loop-left : goal.invariant-loop-left

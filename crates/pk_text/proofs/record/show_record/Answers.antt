@@ -1,8 +1,5 @@
 use Rattle.std.proofs.Common.{List, ℕ}
-use Rattle.pk_text.specs.Written.{Written}
-use Rattle.pk_text.specs.Records.{head_shown}
-use Rattle.pk_text.specs.Turns.{TurnsFrom}
-use Rattle.pk_text.specs.Steps.{ahead}
+use Rattle.pk_text.{specs.Written.Written, specs.Records.head_shown, specs.Turns.TurnsFrom, specs.Steps.ahead}
 use Rattle.pk_text.proofs.Turning.{TextAdvances-then, Turns-behind, on_ok, if_err}
 use Rattle.pk_text.proofs.Showing.{Front-advances, Front-failed, End-advances, End-failed}
 use Rattle.pk_text.proofs.record.show_record.Goals as goal

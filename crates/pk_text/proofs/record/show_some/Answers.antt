@@ -1,6 +1,5 @@
 use Rattle.std.proofs.Common.{ap, arith, rules, length}
-use Rattle.pk_text.proofs.Turning.{Turns-input}
-use Rattle.pk_text.proofs.Showing.{Data-part_as, Data-advances_as, Data-failed_as}
+use Rattle.pk_text.{proofs.Turning.Turns-input, proofs.Showing.Data-part_as, proofs.Showing.Data-advances_as, proofs.Showing.Data-failed_as}
 use Rattle.pk_text.proofs.record.show_some.Goals as goal
 
 pub returns-in-Ok-false-clause-quits : goal.returns-in-Ok-false-clause-quits

@@ -1,8 +1,6 @@
 use Rattle.std.proofs.Common.{ap, ◌∙◌, subst, sym, List, ℕ, arith, length, rules}
 use Rattle.std.proofs.lemmas.Grind.{common_steps}
-use Rattle.pk_text.specs.Steps.{Fed}
-use Rattle.pk_text.proofs.Turning.{Failed-then, Fed-empty, Fed-over}
-use Rattle.pk_text.proofs.Lining.{Line-more}
+use Rattle.pk_text.{specs.Steps.Fed, proofs.Turning.Failed-then, proofs.Turning.Fed-empty, proofs.Turning.Fed-over, proofs.Lining.Line-more}
 use Rattle.pk_text.proofs.record.take_head.Goals as goal
 
 pub returns-in-Err-clause-err : goal.returns-in-Err-clause-err

@@ -2,8 +2,7 @@ use Rattle.std.proofs.Common.{Option, subst}
 use Rattle.pk_base.specs.Shape.{Shape}
 use Rattle.pk_nand.specs.Calls.{Loaded}
 use Rattle.pk_wordrun.specs.Seen.{seen}
-use Rattle.pk_top.specs.Loads.{has_image}
-use Rattle.pk_top.proofs.Asked.{tells_ask}
+use Rattle.pk_top.{specs.Loads.has_image, proofs.Asked.tells_ask}
 use Rattle.pk_top.proofs.asking.ask.Goals as goal
 
 pub returns-in-Ok-Some-clause-tells : goal.returns-in-Ok-Some-clause-tells

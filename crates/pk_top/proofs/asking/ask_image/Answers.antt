@@ -1,11 +1,9 @@
 use Rattle.std.proofs.Common.{refl, subst}
-use Rattle.pk_base.specs.Map.{Map}
-use Rattle.pk_base.specs.Shape.{Shape}
+use Rattle.pk_base.{specs.Map.Map, specs.Shape.Shape}
 use Rattle.pk_model.specs.Reading.{Holds}
 use Rattle.pk_scan.specs.declared.errors.OpenError.TheVariants.{Memory}
 use Rattle.pk_parts.specs.Parts.{sight_of}
-use Rattle.pk_wordrun.specs.Seen.{seen}
-use Rattle.pk_wordrun.specs.Told.{Told}
+use Rattle.pk_wordrun.{specs.Seen.seen, specs.Told.Told}
 use Rattle.pk_port.specs.Steps.{mount}
 use Rattle.pk_top.proofs.Asked.{Asks-not, Asks-opened, own_frames, ready_behind}
 use Rattle.pk_top.proofs.asking.ask_image.Goals as goal

@@ -1,6 +1,5 @@
 use Rattle.std.proofs.Common.{◌≡◌, refl, sym, subst}
-use Rattle.pk_base.specs.Map.{Map}
-use Rattle.pk_base.specs.Shape.{Shape}
+use Rattle.pk_base.{specs.Map.Map, specs.Shape.Shape}
 use Rattle.pk_model.specs.Reading.{Holds}
 use Rattle.pk_parts.specs.Parts.{sight_of}
 use Rattle.pk_mirrorwords.specs.PairTasks.{seen}

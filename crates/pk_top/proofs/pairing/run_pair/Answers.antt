@@ -1,9 +1,7 @@
 use Rattle.std.proofs.Common.{◌≡◌, Option, Some, map, option_map, inr, subst, ◌∙◌}
-use Rattle.pk_mirrorwords.specs.PairTasks.{PairTask as Asked, seen}
-use Rattle.pk_top.specs.PairRuns.{PairWhole}
-use Rattle.pk_mirrorwords.specs.declared.task.PairTask.{PairTask}
+use Rattle.pk_mirrorwords.{specs.PairTasks.PairTask as Asked, specs.PairTasks.seen, specs.declared.task.PairTask.PairTask}
+use Rattle.pk_top.{specs.PairRuns.PairWhole, proofs.Pairs.pair_tells, proofs.Pairs.pair_refused, proofs.Pairs.pair_whole, proofs.Pairs.short_pair}
 use Rattle.pk_top.specs.PairWords as spec
-use Rattle.pk_top.proofs.Pairs.{pair_tells, pair_refused, pair_whole, short_pair}
 use Rattle.pk_top.proofs.pairing.run_pair.Goals as goal
 
 pub ask_pair-requires : goal.ask_pair-requires

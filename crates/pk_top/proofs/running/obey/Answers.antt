@@ -1,9 +1,6 @@
 use Rattle.std.proofs.Common.{ap, sym, subst}
 use Rattle.pk_wordrun.specs.Seen.{seen as seen_task}
-use Rattle.pk_top.specs.Resting.{RestsIn}
-use Rattle.pk_top.specs.Texts.{seen}
-use Rattle.pk_top.specs.declared.word.Word.{Word}
-use Rattle.pk_top.proofs.Resting.{rests-ask}
+use Rattle.pk_top.{specs.Resting.RestsIn, specs.Texts.seen, specs.declared.word.Word.Word, proofs.Resting.rests-ask}
 use Rattle.pk_top.proofs.running.obey.Goals as goal
 
 pub serve-requires : goal.serve-requires

@@ -1,8 +1,6 @@
 use Rattle.std.proofs.Common.{◌≡◌, Option, Some, None, sym, map, option_map, subst}
 use Rattle.pk_top.specs.Words as spec
-use Rattle.pk_top.specs.Texts.{seen}
-use Rattle.pk_top.specs.declared.word.Word.{Word}
-use Rattle.pk_top.proofs.Obeyed.{runs-refused, runs-no_memory, runs-obeyed}
+use Rattle.pk_top.{specs.Texts.seen, specs.declared.word.Word.Word, proofs.Obeyed.runs-refused, proofs.Obeyed.runs-no_memory, proofs.Obeyed.runs-obeyed}
 use Rattle.pk_top.proofs.Within.{frames_within, short_within}
 use Rattle.pk_top.proofs.running.run.Goals as goal
 

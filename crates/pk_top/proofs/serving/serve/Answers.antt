@@ -1,8 +1,7 @@
 use Rattle.std.proofs.Common.{Option, subst}
 use Rattle.pk_base.specs.Shape.{Shape}
 use Rattle.pk_nand.specs.Calls.{Loaded}
-use Rattle.pk_top.specs.Loads.{has_image}
-use Rattle.pk_top.proofs.Telling.{tells_serve}
+use Rattle.pk_top.{specs.Loads.has_image, proofs.Telling.tells_serve}
 use Rattle.pk_top.proofs.serving.serve.Goals as goal
 
 pub returns-in-Ok-Some-clause-tells : goal.returns-in-Ok-Some-clause-tells

@@ -1,5 +1,4 @@
-use Rattle.std.proofs.Common.{◌<◌, length, map, sym, arith}
-use Rattle.std.proofs.lemmas.List.{length-map}
+use Rattle.std.{proofs.Common.◌<◌, proofs.Common.length, proofs.Common.map, proofs.Common.sym, proofs.Common.arith, proofs.lemmas.List.length-map}
 use Rattle.pk_base.specs.declared.sizes.TheConstants.{MOST_SPACES}
 use Rattle.pk_top.proofs.Numbers.{limits-none}
 use Rattle.pk_top.proofs.words.limits.Goals as goal

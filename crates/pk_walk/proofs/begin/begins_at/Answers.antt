@@ -1,6 +1,4 @@
-use Rattle.pk_walk.specs.Visible.{is_wanted}
-use Rattle.pk_walk.specs.declared.position.Position.TheVariants.{From}
-use Rattle.pk_walk.proofs.Wanting.{from_wants}
+use Rattle.pk_walk.{specs.Visible.is_wanted, specs.declared.position.Position.TheVariants.From, proofs.Wanting.from_wants}
 use Rattle.pk_walk.proofs.begin.begins_at.Goals as goal
 
 pub returns-in-From-clause-begins : goal.returns-in-From-clause-begins

@@ -1,8 +1,6 @@
 use Rattle.std.proofs.Common.{◌≡◌, ℕ, ◌-◌, suc, ap, sym, ◌∙◌, arith, drop}
 use Rattle.std.specs.Ordering.{is_gt}
-use Rattle.pk_walk.specs.declared.position.Position.TheVariants.{Above}
-use Rattle.pk_walk.specs.Visible.{is_wanted, wanted, first_of}
-use Rattle.pk_walk.proofs.Wanting.{above_behind}
+use Rattle.pk_walk.{specs.declared.position.Position.TheVariants.Above, specs.Visible.is_wanted, specs.Visible.wanted, specs.Visible.first_of, proofs.Wanting.above_behind}
 use Rattle.pk_walk.proofs.buffers.lowest_above.Goals as goal
 
 pub returns-else-is_gt : goal.returns-else-is_gt

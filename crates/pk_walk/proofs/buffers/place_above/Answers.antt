@@ -1,7 +1,5 @@
-use Rattle.std.proofs.Common.{◌≡◌, ℕ, ap, sym, subst, ◌∙◌, drop, slice_get}
-use Rattle.std.specs.Ordering.{is_gt}
-use Rattle.pk_walk.specs.declared.position.Position.TheVariants.{Above}
-use Rattle.pk_walk.specs.Visible.{is_wanted, wanted, first_of}
+use Rattle.std.{proofs.Common.◌≡◌, proofs.Common.ℕ, proofs.Common.ap, proofs.Common.sym, proofs.Common.subst, proofs.Common.◌∙◌, proofs.Common.drop, proofs.Common.slice_get, specs.Ordering.is_gt}
+use Rattle.pk_walk.{specs.declared.position.Position.TheVariants.Above, specs.Visible.is_wanted, specs.Visible.wanted, specs.Visible.first_of}
 use Rattle.pk_walk.proofs.Wanting.{above_there, above_end, above_next}
 use Rattle.pk_walk.proofs.buffers.place_above.Goals as goal
 

@@ -1,7 +1,5 @@
 use Rattle.std.proofs.Common.{[], ◌∷◌}
-use Rattle.pk_walk.specs.Heads.{seen_head}
-use Rattle.pk_walk.proofs.Keeping.{is_kept}
-use Rattle.pk_walk.proofs.Taking.{lead, lead_first, stands_to}
+use Rattle.pk_walk.{specs.Heads.seen_head, proofs.Keeping.is_kept, proofs.Taking.lead, proofs.Taking.lead_first, proofs.Taking.stands_to}
 use Rattle.pk_walk.proofs.orders.orders_of.Goals as goal
 
 pub kept_order-of_second-requires : goal.kept_order-of_second-requires

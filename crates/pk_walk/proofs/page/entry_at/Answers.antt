@@ -1,9 +1,5 @@
 use Rattle.std.proofs.Common.{◌≡◌, arith, sym, ap, ◌∙◌, Some, None}
-use Rattle.pk_base.specs.EntryBytes.{entry_at}
-use Rattle.pk_base.specs.EntryChecks.{entry_fault}
-use Rattle.pk_base.proofs.EntryLemmas.{entry_space}
-use Rattle.pk_base.specs.Entry.{Entry}
-use Rattle.pk_base.specs.Seen.{entry as seen}
+use Rattle.pk_base.{specs.EntryBytes.entry_at, specs.EntryChecks.entry_fault, proofs.EntryLemmas.entry_space, specs.Entry.Entry, specs.Seen.entry as seen}
 use Rattle.pk_meta.proofs.FindLemmas.{cell_room, cell_good, cell_entry}
 use Rattle.pk_walk.proofs.page.entry_at.Goals as goal
 

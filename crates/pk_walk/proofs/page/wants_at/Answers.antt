@@ -1,6 +1,5 @@
 use Rattle.std.proofs.Common.{◌≡◌, arith, ap, ◌∙◌, None}
-use Rattle.pk_base.specs.EntryChecks.{entry_fault}
-use Rattle.pk_base.proofs.EntryLemmas.{entry_size}
+use Rattle.pk_base.{specs.EntryChecks.entry_fault, proofs.EntryLemmas.entry_size}
 use Rattle.pk_meta.proofs.FindLemmas.{cell_room, cell_good}
 use Rattle.pk_walk.proofs.page.wants_at.Goals as goal
 

@@ -1,6 +1,5 @@
 use Rattle.std.proofs.Common.{ap, arith, rules}
-use Rattle.pk_walk.specs.Walking.{Cursor}
-use Rattle.pk_walk.proofs.Moving.{at_page, at_fits, found_at, none_forth}
+use Rattle.pk_walk.{specs.Walking.Cursor, proofs.Moving.at_page, proofs.Moving.at_fits, proofs.Moving.found_at, proofs.Moving.none_forth}
 use Rattle.pk_walk.proofs.Seeking.{Seeking-start, Seeking-looked, Seeking-moved, Seeking-finds, Seeking-goes_on, Seeking-none, Seeking-stays, Seeking-fails, looked_page}
 use Rattle.pk_walk.proofs.seek.search.Goals as goal
 

@@ -1,8 +1,5 @@
 use Rattle.std.proofs.Common.{ap, sym, subst, ◌∙◌, arith, is_some, Some, rules}
-use Rattle.pk_walk.specs.Heads.{Head}
-use Rattle.pk_walk.specs.Walking.{Cursor}
-use Rattle.pk_walk.specs.Steps.{GoesOn, ShowsIn}
-use Rattle.pk_walk.proofs.Moving.{at_page}
+use Rattle.pk_walk.{specs.Heads.Head, specs.Walking.Cursor, specs.Steps.GoesOn, specs.Steps.ShowsIn, proofs.Moving.at_page}
 use Rattle.pk_walk.proofs.Holding.{holding_shows, holding_goes_on, known_shows, known_goes_on, ready_finds, ready_here, unknown}
 use Rattle.pk_walk.proofs.seek.seek.Goals as goal
 

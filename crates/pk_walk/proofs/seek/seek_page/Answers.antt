@@ -1,7 +1,5 @@
 use Rattle.std.proofs.Common.{sym, subst, arith, rules}
-use Rattle.pk_walk.specs.Walking.{Cursor}
-use Rattle.pk_walk.specs.Steps.{GoesOn, ShowsIn}
-use Rattle.pk_walk.proofs.Holding.{holding_shows, holding_goes_on, place_fits}
+use Rattle.pk_walk.{specs.Walking.Cursor, specs.Steps.GoesOn, specs.Steps.ShowsIn, proofs.Holding.holding_shows, proofs.Holding.holding_goes_on, proofs.Holding.place_fits}
 use Rattle.pk_walk.proofs.seek.seek_page.Goals as goal
 
 pub hold-requires : goal.hold-requires

@@ -3,8 +3,7 @@ use Rattle.pk_base.specs.Shape.{Shape}
 use Rattle.pk_nvme.specs.Seen.{command_of}
 use Rattle.pk_nand.specs.BoardState.{shape_or_none}
 use Rattle.pk_call.specs.Exec.{IsValue}
-use Rattle.pk_serve.proofs.Counting.{unworn_few}
-use Rattle.pk_serve.proofs.Skipping.{stands_value, reaches_value, went_value}
+use Rattle.pk_serve.{proofs.Counting.unworn_few, proofs.Skipping.stands_value, proofs.Skipping.reaches_value, proofs.Skipping.went_value}
 use Rattle.pk_wordrun.proofs.Grouping.{adds_next, stops_next}
 use Rattle.pk_wordrun.proofs.group.execute.Goals as goal
 

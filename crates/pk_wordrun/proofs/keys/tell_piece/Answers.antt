@@ -1,9 +1,7 @@
 use Rattle.std.proofs.Common.{List, ℕ, ap, subst, ◌∙◌}
-use Rattle.pk_nand.specs.BoardState.{BoardState}
-use Rattle.pk_nand.specs.Operations.{after_post, PostFailed}
+use Rattle.pk_nand.{specs.BoardState.BoardState, specs.Operations.after_post, specs.Operations.PostFailed}
 use Rattle.pk_port.specs.Steps.{Mounted, mount}
-use Rattle.pk_wordrun.proofs.Piecing.{piece_asked}
-use Rattle.pk_wordrun.proofs.Posting.{fits-posted}
+use Rattle.pk_wordrun.{proofs.Piecing.piece_asked, proofs.Posting.fits-posted}
 use Rattle.pk_wordrun.proofs.keys.tell_piece.Goals as goal
 
 pub returns-in-Ok-say-clause-fits : goal.returns-in-Ok-say-clause-fits

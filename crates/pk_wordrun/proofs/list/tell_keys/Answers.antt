@@ -1,11 +1,9 @@
 use Rattle.std.proofs.Common.{ℕ, Option, Some, None, refl, sym, subst, ◌∙◌}
-use Rattle.pk_words.specs.declared.listing.ListPosition.{ListPosition}
+use Rattle.pk_words.{specs.declared.listing.ListPosition.ListPosition, specs.Listing.IsOwnPlace}
 use Rattle.pk_wordrun.specs.Pieces.{PieceTold, PieceEnds}
-use Rattle.pk_words.specs.Listing.{IsOwnPlace}
 use Rattle.pk_wordrun.proofs.Lists.{own_start, own_next, IsSaying, saying_none, saying_more, saying_done, saying_ends}
 use Rattle.pk_model.specs.Spaces.{Terms}
-use Rattle.pk_port.specs.Steps.{mount}
-use Rattle.pk_port.proofs.Serving.{mounted_limits}
+use Rattle.pk_port.{specs.Steps.mount, proofs.Serving.mounted_limits}
 use Rattle.pk_wordrun.proofs.list.tell_keys.Goals as goal
 
 pub loop-next-init : goal.loop-next-init

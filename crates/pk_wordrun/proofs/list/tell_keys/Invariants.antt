@@ -1,8 +1,7 @@
 use Rattle.std.proofs.Common.{◌≡◌, false}
 use Rattle.pk_base.specs.Map.{Map}
 use Rattle.pk_model.specs.Reading.{Holds}
-use Rattle.pk_port.specs.Ready.{Fits}
-use Rattle.pk_port.specs.Steps.{mount}
+use Rattle.pk_port.{specs.Ready.Fits, specs.Steps.mount}
 use Rattle.pk_words.specs.Listing.{IsOwnPlace, pieces_left}
 use Rattle.pk_wordrun.proofs.Lists.{IsSaying}
 use Rattle.pk_wordrun.proofs.list.tell_keys.Given as goal

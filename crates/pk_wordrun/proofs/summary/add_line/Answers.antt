@@ -1,6 +1,5 @@
 use Rattle.std.proofs.Common.{◌∷◌, [], arith}
-use Rattle.pk_nvme.specs.Text.{number_text}
-use Rattle.pk_nvme.proofs.TextLemmas.{appended, number_text_short}
+use Rattle.pk_nvme.{specs.Text.number_text, proofs.TextLemmas.appended, proofs.TextLemmas.number_text_short}
 use Rattle.pk_wordrun.proofs.summary.add_line.Goals as goal
 
 pub push_number-requires : goal.push_number-requires

@@ -1,12 +1,8 @@
 use Rattle.std.proofs.Common.{List, ℕ, ap, sym, subst, ◌∙◌}
 use Rattle.pk_nand.specs.Operations.{after_post, PostFailed}
 use Rattle.pk_words.specs.Question.{seen}
-use Rattle.pk_port.specs.Steps.{mount}
-use Rattle.pk_wordrun.specs.Tasks.{answer}
-use Rattle.pk_wordrun.specs.Told.{Told}
-use Rattle.pk_wordrun.specs.declared.end.WordEnd.{WordEnd}
-use Rattle.pk_port.proofs.Serving.{mounted_limits}
-use Rattle.pk_wordrun.proofs.Telling.{told-done, told-output, told-fails}
+use Rattle.pk_port.{specs.Steps.mount, proofs.Serving.mounted_limits}
+use Rattle.pk_wordrun.{specs.Tasks.answer, specs.Told.Told, specs.declared.end.WordEnd.WordEnd, proofs.Telling.told-done, proofs.Telling.told-output, proofs.Telling.told-fails}
 use Rattle.pk_wordrun.proofs.tell.tell.Goals as goal
 
 pub returns-in-Ok-say : goal.returns-in-Ok-say

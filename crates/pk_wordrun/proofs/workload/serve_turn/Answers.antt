@@ -1,8 +1,5 @@
 use Rattle.std.proofs.Common.{◌≡◌, List, [], ◌∷◌, ℕ, refl, subst, ap, ◌∙◌}
-use Rattle.pk_nvme.specs.Bytes.{RoomyList}
-use Rattle.pk_nvme.specs.Command.{Command}
-use Rattle.pk_nvme.specs.Seen.{command_of}
-use Rattle.pk_nvme.specs.declared.request.Request.{Request}
+use Rattle.pk_nvme.{specs.Bytes.RoomyList, specs.Command.Command, specs.Seen.command_of, specs.declared.request.Request.Request}
 use Rattle.pk_gen.specs.Workload.{request_of, value_of}
 use Rattle.pk_call.specs.Seen.{reply_of}
 use Rattle.pk_wordrun.specs.Grouped.{exchange, StopsGroup}

@@ -1,7 +1,6 @@
 use Rattle.std.proofs.Common.{List, ℕ, ap, subst, ◌∙◌}
 use Rattle.pk_nvme.specs.Bytes.{RoomyList}
-use Rattle.pk_nand.specs.BoardState.{BoardState}
-use Rattle.pk_nand.specs.Operations.{after_post, PostFailed}
+use Rattle.pk_nand.{specs.BoardState.BoardState, specs.Operations.after_post, specs.Operations.PostFailed}
 use Rattle.pk_wordrun.proofs.Generating.{counted, told_summary, told_unposted}
 use Rattle.pk_port.specs.Steps.{mount}
 use Rattle.pk_wordrun.proofs.workload.tell_workload.Goals as goal

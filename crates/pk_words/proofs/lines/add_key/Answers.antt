@@ -1,6 +1,5 @@
 use Rattle.std.proofs.Common.{List, ℕ, length, ◌∷◌, [], ap, arith}
-use Rattle.pk_nvme.specs.Text.{hex_text}
-use Rattle.pk_nvme.proofs.TextLemmas.{appended, length-hex_text}
+use Rattle.pk_nvme.{specs.Text.hex_text, proofs.TextLemmas.appended, proofs.TextLemmas.length-hex_text}
 use Rattle.pk_words.proofs.lines.add_key.Goals as goal
 
 pub push-requires : goal.push-requires

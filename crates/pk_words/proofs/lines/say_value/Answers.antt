@@ -1,8 +1,5 @@
-use Rattle.std.proofs.Common.{length, ap, arith}
-use Rattle.std.specs.Prelude.{codes}
-use Rattle.pk_nvme.specs.Bytes.{RoomyList}
-use Rattle.pk_nvme.specs.Text.{hex_text}
-use Rattle.pk_nvme.proofs.TextLemmas.{appended, length-hex_text}
+use Rattle.std.{proofs.Common.length, proofs.Common.ap, proofs.Common.arith, specs.Prelude.codes}
+use Rattle.pk_nvme.{specs.Bytes.RoomyList, specs.Text.hex_text, proofs.TextLemmas.appended, proofs.TextLemmas.length-hex_text}
 use Rattle.pk_words.proofs.lines.say_value.Goals as goal
 
 pub push-requires : goal.push-requires

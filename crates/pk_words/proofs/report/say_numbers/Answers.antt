@@ -1,7 +1,6 @@
 use Rattle.std.proofs.Common.{ap, ◌∙◌, arith}
 use Rattle.pk_nvme.specs.Bytes.{RoomyList}
-use Rattle.pk_words.specs.Lines.{report_lines}
-use Rattle.pk_words.proofs.ReportLemmas.{counted_more, counted_all}
+use Rattle.pk_words.{specs.Lines.report_lines, proofs.ReportLemmas.counted_more, proofs.ReportLemmas.counted_all}
 use Rattle.pk_words.proofs.report.say_numbers.Goals as goal
 
 pub loop-i-preserved : goal.loop-i-preserved

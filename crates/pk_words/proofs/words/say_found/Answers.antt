@@ -1,7 +1,6 @@
 use Rattle.std.proofs.Common.{Some, ap, ◌∙◌, List, ℕ}
 use Rattle.pk_nvme.specs.Bytes.{RoomyList}
-use Rattle.pk_words.specs.Lines.{value_line}
-use Rattle.pk_words.proofs.SaidLemmas.{said_value, said_missing, said_failed}
+use Rattle.pk_words.{specs.Lines.value_line, proofs.SaidLemmas.said_value, proofs.SaidLemmas.said_missing, proofs.SaidLemmas.said_failed}
 use Rattle.pk_words.proofs.words.say_found.Goals as goal
 
 pub returns-in-Ok-Some-clause-said : goal.returns-in-Ok-Some-clause-said

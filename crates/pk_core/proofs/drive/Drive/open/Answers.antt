@@ -1,7 +1,6 @@
 use Rattle.std.proofs.Common.{ap, ◌∙◌}
 use Rattle.pk_nand.specs.BoardState.{BoardState}
-use Rattle.pk_core.proofs.Steadying.{between_steady}
-use Rattle.pk_core.proofs.Opening.{agrees_behind, stands_behind, blocks_behind}
+use Rattle.pk_core.{proofs.Steadying.between_steady, proofs.Opening.agrees_behind, proofs.Opening.stands_behind, proofs.Opening.blocks_behind}
 use Rattle.pk_core.proofs.drive.Drive.open.Goals as goal
 
 pub returns-in-Ok-over-clause-agrees : goal.returns-in-Ok-over-clause-agrees

@@ -1,14 +1,9 @@
 use Rattle.std.proofs.Common.{refl, sym, ap, ◌∙◌}
 use Rattle.pk_nand.specs.BoardState.{BoardState}
-use Rattle.pk_core.proofs.Standing.{stands_for, stands_here, still_stands}
-use Rattle.pk_core.proofs.Committing.{committed, not_committed, agrees_committed}
-use Rattle.pk_parts.specs.Parts.{Parts, sight_of, frames_of}
-use Rattle.pk_parts.proofs.Halves.{not_made}
+use Rattle.pk_core.{proofs.Standing.stands_for, proofs.Standing.stands_here, proofs.Standing.still_stands, proofs.Executing.none_between, proofs.Executing.never, proofs.Steadying.steadies}
+use Rattle.pk_core.{proofs.Committing.committed, proofs.Committing.not_committed, proofs.Committing.agrees_committed, proofs.Sights.works_up, proofs.Sights.stops_up}
+use Rattle.pk_parts.{specs.Parts.Parts, specs.Parts.sight_of, specs.Parts.frames_of, proofs.Halves.not_made, proofs.Unchanging.agrees_ready}
 use Rattle.pk_model.proofs.Growing.{reached_limits}
-use Rattle.pk_parts.proofs.Unchanging.{agrees_ready}
-use Rattle.pk_core.proofs.Executing.{none_between, never}
-use Rattle.pk_core.proofs.Sights.{works_up, stops_up}
-use Rattle.pk_core.proofs.Steadying.{steadies}
 use Rattle.pk_core.proofs.engine.DriveEngine.commit.Goals as goal
 
 pub commit_pending-requires : goal.commit_pending-requires

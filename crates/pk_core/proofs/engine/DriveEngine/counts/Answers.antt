@@ -1,8 +1,6 @@
 use Rattle.std.proofs.Common.{◌≤◌, ℕ, refl, subst, length}
-use Rattle.pk_parts.specs.Parts.{Parts, IsParts, drive_limits}
-use Rattle.pk_parts.proofs.OwnLimits.{reported_length}
-use Rattle.pk_core.proofs.Counting.{agrees_counts}
-use Rattle.pk_core.proofs.Steadying.{between_steady}
+use Rattle.pk_parts.{specs.Parts.Parts, specs.Parts.IsParts, specs.Parts.drive_limits, proofs.OwnLimits.reported_length}
+use Rattle.pk_core.{proofs.Counting.agrees_counts, proofs.Steadying.between_steady}
 use Rattle.pk_core.proofs.engine.DriveEngine.counts.Goals as goal
 
 pub returns-clause-numbers : goal.returns-clause-numbers

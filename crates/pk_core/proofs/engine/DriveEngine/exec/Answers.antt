@@ -2,14 +2,11 @@ use Rattle.std.proofs.Common.{◌≡◌, ◌∙◌, ℕ, sym, ap, subst, arith, 
 use Rattle.std.specs.Prelude.{IsSome}
 use Rattle.pk_base.specs.Shape.{Shape}
 use Rattle.pk_nvme.specs.Seen.{command_of}
-use Rattle.pk_model.specs.Answer.{early}
-use Rattle.pk_core.proofs.Early.{told_shape}
+use Rattle.pk_model.{specs.Answer.early, specs.Spaces.limits_at}
+use Rattle.pk_core.{proofs.Early.told_shape, proofs.engine.DriveEngine.exec.Given.Over}
 use Rattle.pk_core.proofs.Recording.{HasEnded, AnswersBy, refused_ends, refused_answers, leaves_drive, answers_command, counts_calls, settles_background, shows_itself, waits_for_nothing}
-use Rattle.pk_core.proofs.engine.DriveEngine.exec.Given.{Over}
 use Rattle.pk_core.proofs.engine.DriveEngine.exec.Goals as goal
-use Rattle.pk_model.specs.Spaces.{limits_at}
-use Rattle.pk_parts.specs.Parts.{drive_limits}
-use Rattle.pk_parts.proofs.OwnLimits.{limits_on}
+use Rattle.pk_parts.{specs.Parts.drive_limits, proofs.OwnLimits.limits_on}
 
 -- ---- a command that is refused
 

@@ -1,8 +1,5 @@
 use Rattle.pk_parts.specs.Parts.{sight_of}
-use Rattle.pk_core.proofs.Steadying.{steadies, between_none}
-use Rattle.pk_core.proofs.Due.{merges_next}
-use Rattle.pk_core.proofs.Staying.{keeps_fresh}
-use Rattle.pk_core.proofs.Stepping.{tick_may}
+use Rattle.pk_core.{proofs.Steadying.steadies, proofs.Steadying.between_none, proofs.Due.merges_next, proofs.Staying.keeps_fresh, proofs.Stepping.tick_may}
 use Rattle.pk_core.proofs.engine.DriveEngine.tick.Goals as goal
 
 pub step-answer-requires : goal.step-answer-requires

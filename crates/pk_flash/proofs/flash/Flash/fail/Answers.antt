@@ -1,7 +1,5 @@
 use Rattle.std.proofs.Common.{ap, ◌∙◌, refl}
-use Rattle.pk_flash.specs.declared.types.Planned.{Planned}
-use Rattle.pk_flash.specs.Plan.{planned_left}
-use Rattle.pk_flash.proofs.PlanLemmas.{later-same, later-other}
+use Rattle.pk_flash.{specs.declared.types.Planned.Planned, specs.Plan.planned_left, proofs.PlanLemmas.later-same, proofs.PlanLemmas.later-other}
 use Rattle.pk_flash.proofs.flash.Flash.fail.Goals as goal
 
 pub returns-clause-planned : goal.returns-clause-planned

@@ -1,18 +1,10 @@
-use Rattle.std.proofs.Common.{◌≡◌, ℕ, List, [], ◌++◌, length, take, drop}
-use Rattle.std.proofs.Common.{sym, ap, subst, ◌∙◌, Result, Ok}
+use Rattle.std.proofs.Common.{◌≡◌, ℕ, List, [], ◌++◌, length, take, drop, sym, ap, subst, ◌∙◌, Result, Ok}
 use Rattle.std.proofs.Math.Seq.{take-append_seam}
-use Rattle.pk_base.specs.Key.{Key}
-use Rattle.pk_base.specs.Shape.{Shape}
-use Rattle.pk_base.specs.Page.{Flash, page_at, whole}
+use Rattle.pk_base.{specs.Key.Key, specs.Shape.Shape, specs.Page.Flash, specs.Page.page_at, specs.Page.whole}
 use Rattle.pk_nand.specs.BoardState.{BoardState}
-use Rattle.pk_segfmt.specs.Head.{IsHead}
-use Rattle.pk_segfmt.specs.Value.{head_bytes}
+use Rattle.pk_segfmt.{specs.Head.IsHead, specs.Value.head_bytes}
 use Rattle.pk_seg.specs.Stored.{HasHead}
-use Rattle.pk_gc.specs.declared.course.Phase.TheVariants.{Copies}
-use Rattle.pk_gc.specs.State.{JobState}
-use Rattle.pk_gc.specs.Running.{IsRunning}
-use Rattle.pk_gc.specs.Asking.{begun_course, begun_moves}
-use Rattle.pk_gc.proofs.Copying.{begin_runs}
+use Rattle.pk_gc.{specs.declared.course.Phase.TheVariants.Copies, specs.State.JobState, specs.Running.IsRunning, specs.Asking.begun_course, specs.Asking.begun_moves, proofs.Copying.begin_runs}
 use Rattle.pk_gc.proofs.job.ReclaimJob.begin_value.Goals as goal
 
 -- the head at the start of the page that was read

@@ -1,11 +1,6 @@
 use Rattle.std.proofs.Common.{◌≡◌, ℕ, ◌+◌, ◌*◌, sym, ap, subst, ◌∙◌}
-use Rattle.pk_nand.specs.BoardState.{BoardState}
-use Rattle.pk_nand.specs.Calls.{after_program}
-use Rattle.pk_nand.specs.Operations.{InOrder}
-use Rattle.pk_nand.proofs.Writing.{shape_is}
-use Rattle.pk_gc.specs.State.{JobState, target, programmed}
-use Rattle.pk_gc.specs.Running.{IsRunning}
-use Rattle.pk_gc.proofs.Copying.{program_runs, in_order, target_exists}
+use Rattle.pk_nand.{specs.BoardState.BoardState, specs.Calls.after_program, specs.Operations.InOrder, proofs.Writing.shape_is}
+use Rattle.pk_gc.{specs.State.JobState, specs.State.target, specs.State.programmed, specs.Running.IsRunning, proofs.Copying.program_runs, proofs.Copying.in_order, proofs.Copying.target_exists}
 use Rattle.pk_gc.proofs.job.ReclaimJob.program.Goals as goal
 
 pub write_page-requires-clause-order : goal.write_page-requires-clause-order

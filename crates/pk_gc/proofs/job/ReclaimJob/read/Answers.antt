@@ -2,9 +2,7 @@ use Rattle.std.proofs.Common.{◌≡◌, ℕ, ◌+◌, ◌*◌, ◌++◌, length
 use Rattle.std.proofs.Math.Seq.{take-append_seam}
 use Rattle.pk_base.specs.Page.{page_at, whole}
 use Rattle.pk_nand.specs.BoardState.{BoardState}
-use Rattle.pk_gc.specs.State.{JobState, source, read_next}
-use Rattle.pk_gc.specs.Running.{IsRunning}
-use Rattle.pk_gc.proofs.Copying.{read_runs}
+use Rattle.pk_gc.{specs.State.JobState, specs.State.source, specs.State.read_next, specs.Running.IsRunning, proofs.Copying.read_runs}
 use Rattle.pk_gc.proofs.job.ReclaimJob.read.Goals as goal
 
 pub returns-in-Ok-clause-runs : goal.returns-in-Ok-clause-runs

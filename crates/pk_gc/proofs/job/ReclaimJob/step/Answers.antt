@@ -1,10 +1,6 @@
-use Rattle.std.proofs.Common.{◌≡◌, inl, inr, refl, sym, ap, subst, ◌∙◌, arith}
-use Rattle.std.proofs.Common.{Result, Ok, Err, IfOk, OnOk}
-use Rattle.pk_gc.specs.declared.course.Phase.{Phase}
-use Rattle.pk_gc.specs.declared.course.Phase.TheVariants.{Copies, Commits}
-use Rattle.pk_gc.specs.State.{JobState}
+use Rattle.std.proofs.Common.{◌≡◌, inl, inr, refl, sym, ap, subst, ◌∙◌, arith, Result, Ok, Err, IfOk, OnOk}
+use Rattle.pk_gc.{specs.declared.course.Phase.Phase, specs.declared.course.Phase.TheVariants.Copies, specs.declared.course.Phase.TheVariants.Commits, specs.State.JobState, specs.Asking.hands_of}
 use Rattle.pk_gc.specs.Stepping.{CanGoOn, CanStepIn, BeginsValue, EndsMoves, Tries, StepsIn}
-use Rattle.pk_gc.specs.Asking.{hands_of}
 use Rattle.pk_gc.proofs.Parts.{first_head, dead_to_end, can_finish, finishes}
 use Rattle.pk_gc.proofs.job.ReclaimJob.step.Goals as goal
 

@@ -1,12 +1,9 @@
-use Rattle.pk_host.proofs.CauseLemmas.{caused_later}
-use Rattle.std.proofs.Common.{◌∙◌, sym, ap, subst, List, [], length, ◌-◌}
+use Rattle.pk_host.{proofs.CauseLemmas.caused_later, specs.Calls.IsOwnKey, specs.Listing.listed_by}
+use Rattle.pk_host.proofs.PageLemmas.{more_lists, listing_goes, listing_ends, own_more, own_one}
+use Rattle.std.{proofs.Common.◌∙◌, proofs.Common.sym, proofs.Common.ap, proofs.Common.subst, proofs.Common.List, proofs.Common.[], proofs.Common.length, proofs.Common.◌-◌, specs.Option.option_copied}
 use Rattle.std.specs.List.{AllByRecursion, slice_get}
-use Rattle.std.specs.Option.{option_copied}
 use Rattle.pk_base.specs.Key.{Key}
 use Rattle.pk_nvme.specs.Command.{key_or_none}
-use Rattle.pk_host.specs.Calls.{IsOwnKey}
-use Rattle.pk_host.specs.Listing.{listed_by}
-use Rattle.pk_host.proofs.PageLemmas.{more_lists, listing_goes, listing_ends, own_more, own_one}
 use Rattle.pk_host.proofs.host.Host.list_all.Goals as goal
 
 pub returns-in-Err-list_page-clause-took : goal.returns-in-Err-list_page-clause-took

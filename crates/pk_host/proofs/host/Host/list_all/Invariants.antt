@@ -1,7 +1,5 @@
 use Rattle.std.specs.List.{AllByRecursion}
-use Rattle.pk_host.specs.Calls.{IsOwnKey}
-use Rattle.pk_host.specs.Outcomes.{AreLists, TookSome}
-use Rattle.pk_host.proofs.PageLemmas.{IsListing}
+use Rattle.pk_host.{specs.Calls.IsOwnKey, specs.Outcomes.AreLists, specs.Outcomes.TookSome, proofs.PageLemmas.IsListing}
 use Rattle.pk_host.proofs.host.Host.list_all.Given as goal
 
 abbrev pub invariant-loop : goal.invariant-loop

@@ -1,7 +1,6 @@
 use Rattle.std.specs.Option.{option_copied}
 use Rattle.pk_nvme.specs.Command.{key_or_none}
-use Rattle.pk_host.proofs.CauseLemmas.{list_causes}
-use Rattle.pk_host.proofs.PageLemmas.{start_short}
+use Rattle.pk_host.{proofs.CauseLemmas.list_causes, proofs.PageLemmas.start_short}
 use Rattle.pk_host.proofs.host.Host.list_page.Goals as goal
 
 pub returns-clause-causes : goal.returns-clause-causes

@@ -1,11 +1,10 @@
 use Rattle.std.proofs.Common.{◌∙◌, ℕ, List, [], Ok, nat_lt, length, sym, ap}
 use Rattle.std.specs.Option.{option_copied}
 use Rattle.pk_nvme.specs.Command.{key_or_none}
-use Rattle.pk_host.specs.Calls.{of_bytes}
-use Rattle.pk_base.specs.Key.{Key}
-use Rattle.pk_host.proofs.CallLemmas.{ok_if}
+use Rattle.pk_host.{specs.Calls.of_bytes, proofs.CallLemmas.ok_if}
 use Rattle.pk_host.proofs.PageLemmas.{for_start, start_short, page_read, follows_read, knows_keys, took_lists, ok_only, ok_never, all_read, none_read}
 use Rattle.pk_host.proofs.host.Host.page_from.Goals.{in-Ok+in-0, in-Ok+in_default, in-Err}
+use Rattle.pk_base.specs.Key.{Key}
 use Rattle.pk_host.proofs.host.Host.page_from.Goals as goal
 
 pub returns-clause-pages : goal.returns-clause-pages

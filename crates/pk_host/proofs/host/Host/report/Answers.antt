@@ -1,5 +1,4 @@
-use Rattle.std.proofs.Common.{◌≡◌, ◌==◌, ◌∙◌, false, refl, arith}
-use Rattle.std.proofs.lemmas.Bool.Decides.{nat_tests}
+use Rattle.std.{proofs.Common.◌≡◌, proofs.Common.◌==◌, proofs.Common.◌∙◌, proofs.Common.false, proofs.Common.refl, proofs.Common.arith, proofs.lemmas.Bool.Decides.nat_tests}
 use Rattle.pk_host.proofs.ReportLemmas.{report_numbers, report_leaves, report_done, report_refused, report_cause}
 use Rattle.pk_host.proofs.host.Host.report.Goals as goal
 

@@ -1,7 +1,4 @@
-use Rattle.pk_host.specs.Outcomes.{retrieved}
-use Rattle.pk_host.proofs.CauseLemmas.{later_causes}
-use Rattle.pk_host.specs.declared.whole.Front.{Front}
-use Rattle.pk_host.proofs.FetchLemmas.{whole_first, took_second}
+use Rattle.pk_host.{specs.Outcomes.retrieved, proofs.CauseLemmas.later_causes, specs.declared.whole.Front.Front, proofs.FetchLemmas.whole_first, proofs.FetchLemmas.took_second}
 use Rattle.pk_host.proofs.host.Host.retrieve_whole.Goals as goal
 
 pub returns-then-whole-le-FIRST_BYTES-clause-gets : goal.returns-then-whole-le-FIRST_BYTES-clause-gets

@@ -1,9 +1,7 @@
 use Rattle.std.proofs.Common.{◌≡◌, ◌+◌, ◌-◌, ◌<◌, ◌≤◌, ◌^◌, ◌∙◌, refl, ap, arith, length, rules}
 use Rattle.pk_nand.proofs.Writing.{shape_is}
-use Rattle.pk_jrn.specs.contracts.epoch.Epoch.{the_view}
-use Rattle.pk_jrn.proofs.Places.{InOrder-next_page}
+use Rattle.pk_jrn.{specs.contracts.epoch.Epoch.the_view, proofs.Places.InOrder-next_page, proofs.Halving.Begun}
 use Rattle.pk_jrn.proofs.Appending.{takes_more, commit_left, next_spells, Commit-went}
-use Rattle.pk_jrn.proofs.Halving.{Begun}
 use Rattle.pk_jrn.proofs.epoch.Epoch.begin.Goals as goal
 
 pub write_first-requires-clause-exists : goal.write_first-requires-clause-exists

@@ -1,8 +1,6 @@
 use Rattle.std.proofs.Common.{◌∙◌, ap, sym, arith, rules}
-use Rattle.pk_base.specs.Page.{page_at}
-use Rattle.pk_base.proofs.CommitPages.{second}
-use Rattle.pk_jrn.proofs.Places.{pages_erased}
-use Rattle.pk_jrn.proofs.Journals.{reads_none, erased_not_whole, pair_not_whole}
+use Rattle.pk_base.{specs.Page.page_at, proofs.CommitPages.second}
+use Rattle.pk_jrn.{proofs.Places.pages_erased, proofs.Journals.reads_none, proofs.Journals.erased_not_whole, proofs.Journals.pair_not_whole}
 use Rattle.pk_jrn.proofs.epoch.Epoch.start.Goals as goal
 
 pub returns-clause-reads : goal.returns-clause-reads

@@ -1,7 +1,5 @@
 use Rattle.std.proofs.Common.{rules, ap, sym, ◌∙◌}
-use Rattle.pk_log.specs.State.{LogState}
-use Rattle.pk_log.proofs.Pushing.{some_seen, none_seen}
-use Rattle.pk_log.proofs.Standing.{epoch_blocks_are}
+use Rattle.pk_log.{specs.State.LogState, proofs.Pushing.some_seen, proofs.Pushing.none_seen, proofs.Standing.epoch_blocks_are}
 use Rattle.pk_log.proofs.Committing.{holds_done, reaches, goes, stands_done, reaches_none}
 use Rattle.pk_log.proofs.log.Log.commit.Goals as goal
 

@@ -1,11 +1,7 @@
 use Rattle.std.proofs.Common.{subst, sym, ◌≤◌}
-use Rattle.pk_base.specs.Key.{space_of}
-use Rattle.pk_base.specs.Entry.{key_of}
-use Rattle.pk_model.specs.Laws.{IsStorable}
-use Rattle.pk_model.specs.RootLimits.{root_spaces}
-use Rattle.pk_log.specs.State.{LogState}
-use Rattle.pk_base.specs.Seen.{entry as seen}
-use Rattle.pk_log.proofs.Pushing.{seen_push, keys_fit, stands_pushed}
+use Rattle.pk_base.{specs.Key.space_of, specs.Entry.key_of, specs.Seen.entry as seen}
+use Rattle.pk_model.{specs.Laws.IsStorable, specs.RootLimits.root_spaces}
+use Rattle.pk_log.{specs.State.LogState, proofs.Pushing.seen_push, proofs.Pushing.keys_fit, proofs.Pushing.stands_pushed}
 use Rattle.pk_log.proofs.log.Log.push.Goals as goal
 
 pub returns-clause-stands : goal.returns-clause-stands

@@ -1,8 +1,6 @@
 use Rattle.std.proofs.Common.{◌∙◌, ap, subst}
 use Rattle.pk_base.specs.Shape.{IsShape}
-use Rattle.pk_merge.specs.Jobs.{Job, output_of}
-use Rattle.pk_merge.proofs.Counting.{within}
-use Rattle.pk_merge.proofs.Elsewhere.{runs_elsewhere}
+use Rattle.pk_merge.{specs.Jobs.Job, specs.Jobs.output_of, proofs.Counting.within, proofs.Elsewhere.runs_elsewhere}
 use Rattle.pk_merge.proofs.job.MergeJob.known.Goals as goal
 
 pub returns-clause-elsewhere : goal.returns-clause-elsewhere

@@ -1,7 +1,6 @@
 use Rattle.std.proofs.Common.{sym, subst}
 use Rattle.pk_pool.specs.Blocks.{Blocks, freed}
-use Rattle.pk_merge.specs.Jobs.{LeavesBlocks}
-use Rattle.pk_merge.proofs.Freeing.{freed_others}
+use Rattle.pk_merge.{specs.Jobs.LeavesBlocks, proofs.Freeing.freed_others}
 use Rattle.pk_merge.proofs.job.MergeJob.leave.Goals as goal
 
 pub returns-clause-blocks : goal.returns-clause-blocks

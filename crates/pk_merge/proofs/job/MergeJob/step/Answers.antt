@@ -1,8 +1,6 @@
 use Rattle.std.proofs.Common.{refl, ◌∙◌}
-use Rattle.pk_merge.proofs.Results.{on_ok, if_ok_also, either, of_err, at_err}
-use Rattle.pk_merge.proofs.Boards.{acts_call, fails_call, fails_reading, fails_stopped}
-use Rattle.pk_merge.proofs.Leasing.{acts_lease}
-use Rattle.pk_merge.proofs.Reaching.{stops_in, reads_again}
+use Rattle.pk_merge.{proofs.Results.on_ok, proofs.Results.if_ok_also, proofs.Results.either, proofs.Results.of_err, proofs.Results.at_err, proofs.Leasing.acts_lease}
+use Rattle.pk_merge.{proofs.Boards.acts_call, proofs.Boards.fails_call, proofs.Boards.fails_reading, proofs.Boards.fails_stopped, proofs.Reaching.stops_in, proofs.Reaching.reads_again}
 use Rattle.pk_merge.proofs.Stepped.{runs_on, same_level, whole, lowers, lowers_rest, reaches, leaves}
 use Rattle.pk_merge.proofs.job.MergeJob.step.Goals as goal
 

@@ -1,5 +1,4 @@
-use Rattle.pk_merge.proofs.Loading.{loads_of}
-use Rattle.pk_merge.proofs.Results.{on_ok}
+use Rattle.pk_merge.{proofs.Loading.loads_of, proofs.Results.on_ok}
 use Rattle.pk_merge.proofs.merger.Merger.load_target.Goals as goal
 
 pub returns-clause-loads : goal.returns-clause-loads

@@ -1,7 +1,5 @@
 use Rattle.std.proofs.Common.{Err, ap, ◌∙◌}
-use Rattle.pk_mirror.specs.Pair.{Mirrored}
-use Rattle.pk_mirror.proofs.PairLemmas.{pair_alike}
-use Rattle.pk_mirror.proofs.PageLemmas.{mirrored, resynced, unresynced, resync_unread}
+use Rattle.pk_mirror.{specs.Pair.Mirrored, proofs.PairLemmas.pair_alike, proofs.PageLemmas.mirrored, proofs.PageLemmas.resynced, proofs.PageLemmas.unresynced, proofs.PageLemmas.resync_unread}
 use Rattle.pk_mirror.proofs.VisitLemmas.{not_split}
 use Rattle.pk_mirror.proofs.mirror.Mirror.resync.Goals as goal
 

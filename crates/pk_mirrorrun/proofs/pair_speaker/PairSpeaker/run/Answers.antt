@@ -1,14 +1,12 @@
 use Rattle.std.proofs.Common.{◌≡◌, sym, subst}
-use Rattle.pk_base.specs.Shape.{Shape}
-use Rattle.pk_base.specs.Map.{Map}
+use Rattle.pk_base.{specs.Shape.Shape, specs.Map.Map}
 use Rattle.pk_nand.specs.Calls.{IsReady}
 use Rattle.pk_call.specs.Drive.{HoldsMap}
 use Rattle.pk_model.specs.Reading.{Holds}
 use Rattle.pk_mirrorwords.specs.PairTasks.{seen}
-use Rattle.pk_mirrorrun.specs.PairTold.{first_limit, PairTold}
+use Rattle.pk_mirrorrun.{specs.PairTold.first_limit, specs.PairTold.PairTold, proofs.Lending.serving}
 use Rattle.pk_port.specs.Steps.{mount}
 use Rattle.pk_wordrun.proofs.Opening.{fits-somehow}
-use Rattle.pk_mirrorrun.proofs.Lending.{serving}
 use Rattle.pk_mirrorrun.proofs.pair_speaker.PairSpeaker.run.Goals as goal
 
 pub tell-requires-clause-first_fits : goal.tell-requires-clause-first_fits

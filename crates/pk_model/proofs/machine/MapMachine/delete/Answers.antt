@@ -1,20 +1,10 @@
 use Rattle.std.proofs.Common.{◌≡◌, ◌∙◌, sym, ap, refl, List, [], ℕ, true, false, arith, subst}
-use Rattle.std.proofs.lemmas.Result.{IfOk-weaker}
-use Rattle.std.specs.FinMap.{get, contains_key, remove}
-use Rattle.pk_base.specs.Map.{Map, live, pages_if_some}
-use Rattle.pk_base.specs.Key.{space_of}
-use Rattle.pk_model.proofs.SpaceLemmas.{in_space-remove}
-use Rattle.pk_nvme.specs.Seen.{command_of}
-use Rattle.pk_nvme.specs.Command.{key}
-use Rattle.pk_nvme.specs.Reply.{refusal}
-use Rattle.pk_nvme.specs.Opcode.{op_of}
-use Rattle.pk_nvme.specs.declared.opcode.Opcode.TheVariants.{Delete}
-use Rattle.pk_model.specs.Answer.{check}
-use Rattle.pk_model.specs.Machine.{Machine, replied, Answers}
-use Rattle.pk_model.proofs.Answering.{key_sized, key_spaced}
-use Rattle.pk_model.proofs.Machines.{refused_answer, served_answer, live_removed, turned}
+use Rattle.std.{proofs.lemmas.Result.IfOk-weaker, specs.FinMap.get, specs.FinMap.contains_key, specs.FinMap.remove}
+use Rattle.pk_base.{specs.Map.Map, specs.Map.live, specs.Map.pages_if_some, specs.Key.space_of}
+use Rattle.pk_model.{proofs.SpaceLemmas.in_space-remove, specs.Answer.check, specs.Machine.Machine, specs.Machine.replied, specs.Machine.Answers, specs.Spaces.in_space}
+use Rattle.pk_model.{proofs.Answering.key_sized, proofs.Answering.key_spaced, proofs.Machines.refused_answer, proofs.Machines.served_answer, proofs.Machines.live_removed, proofs.Machines.turned}
+use Rattle.pk_nvme.{specs.Seen.command_of, specs.Command.key, specs.Reply.refusal, specs.Opcode.op_of, specs.declared.opcode.Opcode.TheVariants.Delete}
 use Rattle.pk_model.proofs.machine.MapMachine.delete.Goals as goal
-use Rattle.pk_model.specs.Spaces.{in_space}
 
 pub key-key-requires-clause-some : goal.key-key-requires-clause-some
 key-key-requires-clause-some c = (key_sized 1 c.args.self.now.shape (command_of c.args.request.now []) Delete (λ n. refl) (ap op_of c.requires.opcode) (c.requires.passed [])).some

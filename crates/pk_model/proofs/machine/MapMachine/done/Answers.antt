@@ -1,13 +1,8 @@
 use Rattle.std.proofs.Common.{◌≡◌, ap, refl, List, [], ℕ, inl, inr, subst}
 use Rattle.std.proofs.lemmas.Result.{IfOk-weaker}
-use Rattle.pk_nvme.specs.Seen.{command_of}
-use Rattle.pk_nvme.specs.Opcode.{op_of}
-use Rattle.pk_nvme.specs.declared.opcode.Opcode.TheVariants.{Flush, Tick}
-use Rattle.pk_model.specs.Answer.{success}
-use Rattle.pk_model.specs.Machine.{replied, Answers, Machine}
-use Rattle.pk_model.proofs.Machines.{served_here}
+use Rattle.pk_nvme.{specs.Seen.command_of, specs.Opcode.op_of, specs.declared.opcode.Opcode.TheVariants.Flush, specs.declared.opcode.Opcode.TheVariants.Tick}
+use Rattle.pk_model.{specs.Answer.success, specs.Machine.replied, specs.Machine.Answers, specs.Machine.Machine, proofs.Machines.served_here, specs.Spaces.in_space}
 use Rattle.pk_model.proofs.machine.MapMachine.done.Goals as goal
-use Rattle.pk_model.specs.Spaces.{in_space}
 
 pub returns : goal.returns
 returns c =

@@ -1,18 +1,10 @@
 use Rattle.std.proofs.Common.{◌≡◌, ◌∙◌, sym, ap, refl, List, [], ℕ, true, false, subst, arith}
-use Rattle.std.proofs.lemmas.Result.{IfOk-weaker}
-use Rattle.std.specs.Option.{option_copied}
-use Rattle.std.specs.FinMap.{get, contains_key}
+use Rattle.std.{proofs.lemmas.Result.IfOk-weaker, specs.Option.option_copied, specs.FinMap.get, specs.FinMap.contains_key}
 use Rattle.pk_base.specs.Map.{Map}
-use Rattle.pk_nvme.specs.Seen.{command_of}
-use Rattle.pk_nvme.specs.Reply.{refusal}
-use Rattle.pk_nvme.specs.Opcode.{op_of}
-use Rattle.pk_nvme.specs.declared.opcode.Opcode.TheVariants.{Exist}
-use Rattle.pk_model.specs.Answer.{check, success}
-use Rattle.pk_model.specs.Machine.{replied, Answers, Machine}
-use Rattle.pk_model.proofs.Answering.{key_sized, key_spaced}
-use Rattle.pk_model.proofs.Machines.{refused_answer, served_answer, found_some, found_none}
+use Rattle.pk_nvme.{specs.Seen.command_of, specs.Reply.refusal, specs.Opcode.op_of, specs.declared.opcode.Opcode.TheVariants.Exist}
+use Rattle.pk_model.{specs.Answer.check, specs.Answer.success, specs.Machine.replied, specs.Machine.Answers, specs.Machine.Machine, proofs.Answering.key_sized, proofs.Answering.key_spaced}
+use Rattle.pk_model.{proofs.Machines.refused_answer, proofs.Machines.served_answer, proofs.Machines.found_some, proofs.Machines.found_none, specs.Spaces.in_space}
 use Rattle.pk_model.proofs.machine.MapMachine.exist.Goals as goal
-use Rattle.pk_model.specs.Spaces.{in_space}
 
 pub key-requires-clause-some : goal.key-requires-clause-some
 key-requires-clause-some c = (key_sized 1 c.args.self.now.shape (command_of c.args.request.now []) Exist (λ n. refl) (ap op_of c.requires.opcode) (c.requires.passed [])).some

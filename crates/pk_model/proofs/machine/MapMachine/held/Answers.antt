@@ -1,8 +1,5 @@
-use Rattle.std.proofs.Common.{◌≡◌, ◌≤◌, ◌∙◌, sym, ap, subst}
-use Rattle.std.specs.Option.{option_copied}
-use Rattle.std.specs.FinMap.{get}
-use Rattle.pk_base.specs.Shape.{Shape}
-use Rattle.pk_base.specs.Map.{Map, live, pages_of}
+use Rattle.std.{proofs.Common.◌≡◌, proofs.Common.◌≤◌, proofs.Common.◌∙◌, proofs.Common.sym, proofs.Common.ap, proofs.Common.subst, specs.Option.option_copied, specs.FinMap.get}
+use Rattle.pk_base.{specs.Shape.Shape, specs.Map.Map, specs.Map.live, specs.Map.pages_of}
 use Rattle.pk_model.proofs.Machines.{found_most}
 use Rattle.pk_model.proofs.machine.MapMachine.held.Goals as goal
 

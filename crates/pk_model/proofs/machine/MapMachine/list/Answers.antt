@@ -1,19 +1,10 @@
 use Rattle.std.proofs.Common.{◌≡◌, ◌∙◌, ap, refl, List, [], ℕ, ◌-◌, min, false, arith}
-use Rattle.std.proofs.lemmas.Result.{IfOk-weaker}
-use Rattle.std.specs.FinMap.{keys}
+use Rattle.std.{proofs.lemmas.Result.IfOk-weaker, specs.FinMap.keys}
 use Rattle.pk_base.specs.Key.{Key}
-use Rattle.pk_nvme.specs.Seen.{command_of}
-use Rattle.pk_nvme.specs.Command.{key}
-use Rattle.pk_nvme.specs.Opcode.{op_of}
-use Rattle.pk_nvme.specs.declared.opcode.Opcode.TheVariants.{List as ListKeys}
-use Rattle.pk_model.specs.Answer.{success}
-use Rattle.pk_model.specs.Machine.{Answers}
-use Rattle.pk_model.specs.Listing.{offered_all}
-use Rattle.pk_model.proofs.Answering.{list_sized, key_spaced}
-use Rattle.pk_model.proofs.Listings.{listed_answer}
-use Rattle.pk_model.proofs.Machines.{served_here}
+use Rattle.pk_nvme.{specs.Seen.command_of, specs.Command.key, specs.Opcode.op_of, specs.declared.opcode.Opcode.TheVariants.List as ListKeys}
+use Rattle.pk_model.{specs.Answer.success, specs.Machine.Answers, specs.Listing.offered_all, proofs.Answering.list_sized, proofs.Answering.key_spaced, proofs.Listings.listed_answer}
+use Rattle.pk_model.{proofs.Machines.served_here, specs.Spaces.in_space}
 use Rattle.pk_model.proofs.machine.MapMachine.list.Goals as goal
-use Rattle.pk_model.specs.Spaces.{in_space}
 
 pub overflow_sub-min : goal.overflow_sub-min
 overflow_sub-min c = let sized = list_sized 1 c.args.self.now.shape (command_of c.args.request.now []) (ap op_of c.requires.opcode) (c.requires.passed []) in omega (arith, sized.least, c.min.ensures)

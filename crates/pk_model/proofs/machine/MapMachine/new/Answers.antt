@@ -1,8 +1,6 @@
 use Rattle.std.proofs.Common.{◌≡◌, sym, ap, subst, ◌∙◌, arith}
 use Rattle.pk_base.specs.Map.{Map, live}
-use Rattle.pk_model.specs.Spaces.{in_space}
-use Rattle.pk_model.proofs.SpaceLemmas.{in_space-empty}
-use Rattle.pk_model.proofs.Machines.{live-empty}
+use Rattle.pk_model.{specs.Spaces.in_space, proofs.SpaceLemmas.in_space-empty, proofs.Machines.live-empty}
 use Rattle.pk_model.proofs.machine.MapMachine.new.Goals as goal
 
 pub invariant_of-result : goal.invariant_of-result

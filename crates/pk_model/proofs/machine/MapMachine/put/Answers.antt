@@ -1,8 +1,6 @@
-use Rattle.std.proofs.Common.{◌≡◌, ap, sym, subst, ◌∙◌, rules}
-use Rattle.std.specs.FinMap.{insert}
+use Rattle.std.{proofs.Common.◌≡◌, proofs.Common.ap, proofs.Common.sym, proofs.Common.subst, proofs.Common.◌∙◌, proofs.Common.rules, specs.FinMap.insert}
 use Rattle.pk_base.specs.Map.{Map}
-use Rattle.pk_model.specs.Spaces.{in_space}
-use Rattle.pk_model.proofs.SpaceLemmas.{in_space-insert}
+use Rattle.pk_model.{specs.Spaces.in_space, proofs.SpaceLemmas.in_space-insert}
 use Rattle.pk_model.proofs.machine.MapMachine.put.Goals as goal
 
 pub invariant_of-self-in-Ok : goal.invariant_of-self-in-Ok

@@ -1,16 +1,10 @@
 use Rattle.std.proofs.Common.{◌≡◌, ◌∙◌, ap, refl, List, ℕ, ◌++◌, replicate, arith, subst}
-use Rattle.std.proofs.lemmas.Result.{IfOk-weaker}
-use Rattle.std.specs.FinMap.{len}
-use Rattle.pk_base.specs.Map.{live}
-use Rattle.pk_base.specs.Shape.{limit}
-use Rattle.pk_nvme.specs.Seen.{command_of}
-use Rattle.pk_nvme.specs.Opcode.{op_of}
-use Rattle.pk_nvme.specs.declared.opcode.Opcode.TheVariants.{Report}
-use Rattle.pk_model.specs.Answer.{success}
-use Rattle.pk_model.specs.Machine.{Machine, replied, Answers}
-use Rattle.pk_model.proofs.Machines.{served_answer, reported, len-live}
-use Rattle.pk_model.proofs.machine.MapMachine.report.Goals as goal
+use Rattle.std.{proofs.lemmas.Result.IfOk-weaker, specs.FinMap.len}
+use Rattle.pk_base.{specs.Map.live, specs.Shape.limit}
+use Rattle.pk_nvme.{specs.Seen.command_of, specs.Opcode.op_of, specs.declared.opcode.Opcode.TheVariants.Report}
+use Rattle.pk_model.{specs.Answer.success, specs.Machine.Machine, specs.Machine.replied, specs.Machine.Answers, proofs.Machines.served_answer, proofs.Machines.reported, proofs.Machines.len-live}
 use Rattle.pk_model.specs.Spaces.{in_space}
+use Rattle.pk_model.proofs.machine.MapMachine.report.Goals as goal
 
 pub overflow_cast-len : goal.overflow_cast-len
 overflow_cast-len c =

@@ -1,11 +1,6 @@
-use Rattle.std.proofs.Common.{rules, ◌≡◌, ap, None}
-use Rattle.std.proofs.lemmas.Result.{IfOk-weaker}
-use Rattle.pk_nvme.specs.Seen.{command_of}
-use Rattle.pk_nvme.specs.Reply.{refusal}
-use Rattle.pk_nvme.specs.Opcode.{op_of}
-use Rattle.pk_model.specs.Answer.{fault_of}
-use Rattle.pk_model.specs.Machine.{replied}
-use Rattle.pk_model.proofs.Machines.{early_answer}
+use Rattle.std.{proofs.Common.rules, proofs.Common.◌≡◌, proofs.Common.ap, proofs.Common.None, proofs.lemmas.Result.IfOk-weaker}
+use Rattle.pk_nvme.{specs.Seen.command_of, specs.Reply.refusal, specs.Opcode.op_of}
+use Rattle.pk_model.{specs.Answer.fault_of, specs.Machine.replied, proofs.Machines.early_answer}
 use Rattle.pk_model.proofs.machine.MapMachine.serve.Goals as goal
 
 pub returns-in_default-clause-ok : goal.returns-in_default-clause-ok

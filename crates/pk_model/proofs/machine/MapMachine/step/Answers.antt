@@ -1,11 +1,6 @@
-use Rattle.std.proofs.Common.{◌≡◌, ◌∙◌, sym, ap, subst, Some, IfOk}
-use Rattle.std.proofs.lemmas.Result.{IfOk-weaker}
-use Rattle.pk_nvme.specs.Seen.{command_of}
-use Rattle.pk_nvme.specs.Command.{Command, command, IsWhole}
-use Rattle.pk_nvme.specs.Reply.{refusal}
-use Rattle.pk_model.specs.Answer.{early}
-use Rattle.pk_model.specs.Machine.{Machine, replied, Answers}
-use Rattle.pk_model.proofs.Machines.{early_answer}
+use Rattle.std.{proofs.Common.◌≡◌, proofs.Common.◌∙◌, proofs.Common.sym, proofs.Common.ap, proofs.Common.subst, proofs.Common.Some, proofs.Common.IfOk, proofs.lemmas.Result.IfOk-weaker}
+use Rattle.pk_nvme.{specs.Seen.command_of, specs.Command.Command, specs.Command.command, specs.Command.IsWhole, specs.Reply.refusal}
+use Rattle.pk_model.{specs.Answer.early, specs.Machine.Machine, specs.Machine.replied, specs.Machine.Answers, proofs.Machines.early_answer}
 use Rattle.pk_model.proofs.machine.MapMachine.step.Goals as goal
 
 pub serve-requires-clause-passed : goal.serve-requires-clause-passed

@@ -1,19 +1,10 @@
 use Rattle.std.proofs.Common.{◌≡◌, ◌≤◌, ◌∙◌, sym, ap, subst, refl, arith, Some, None, List, [], ℕ}
-use Rattle.std.proofs.lemmas.Result.{IfOk-weaker}
-use Rattle.std.specs.FinMap.{get, contains_key, insert}
-use Rattle.pk_base.specs.Map.{live, pages_if_some}
-use Rattle.pk_base.specs.Key.{space_of}
-use Rattle.pk_base.specs.Shape.{limit, greatest, charge}
-use Rattle.pk_nvme.specs.Seen.{command_of}
-use Rattle.pk_nvme.specs.Reply.{refusal}
-use Rattle.pk_nvme.specs.Opcode.{op_of}
-use Rattle.pk_nvme.specs.declared.opcode.Opcode.TheVariants.{Store}
-use Rattle.pk_model.specs.Answer.{late_of}
-use Rattle.pk_model.specs.Machine.{Machine, replied}
-use Rattle.pk_model.proofs.Answering.{key_sized, store_sized, key_spaced}
+use Rattle.std.{proofs.lemmas.Result.IfOk-weaker, specs.FinMap.get, specs.FinMap.contains_key, specs.FinMap.insert}
+use Rattle.pk_base.{specs.Map.live, specs.Map.pages_if_some, specs.Key.space_of, specs.Shape.limit, specs.Shape.greatest, specs.Shape.charge}
+use Rattle.pk_nvme.{specs.Seen.command_of, specs.Reply.refusal, specs.Opcode.op_of, specs.declared.opcode.Opcode.TheVariants.Store}
+use Rattle.pk_model.{specs.Answer.late_of, specs.Machine.Machine, specs.Machine.replied, proofs.Answering.key_sized, proofs.Answering.store_sized, proofs.Answering.key_spaced, specs.Spaces.in_space}
 use Rattle.pk_model.proofs.Machines.{refused_answer, served_answer, store_late, live_stored, both_ok}
 use Rattle.pk_model.proofs.machine.MapMachine.store.Goals as goal
-use Rattle.pk_model.specs.Spaces.{in_space}
 
 pub key-key-requires-clause-some : goal.key-key-requires-clause-some
 key-key-requires-clause-some c = (key_sized 1 c.args.self.now.shape (command_of c.args.request.now []) Store (λ n. refl) (ap op_of c.requires.opcode) (c.requires.passed [])).some

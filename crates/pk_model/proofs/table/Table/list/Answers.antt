@@ -1,9 +1,6 @@
-use Rattle.std.proofs.Common.{◌∙◌, sym, ap, map, List, ℕ, ◌∷◌}
-use Rattle.std.specs.FinMap.{keys}
-use Rattle.pk_base.specs.Key.{Key}
-use Rattle.pk_base.specs.Map.{Map}
-use Rattle.pk_model.specs.Listing.{Listing, offered_all}
-use Rattle.pk_model.proofs.Tables.{entries-tree}
+use Rattle.std.{proofs.Common.◌∙◌, proofs.Common.sym, proofs.Common.ap, proofs.Common.map, proofs.Common.List, proofs.Common.ℕ, proofs.Common.◌∷◌, specs.FinMap.keys}
+use Rattle.pk_base.{specs.Key.Key, specs.Map.Map}
+use Rattle.pk_model.{specs.Listing.Listing, specs.Listing.offered_all, proofs.Tables.entries-tree}
 use Rattle.pk_model.proofs.table.Table.list.Goals as goal
 
 pub returns : goal.returns

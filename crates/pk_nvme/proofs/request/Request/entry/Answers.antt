@@ -1,9 +1,7 @@
 use Rattle.std.proofs.Common.{◌≡◌, ◌∙◌, ◌+◌, ◌++◌, List, ℕ, [], ◌∷◌, length, length-drop, take, drop, arith, sym, ap, refl}
 use Rattle.std.proofs.lemmas.List.{take_all, length-take-le}
-use Rattle.pk_base.specs.Fields.{u16, u32, zeros}
-use Rattle.pk_base.proofs.Tables.{joined, joined_spelled}
-use Rattle.pk_nvme.specs.Command.{command}
-use Rattle.pk_nvme.proofs.RequestLemmas.{command-entry_of}
+use Rattle.pk_base.{specs.Fields.u16, specs.Fields.u32, specs.Fields.zeros, proofs.Tables.joined, proofs.Tables.joined_spelled}
+use Rattle.pk_nvme.{specs.Command.command, proofs.RequestLemmas.command-entry_of}
 use Rattle.pk_nvme.proofs.request.Request.entry.Goals as goal
 
 -- what was written after a place, by the size of the text

@@ -1,7 +1,6 @@
 use Rattle.std.proofs.Common.{◌≡◌, ap, arith, length, drop, ◌++◌, length-take, length-append, length-drop}
 use Rattle.pk_parts.proofs.Committing.{shape_kept, commit_step, rest_ok, left_ok, some_programs, all_programs, nothing_done}
-use Rattle.pk_parts.proofs.Sights.{seen_ok}
-use Rattle.pk_parts.proofs.Staying.{commit_stays_ok}
+use Rattle.pk_parts.{proofs.Sights.seen_ok, proofs.Staying.commit_stays_ok}
 use Rattle.pk_parts.proofs.parts.Parts.commit_once.Goals as goal
 
 pub returns-clause-step : goal.returns-clause-step

@@ -1,7 +1,5 @@
 use Rattle.std.proofs.Common.{◌∙◌, ap, true}
-use Rattle.pk_parts.specs.Parts.{Parts}
-use Rattle.pk_parts.proofs.Halves.{not_made}
-use Rattle.pk_parts.proofs.Stopping.{breaks_step, breaks_off}
+use Rattle.pk_parts.{specs.Parts.Parts, proofs.Halves.not_made, proofs.Stopping.breaks_step, proofs.Stopping.breaks_off}
 use Rattle.pk_parts.proofs.parts.Parts.commit_pending.Goals as goal
 
 pub returns-in-Err-clause-step : goal.returns-in-Err-clause-step

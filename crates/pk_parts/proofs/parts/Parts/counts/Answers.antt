@@ -1,8 +1,7 @@
 use Rattle.std.proofs.Common.{◌≡◌, ◌≤◌, ◌∙◌, ℕ, sym, ap, subst, arith, length}
 use Rattle.pk_model.specs.Spaces.{limit_of}
 use Rattle.pk_space.specs.Uses.{space_live, space_keys}
-use Rattle.pk_parts.specs.Parts.{Parts, drive_limits}
-use Rattle.pk_parts.proofs.OwnLimits.{reported_length, reported_here}
+use Rattle.pk_parts.{specs.Parts.Parts, specs.Parts.drive_limits, proofs.OwnLimits.reported_length, proofs.OwnLimits.reported_here}
 use Rattle.pk_parts.proofs.parts.Parts.counts.Goals as goal
 
 pub live-live-requires : goal.live-live-requires

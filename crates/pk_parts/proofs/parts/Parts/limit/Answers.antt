@@ -1,7 +1,6 @@
 use Rattle.std.proofs.Common.{◌∙◌, ◌-◌, ◌≤◌, List, ℕ, sym, ap, subst, length}
 use Rattle.std.specs.Prelude.{slice_index}
-use Rattle.pk_parts.specs.Parts.{drive_limits}
-use Rattle.pk_parts.proofs.OwnLimits.{held_limits}
+use Rattle.pk_parts.{specs.Parts.drive_limits, proofs.OwnLimits.held_limits}
 use Rattle.pk_parts.proofs.parts.Parts.limit.Goals as goal
 
 pub space_limit-requires : goal.space_limit-requires

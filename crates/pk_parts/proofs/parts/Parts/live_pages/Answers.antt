@@ -1,8 +1,7 @@
 use Rattle.std.proofs.Common.{◌≡◌, ◌+◌, ◌<◌, ◌∙◌, ℕ, List, sym, ap, arith, refl, length, min, take, take_all}
 use Rattle.pk_call.specs.Sight.{InSpace, live_of_all}
 use Rattle.pk_space.specs.Uses.{space_live}
-use Rattle.pk_parts.specs.Parts.{Parts, drive_limits, spaces_of}
-use Rattle.pk_parts.proofs.OwnLimits.{reported_more, capped_more}
+use Rattle.pk_parts.{specs.Parts.Parts, specs.Parts.drive_limits, specs.Parts.spaces_of, proofs.OwnLimits.reported_more, proofs.OwnLimits.capped_more}
 use Rattle.pk_parts.proofs.parts.Parts.live_pages.Goals as goal
 
 pub loop-i-init : goal.loop-i-init

@@ -1,11 +1,7 @@
-use Rattle.std.proofs.Common.{sym, subst}
-use Rattle.std.specs.Prelude.{IfOk, OnOk, OnErr}
+use Rattle.std.{proofs.Common.sym, proofs.Common.subst, specs.Prelude.IfOk, specs.Prelude.OnOk, specs.Prelude.OnErr}
 use Rattle.pk_level.specs.Levels.{IsLevels, reads_through}
-use Rattle.pk_parts.specs.Parts.{Parts, most_looks}
-use Rattle.pk_parts.specs.Quiet.{Looks, ReadsOnly, ReadsFailing}
-use Rattle.pk_parts.proofs.Searching.{looks_found, named_ok, named_err}
-use Rattle.pk_parts.proofs.Unchanging.{looked_reads, looked_failing}
-use Rattle.pk_parts.proofs.Holding.{looks_counted, looks_few}
+use Rattle.pk_parts.{specs.Parts.Parts, specs.Parts.most_looks, specs.Quiet.Looks, specs.Quiet.ReadsOnly, specs.Quiet.ReadsFailing, proofs.Unchanging.looked_reads, proofs.Unchanging.looked_failing}
+use Rattle.pk_parts.{proofs.Searching.looks_found, proofs.Searching.named_ok, proofs.Searching.named_err, proofs.Holding.looks_counted, proofs.Holding.looks_few}
 use Rattle.pk_parts.proofs.parts.Parts.look.Goals as goal
 
 pub returns-clause-looks : goal.returns-clause-looks

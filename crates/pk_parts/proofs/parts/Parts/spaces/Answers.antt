@@ -1,6 +1,5 @@
 use Rattle.std.proofs.Common.{◌∙◌, List, ℕ, sym, ap, length}
-use Rattle.pk_parts.specs.Parts.{drive_limits}
-use Rattle.pk_parts.proofs.OwnLimits.{held_limits, reported_length}
+use Rattle.pk_parts.{specs.Parts.drive_limits, proofs.OwnLimits.held_limits, proofs.OwnLimits.reported_length}
 use Rattle.pk_parts.proofs.parts.Parts.spaces.Goals as goal
 
 pub returns-clause-value : goal.returns-clause-value

@@ -1,7 +1,4 @@
-use Rattle.pk_pool.specs.declared.state.BlockState.TheVariants.{Owned}
-use Rattle.pk_pool.proofs.States.{owned_is_not_ready}
-use Rattle.pk_pool.proofs.Fitting.{PoolOnFlash-marked}
-use Rattle.pk_pool.proofs.Sharing.{shared_adopted, used_adopted}
+use Rattle.pk_pool.{specs.declared.state.BlockState.TheVariants.Owned, proofs.States.owned_is_not_ready, proofs.Fitting.PoolOnFlash-marked, proofs.Sharing.shared_adopted, proofs.Sharing.used_adopted}
 use Rattle.pk_pool.proofs.pool.Pool.adopt.Goals as goal
 
 pub invariant_of-self : goal.invariant_of-self

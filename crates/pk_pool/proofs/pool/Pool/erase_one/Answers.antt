@@ -1,6 +1,5 @@
 use Rattle.std.proofs.Common.{refl}
-use Rattle.pk_pool.specs.declared.state.BlockState.TheVariants.{Free, Ready}
-use Rattle.pk_pool.proofs.States.{get-set_other}
+use Rattle.pk_pool.{specs.declared.state.BlockState.TheVariants.Free, specs.declared.state.BlockState.TheVariants.Ready, proofs.States.get-set_other}
 use Rattle.pk_pool.proofs.Sharing.{shared_ready, exists, free_not_owned}
 use Rattle.pk_pool.proofs.Fitting.{PoolOnFlash-ready, PoolOnFlash-after_erase, PoolOnFlash-erase_failed, ReachesIn-erase, WentIn-erase, IsReady-erase, erased_block, free_not_ready}
 use Rattle.pk_pool.proofs.pool.Pool.erase_one.Goals as goal

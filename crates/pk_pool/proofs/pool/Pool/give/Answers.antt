@@ -1,7 +1,4 @@
-use Rattle.pk_pool.specs.declared.state.BlockState.TheVariants.{Free}
-use Rattle.pk_pool.proofs.States.{free_is_not_ready}
-use Rattle.pk_pool.proofs.Fitting.{PoolOnFlash-marked}
-use Rattle.pk_pool.proofs.Sharing.{shared_given, used_given}
+use Rattle.pk_pool.{specs.declared.state.BlockState.TheVariants.Free, proofs.States.free_is_not_ready, proofs.Fitting.PoolOnFlash-marked, proofs.Sharing.shared_given, proofs.Sharing.used_given}
 use Rattle.pk_pool.proofs.pool.Pool.give.Goals as goal
 
 pub invariant_of-self : goal.invariant_of-self

@@ -1,7 +1,4 @@
-use Rattle.pk_pool.specs.declared.state.BlockState.TheVariants.{Leaving}
-use Rattle.pk_pool.proofs.States.{leaving_is_not_ready}
-use Rattle.pk_pool.proofs.Fitting.{PoolOnFlash-marked}
-use Rattle.pk_pool.proofs.Leaving.{freed_set}
+use Rattle.pk_pool.{specs.declared.state.BlockState.TheVariants.Leaving, proofs.States.leaving_is_not_ready, proofs.Fitting.PoolOnFlash-marked, proofs.Leaving.freed_set}
 use Rattle.pk_pool.proofs.pool.Pool.leave.Goals as goal
 
 pub returns-clause-freed : goal.returns-clause-freed

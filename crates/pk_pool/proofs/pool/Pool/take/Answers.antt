@@ -1,5 +1,4 @@
-use Rattle.std.proofs.Common.{arith, refl}
-use Rattle.std.proofs.lemmas.Option.{slice_get_within}
+use Rattle.std.{proofs.Common.arith, proofs.Common.refl, proofs.lemmas.Option.slice_get_within}
 use Rattle.pk_pool.specs.declared.state.BlockState.TheVariants.{Free, Ready, Owned}
 use Rattle.pk_pool.proofs.States.{set_is, free_is_not_root, ready_is_not_root, owned_is_not_ready}
 use Rattle.pk_pool.proofs.Sharing.{shared_taken, used_taken, one_is_left, behind_roots, exists, few}

@@ -1,10 +1,8 @@
 use Rattle.std.proofs.Common.{◌≤◌, sym, refl, subst, ap, ◌∙◌, arith}
 use Rattle.pk_nvme.specs.Command.{Command}
 use Rattle.pk_call.specs.Seen.{reply_of}
-use Rattle.pk_host.specs.Good.{IsHanded}
-use Rattle.pk_host.specs.Port.{Replies, room_of}
-use Rattle.pk_port.specs.Steps.{mount, seen}
-use Rattle.pk_port.proofs.Stepping.{stepped_ok, stepped_err, chain_one}
+use Rattle.pk_host.{specs.Good.IsHanded, specs.Port.Replies, specs.Port.room_of}
+use Rattle.pk_port.{specs.Steps.mount, specs.Steps.seen, proofs.Stepping.stepped_ok, proofs.Stepping.stepped_err, proofs.Stepping.chain_one}
 use Rattle.pk_port.proofs.submit.DrivePortPort.submit.Goals as goal
 
 pub serve_lent-requires-clause-handed : goal.serve_lent-requires-clause-handed

@@ -1,9 +1,6 @@
-use Rattle.std.proofs.Common.{subst}
-use Rattle.pk_nand.specs.BoardState.{BoardState}
-use Rattle.pk_nand.specs.Operations.{FetchFailed}
-use Rattle.std.proofs.Common.{ℕ, sym}
-use Rattle.pk_remap.specs.Remapped.{remap_board}
-use Rattle.pk_remap.proofs.Hosting.{fetched, fetch_failed, fetch_rest, holds_host}
+use Rattle.std.proofs.Common.{subst, ℕ, sym}
+use Rattle.pk_nand.{specs.BoardState.BoardState, specs.Operations.FetchFailed}
+use Rattle.pk_remap.{specs.Remapped.remap_board, proofs.Hosting.fetched, proofs.Hosting.fetch_failed, proofs.Hosting.fetch_rest, proofs.Hosting.holds_host}
 use Rattle.pk_remap.proofs.board.RemapBoard.fetch.Goals as goal
 
 pub invariant_of-self : goal.invariant_of-self

@@ -1,9 +1,6 @@
 use Rattle.std.proofs.Common.{inl, inr, ℕ, refl, sym, subst, ◌∙◌}
-use Rattle.pk_nand.specs.BoardState.{BoardState}
-use Rattle.pk_nand.specs.Operations.{PostFailed, SentFront}
-use Rattle.pk_nand.specs.Calls.{Rose}
-use Rattle.pk_remap.specs.Logged.{told}
-use Rattle.pk_remap.specs.Remapped.{remap_board}
+use Rattle.pk_nand.{specs.BoardState.BoardState, specs.Operations.PostFailed, specs.Operations.SentFront, specs.Calls.Rose}
+use Rattle.pk_remap.{specs.Logged.told, specs.Remapped.remap_board}
 use Rattle.pk_remap.proofs.Hosting.{posted_all, sent_some, post_failed_board, sent_none, post_refused, post_rest, holds_host}
 use Rattle.pk_remap.proofs.board.RemapBoard.post.Goals as goal
 

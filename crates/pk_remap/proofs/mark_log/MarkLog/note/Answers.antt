@@ -1,8 +1,6 @@
 use Rattle.std.proofs.Common.{◌≡◌, ◌≤◌, ◌+◌, ◌*◌, ◌++◌, ℕ, length, true, false, refl, ap, sym, subst, ◌∙◌, arith}
-use Rattle.std.specs.Prelude.{Result, IsOk, vec_len}
-use Rattle.std.specs.declared.alloc.AllocError.{AllocError}
-use Rattle.pk_remap.specs.Noted.{noted_bytes, noted_marks, told_of, bytes_of_mark, marks_for}
-use Rattle.pk_remap.proofs.Lifting.{times_le}
+use Rattle.std.{specs.Prelude.Result, specs.Prelude.IsOk, specs.Prelude.vec_len, specs.declared.alloc.AllocError.AllocError}
+use Rattle.pk_remap.{specs.Noted.noted_bytes, specs.Noted.noted_marks, specs.Noted.told_of, specs.Noted.bytes_of_mark, specs.Noted.marks_for, proofs.Lifting.times_le}
 use Rattle.pk_remap.proofs.LogLemmas.{noted_more, bytes_more, told_some, marks_hold, one_mark, has_room, bytes_fit, if_is_ok}
 use Rattle.pk_remap.proofs.mark_log.MarkLog.note.Goals as goal
 

@@ -1,16 +1,8 @@
 use Rattle.std.proofs.Common.{◌≡◌, ◌<◌, inl, ℕ, refl, sym, subst, ◌∙◌, arith}
 use Rattle.std.specs.Prelude.{OnOk, OnErr}
-use Rattle.pk_base.specs.Shape.{Shape}
-use Rattle.pk_base.specs.Page.{Flash}
-use Rattle.pk_base.specs.Mark.{erase}
-use Rattle.pk_nand.specs.BoardState.{BoardState}
-use Rattle.pk_nand.specs.Calls.{counted}
-use Rattle.pk_nand.specs.Operations.{EraseFailed}
-use Rattle.pk_remap.specs.declared.counts.BoardCounts.{BoardCounts}
-use Rattle.pk_remap.specs.Through.{MayShow}
-use Rattle.pk_remap.specs.Serving.{PassesCalls}
-use Rattle.pk_remap.specs.Remapped.{with_stop, remap_board}
-use Rattle.pk_remap.specs.Logged.{HasLogRoom}
+use Rattle.pk_base.{specs.Shape.Shape, specs.Page.Flash, specs.Mark.erase}
+use Rattle.pk_nand.{specs.BoardState.BoardState, specs.Calls.counted, specs.Operations.EraseFailed}
+use Rattle.pk_remap.{specs.declared.counts.BoardCounts.BoardCounts, specs.Through.MayShow, specs.Serving.PassesCalls, specs.Remapped.with_stop, specs.Remapped.remap_board, specs.Logged.HasLogRoom}
 use Rattle.pk_remap.proofs.LogLemmas.{if_ok}
 use Rattle.pk_remap.proofs.Remapping.{opens_block, erase_answer, erase_refused, shape_open, pages_open, cause_open, fall_open}
 use Rattle.pk_remap.proofs.nand.RemapNand.erase.Goals as goal

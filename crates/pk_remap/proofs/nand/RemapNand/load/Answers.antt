@@ -1,8 +1,6 @@
 use Rattle.std.proofs.Common.{◌≡◌, Bool, refl, sym, ap, ◌∙◌, arith}
 use Rattle.pk_nand.specs.BoardState.{BoardState}
-use Rattle.pk_remap.specs.Remapped.{open_spares_left, spares_left}
-use Rattle.pk_remap.proofs.Remapping.{no_bool}
-use Rattle.pk_remap.proofs.Opening.{load_known, load_closed, shut_none}
+use Rattle.pk_remap.{specs.Remapped.open_spares_left, specs.Remapped.spares_left, proofs.Remapping.no_bool, proofs.Opening.load_known, proofs.Opening.load_closed, proofs.Opening.shut_none}
 use Rattle.pk_remap.proofs.nand.RemapNand.load.Goals as goal
 
 pub returns-then-is_open-clause-ok : goal.returns-then-is_open-clause-ok

@@ -1,16 +1,8 @@
-use Rattle.std.proofs.Common.{refl, sym, subst, ◌∙◌}
-use Rattle.std.specs.Prelude.{Result, Err, IsOk, IsErr}
-use Rattle.pk_base.specs.declared.shape.ShapeError.{ShapeError}
-use Rattle.pk_base.specs.Shape.{Shape}
-use Rattle.pk_nand.specs.BoardState.{BoardState}
-use Rattle.pk_nand.specs.declared.types.LoadFault.{LoadFault}
-use Rattle.pk_nand.specs.declared.types.LoadFault.TheVariants.{Fault}
-use Rattle.pk_remap.specs.Places.{inner_shape}
-use Rattle.pk_remap.specs.Remapped.{remap_board, spares_left}
-use Rattle.pk_remap.specs.Answers.{MakeAnswers}
-use Rattle.pk_remap.specs.Causes.{MakeCause, not_allowed}
-use Rattle.pk_remap.proofs.Remapping.{missing_is}
-use Rattle.pk_remap.proofs.Opening.{named_ok, missing_refused}
+use Rattle.std.{proofs.Common.refl, proofs.Common.sym, proofs.Common.subst, proofs.Common.◌∙◌, specs.Prelude.Result, specs.Prelude.Err, specs.Prelude.IsOk, specs.Prelude.IsErr}
+use Rattle.pk_base.{specs.declared.shape.ShapeError.ShapeError, specs.Shape.Shape}
+use Rattle.pk_nand.{specs.BoardState.BoardState, specs.declared.types.LoadFault.LoadFault, specs.declared.types.LoadFault.TheVariants.Fault}
+use Rattle.pk_remap.{specs.Places.inner_shape, specs.Remapped.remap_board, specs.Remapped.spares_left, specs.Answers.MakeAnswers, specs.Causes.MakeCause, specs.Causes.not_allowed}
+use Rattle.pk_remap.{proofs.Remapping.missing_is, proofs.Opening.named_ok, proofs.Opening.missing_refused}
 use Rattle.pk_remap.proofs.nand.RemapNand.make.Goals as goal
 
 pub make_inner-requires-clause-missing : goal.make_inner-requires-clause-missing

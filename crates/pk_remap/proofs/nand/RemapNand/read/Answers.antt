@@ -1,13 +1,7 @@
-use Rattle.std.proofs.Common.{◌≡◌, ◌/◌, ◌-◌, ℕ, sym, ap, ◌∙◌}
-use Rattle.std.specs.Prelude.{Some}
-use Rattle.pk_base.specs.Shape.{Shape}
-use Rattle.pk_base.specs.Page.{Flash, page_at}
-use Rattle.pk_nand.specs.BoardState.{BoardState}
-use Rattle.pk_nand.specs.Calls.{counted}
-use Rattle.pk_nand.specs.Operations.{filled}
-use Rattle.pk_nand.specs.Seen.{answer}
-use Rattle.pk_remap.specs.declared.mark_log.MarkLog.{MarkLog}
-use Rattle.pk_remap.specs.Logged.{told}
+use Rattle.std.{proofs.Common.◌≡◌, proofs.Common.◌/◌, proofs.Common.◌-◌, proofs.Common.ℕ, proofs.Common.sym, proofs.Common.ap, proofs.Common.◌∙◌, specs.Prelude.Some}
+use Rattle.pk_base.{specs.Shape.Shape, specs.Page.Flash, specs.Page.page_at}
+use Rattle.pk_nand.{specs.BoardState.BoardState, specs.Calls.counted, specs.Operations.filled, specs.Seen.answer}
+use Rattle.pk_remap.{specs.declared.mark_log.MarkLog.MarkLog, specs.Logged.told}
 use Rattle.pk_remap.proofs.Remapping.{opens_page, shape_open, pages_open, page_open, read_answer, read_failed_answer, left_open}
 use Rattle.pk_remap.proofs.nand.RemapNand.read.Goals as goal
 

@@ -1,12 +1,7 @@
 use Rattle.std.proofs.Common.{◌≡◌, refl, arith}
-use Rattle.pk_nand.specs.BoardState.{BoardState}
-use Rattle.pk_nand.proofs.Writing.{shape_is}
-use Rattle.pk_remap.specs.Places.{place}
-use Rattle.pk_remap.specs.Running.{relocation_of}
-use Rattle.pk_remap.specs.Serving.{outer_of}
+use Rattle.pk_nand.{specs.BoardState.BoardState, proofs.Writing.shape_is, proofs.Effects.works_erase, proofs.Effects.stops_erase}
+use Rattle.pk_remap.{specs.Places.place, specs.Running.relocation_of, specs.Serving.outer_of, proofs.Counting.counted_done, proofs.Counting.outer_served, proofs.Counting.outer_none_left}
 use Rattle.pk_remap.proofs.Outer.{erase_inside, erase_done, erase_begins, erase_served, erase_none_left, erase_left}
-use Rattle.pk_nand.proofs.Effects.{works_erase, stops_erase}
-use Rattle.pk_remap.proofs.Counting.{counted_done, outer_served, outer_none_left}
 use Rattle.pk_remap.proofs.relocation.Relocation.erase_outer.Goals as goal
 
 pub erase-requires : goal.erase-requires

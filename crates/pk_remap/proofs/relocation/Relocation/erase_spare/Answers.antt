@@ -1,8 +1,6 @@
 use Rattle.std.proofs.Common.{refl}
-use Rattle.pk_nand.specs.BoardState.{BoardState}
-use Rattle.pk_remap.proofs.Running.{spare_erased, spare_erase_failed, next_or_stop}
-use Rattle.pk_nand.proofs.Effects.{works_erase, stops_erase}
-use Rattle.pk_remap.proofs.Stopping.{step_done, step_next}
+use Rattle.pk_nand.{specs.BoardState.BoardState, proofs.Effects.works_erase, proofs.Effects.stops_erase}
+use Rattle.pk_remap.{proofs.Running.spare_erased, proofs.Running.spare_erase_failed, proofs.Running.next_or_stop, proofs.Stopping.step_done, proofs.Stopping.step_next}
 use Rattle.pk_remap.proofs.relocation.Relocation.erase_spare.Goals as goal
 
 pub returns-in-Ok-clause-steps : goal.returns-in-Ok-clause-steps

@@ -1,9 +1,6 @@
 use Rattle.std.proofs.Common.{◌≡◌, ◌+◌, ◌*◌, refl, arith}
-use Rattle.pk_nand.specs.BoardState.{BoardState}
-use Rattle.pk_remap.specs.Stepping.{IsOtherTable}
-use Rattle.pk_remap.specs.Running.{relocation_of}
-use Rattle.pk_remap.proofs.Running.{table_erased, table_erase_failed, stopped_as}
-use Rattle.pk_nand.proofs.Effects.{works_erase}
+use Rattle.pk_nand.{specs.BoardState.BoardState, proofs.Effects.works_erase}
+use Rattle.pk_remap.{specs.Stepping.IsOtherTable, specs.Running.relocation_of, proofs.Running.table_erased, proofs.Running.table_erase_failed, proofs.Running.stopped_as}
 use Rattle.pk_remap.proofs.Stopping.{step_done, erase_stops}
 use Rattle.pk_remap.proofs.relocation.Relocation.erase_table.Goals as goal
 

@@ -2,8 +2,7 @@ use Rattle.std.proofs.Common.{◌≡◌, ◌≤◌, ◌++◌, ℕ, List, length,
 use Rattle.std.proofs.Math.Seq.{take-append_seam}
 use Rattle.pk_base.specs.declared.sizes.TheConstants.{MOST_PAGE_BYTES}
 use Rattle.pk_nand.specs.BoardState.{BoardState}
-use Rattle.pk_remap.proofs.Outer.{found_rests}
-use Rattle.pk_remap.proofs.Outer.{found_taken}
+use Rattle.pk_remap.proofs.Outer.{found_rests, found_taken}
 use Rattle.pk_remap.proofs.relocation.Relocation.find.Goals as goal
 
 pub returns-in-Ok-Some-clause-found : goal.returns-in-Ok-Some-clause-found

@@ -1,8 +1,5 @@
-use Rattle.std.proofs.Common.{◌≡◌, ◌/◌, length, take, arith}
-use Rattle.std.proofs.lemmas.List.{length-take-le}
-use Rattle.pk_remap.specs.Places.{place}
-use Rattle.pk_remap.specs.Running.{relocation_of}
-use Rattle.pk_remap.proofs.Placing.{place-below, block_of}
+use Rattle.std.{proofs.Common.◌≡◌, proofs.Common.◌/◌, proofs.Common.length, proofs.Common.take, proofs.Common.arith, proofs.lemmas.List.length-take-le}
+use Rattle.pk_remap.{specs.Places.place, specs.Running.relocation_of, proofs.Placing.place-below, proofs.Placing.block_of}
 use Rattle.pk_remap.proofs.relocation.Relocation.inner_page.Goals as goal
 
 pub page_in-requires-clause-block : goal.page_in-requires-clause-block

@@ -1,11 +1,8 @@
 use Rattle.std.proofs.Common.{◌≡◌, ◌-◌, ◌≤◌, ◌++◌, ℕ, List, length, take, drop, sym, ap, ◌∙◌, arith}
 use Rattle.std.proofs.Math.Seq.{take-append_seam}
-use Rattle.pk_base.specs.declared.sizes.TheConstants.{MOST_PAGE_BYTES}
-use Rattle.pk_base.specs.Page.{page_at, whole}
+use Rattle.pk_base.{specs.declared.sizes.TheConstants.MOST_PAGE_BYTES, specs.Page.page_at, specs.Page.whole}
 use Rattle.pk_nand.specs.BoardState.{BoardState}
-use Rattle.pk_remap.specs.Serving.{outer_of}
-use Rattle.pk_remap.proofs.Running.{answer_whole}
-use Rattle.pk_remap.proofs.Outer.{page_inside, outer_page, kept_other, kept_whole}
+use Rattle.pk_remap.{specs.Serving.outer_of, proofs.Running.answer_whole, proofs.Outer.page_inside, proofs.Outer.outer_page, proofs.Outer.kept_other, proofs.Outer.kept_whole}
 use Rattle.pk_remap.proofs.relocation.Relocation.keep_partner.Goals as goal
 
 pub read_into-requires-clause-exists : goal.read_into-requires-clause-exists

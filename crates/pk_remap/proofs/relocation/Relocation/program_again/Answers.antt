@@ -1,10 +1,6 @@
 use Rattle.std.proofs.Common.{◌≡◌, ◌+◌, ◌<◌, ℕ, length, Some, sym, subst}
-use Rattle.pk_nand.specs.BoardState.{BoardState}
-use Rattle.pk_nand.specs.Calls.{after_program, ProgramFailed}
-use Rattle.pk_nand.specs.Operations.{InOrder}
-use Rattle.pk_remap.specs.declared.relocation.Relocation.{Relocation as InMemory}
-use Rattle.pk_remap.specs.Places.{inner_shape}
-use Rattle.pk_remap.specs.Running.{HasPageBuffers}
+use Rattle.pk_nand.{specs.BoardState.BoardState, specs.Calls.after_program, specs.Calls.ProgramFailed, specs.Operations.InOrder}
+use Rattle.pk_remap.{specs.declared.relocation.Relocation.Relocation as InMemory, specs.Places.inner_shape, specs.Running.HasPageBuffers}
 use Rattle.pk_remap.specs.FirstTable.{first_table_bytes, FirstTableWritten, FirstTableFailed}
 use Rattle.pk_remap.proofs.Making.{half_ready, second_inside, second_in_order, first_written, second_failed}
 use Rattle.pk_remap.proofs.relocation.Relocation.program_again.Goals as goal

@@ -1,12 +1,7 @@
 use Rattle.std.proofs.Common.{◌≡◌, ◌++◌, ◌≤◌, ℕ, List, length, take, drop, sym, ap, subst, ◌∙◌, arith}
-use Rattle.std.specs.Prelude.{OnOk, OnErr}
-use Rattle.std.proofs.Math.Seq.{take-append_seam}
-use Rattle.pk_base.specs.declared.sizes.TheConstants.{MOST_PAGE_BYTES}
-use Rattle.pk_base.specs.Shape.{Shape}
-use Rattle.pk_base.specs.Page.{IsPage}
-use Rattle.pk_nand.specs.BoardState.{BoardState}
-use Rattle.pk_nand.specs.Calls.{after_program, ProgramFailed}
-use Rattle.pk_nand.proofs.Writing.{shape_is}
+use Rattle.std.{specs.Prelude.OnOk, specs.Prelude.OnErr, proofs.Math.Seq.take-append_seam}
+use Rattle.pk_base.{specs.declared.sizes.TheConstants.MOST_PAGE_BYTES, specs.Shape.Shape, specs.Page.IsPage}
+use Rattle.pk_nand.{specs.BoardState.BoardState, specs.Calls.after_program, specs.Calls.ProgramFailed, proofs.Writing.shape_is}
 use Rattle.pk_remap.proofs.relocation.Relocation.program_empty.Goals as goal
 
 pub program_table-requires-clause-order : goal.program_table-requires-clause-order

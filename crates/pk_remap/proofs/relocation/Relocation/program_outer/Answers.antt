@@ -1,12 +1,7 @@
-use Rattle.std.proofs.Common.{subst}
-use Rattle.std.specs.Prelude.{Result}
+use Rattle.std.{proofs.Common.subst, specs.Prelude.Result}
 use Rattle.pk_base.specs.Mark.{program}
-use Rattle.pk_nand.specs.BoardState.{BoardState}
-use Rattle.pk_nand.specs.declared.types.NandFault.{NandFault}
-use Rattle.pk_remap.specs.Serving.{PartnerOutcome}
-use Rattle.pk_remap.proofs.Outer.{kept_outcome, read_stopped}
-use Rattle.pk_remap.proofs.Outer.{kept_counted, partner_failed}
-use Rattle.pk_remap.proofs.Counting.{outer_after}
+use Rattle.pk_nand.{specs.BoardState.BoardState, specs.declared.types.NandFault.NandFault}
+use Rattle.pk_remap.{specs.Serving.PartnerOutcome, proofs.Outer.kept_outcome, proofs.Outer.read_stopped, proofs.Outer.kept_counted, proofs.Outer.partner_failed, proofs.Counting.outer_after}
 use Rattle.pk_remap.proofs.relocation.Relocation.program_outer.Goals as goal
 
 pub returns-in-Ok-clause-outcome : goal.returns-in-Ok-clause-outcome

@@ -1,12 +1,9 @@
 use Rattle.std.proofs.Common.{◌≡◌, ◌≤◌, ◌++◌, ℕ, List, length, take, drop, refl, sym, ap, subst, ◌∙◌, arith}
 use Rattle.std.proofs.Math.Seq.{take-append_seam}
 use Rattle.pk_base.specs.declared.sizes.TheConstants.{MOST_PAGE_BYTES}
-use Rattle.pk_nand.specs.BoardState.{BoardState}
-use Rattle.pk_nand.proofs.Writing.{shape_is}
-use Rattle.pk_remap.specs.Serving.{outer_of}
+use Rattle.pk_nand.{specs.BoardState.BoardState, proofs.Writing.shape_is, proofs.Effects.works_program, proofs.Effects.stops_program}
+use Rattle.pk_remap.{specs.Serving.outer_of, proofs.Counting.counted_done, proofs.Counting.outer_served, proofs.Counting.outer_none_left}
 use Rattle.pk_remap.proofs.Outer.{page_inside, inner_order, program_done, program_begins, program_served, program_none_left, program_left}
-use Rattle.pk_nand.proofs.Effects.{works_program, stops_program}
-use Rattle.pk_remap.proofs.Counting.{counted_done, outer_served, outer_none_left}
 use Rattle.pk_remap.proofs.relocation.Relocation.program_with_partner.Goals as goal
 
 pub program-requires-clause-exists : goal.program-requires-clause-exists

@@ -1,13 +1,9 @@
 use Rattle.std.proofs.Common.{◌≡◌, ◌+◌, ◌*◌, ◌++◌, ◌≤◌, ℕ, List, length, take, drop, refl, sym, ap, ◌∙◌, arith}
 use Rattle.std.proofs.Math.Seq.{take-append_seam}
-use Rattle.pk_base.specs.declared.sizes.TheConstants.{MOST_PAGE_BYTES}
-use Rattle.pk_base.specs.Page.{page_at, whole}
+use Rattle.pk_base.{specs.declared.sizes.TheConstants.MOST_PAGE_BYTES, specs.Page.page_at, specs.Page.whole}
 use Rattle.pk_nand.specs.BoardState.{BoardState}
-use Rattle.pk_remap.specs.Places.{place, placed_page}
-use Rattle.pk_remap.specs.Relocating.{block}
-use Rattle.pk_remap.specs.Running.{relocation_of}
+use Rattle.pk_remap.{specs.Places.place, specs.Places.placed_page, specs.Relocating.block, specs.Running.relocation_of, proofs.Counting.only_read, proofs.Counting.only_read_failed}
 use Rattle.pk_remap.proofs.Running.{read_place, page_read, page_torn, page_written_before, page_read_failed, answer_whole, answer_erased, answer_torn}
-use Rattle.pk_remap.proofs.Counting.{only_read, only_read_failed}
 use Rattle.pk_remap.proofs.Stopping.{step_done, step_read}
 use Rattle.pk_remap.proofs.relocation.Relocation.read.Goals as goal
 

@@ -1,8 +1,7 @@
 use Rattle.std.proofs.Common.{◌≡◌, sym, ap, ◌∙◌}
 use Rattle.pk_base.specs.Page.{page_at}
 use Rattle.pk_nand.specs.BoardState.{BoardState}
-use Rattle.pk_remap.specs.Serving.{outer_of}
-use Rattle.pk_remap.proofs.Outer.{page_inside, outer_page}
+use Rattle.pk_remap.{specs.Serving.outer_of, proofs.Outer.page_inside, proofs.Outer.outer_page}
 use Rattle.pk_remap.proofs.relocation.Relocation.read_outer.Goals as goal
 
 pub read-requires-clause-exists : goal.read-requires-clause-exists

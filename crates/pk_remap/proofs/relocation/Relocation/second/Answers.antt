@@ -1,16 +1,9 @@
 use Rattle.std.proofs.Common.{◌≡◌, ◌+◌, ◌++◌, ◌≤◌, ℕ, suc, List, length, take, drop, sym, ap, ◌∙◌, arith}
 use Rattle.std.proofs.Math.Seq.{take-append_seam}
 use Rattle.pk_base.specs.declared.sizes.TheConstants.{MOST_PAGE_BYTES}
-use Rattle.pk_nand.specs.BoardState.{BoardState}
-use Rattle.pk_nand.specs.Calls.{after_program}
-use Rattle.pk_nand.proofs.Writing.{shape_is}
-use Rattle.pk_remap.specs.Table.{table_bytes}
-use Rattle.pk_remap.specs.Relocating.{next_table}
-use Rattle.pk_remap.specs.Running.{relocation_of}
+use Rattle.pk_nand.{specs.BoardState.BoardState, specs.Calls.after_program, proofs.Writing.shape_is, proofs.Effects.works_program}
+use Rattle.pk_remap.{specs.Table.table_bytes, specs.Relocating.next_table, specs.Running.relocation_of, proofs.Counting.counted_done, proofs.Stopping.second_stops}
 use Rattle.pk_remap.proofs.Running.{second_in_order, second_written, second_failed, stopped_as}
-use Rattle.pk_nand.proofs.Effects.{works_program}
-use Rattle.pk_remap.proofs.Counting.{counted_done}
-use Rattle.pk_remap.proofs.Stopping.{second_stops}
 use Rattle.pk_remap.proofs.relocation.Relocation.second.Goals as goal
 
 pub program_table-requires-clause-order : goal.program_table-requires-clause-order

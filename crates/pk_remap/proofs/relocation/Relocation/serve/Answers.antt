@@ -1,9 +1,6 @@
-use Rattle.std.proofs.Common.{◌∙◌, Bool, ap, subst}
-use Rattle.std.specs.Prelude.{Result, Ok}
+use Rattle.std.{proofs.Common.◌∙◌, proofs.Common.Bool, proofs.Common.ap, proofs.Common.subst, specs.Prelude.Result, specs.Prelude.Ok}
 use Rattle.pk_nand.specs.declared.types.NandFault.{NandFault}
-use Rattle.pk_remap.specs.Counting.{StepCounts}
-use Rattle.pk_remap.specs.Running.{StepOutcome}
-use Rattle.pk_remap.proofs.Counting.{counted_none, counted_from}
+use Rattle.pk_remap.{specs.Counting.StepCounts, specs.Running.StepOutcome, proofs.Counting.counted_none, proofs.Counting.counted_from}
 use Rattle.pk_remap.proofs.Served.{so_far_start, so_far_more, served_now, stopped_now}
 use Rattle.pk_remap.proofs.relocation.Relocation.serve.Goals as goal
 

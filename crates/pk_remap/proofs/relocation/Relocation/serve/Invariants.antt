@@ -1,7 +1,5 @@
 use Rattle.pk_base.specs.Page.{Flash}
-use Rattle.pk_remap.specs.Counting.{SparesCounted}
-use Rattle.pk_remap.specs.Running.{RelocationRuns, relocation_steps_left}
-use Rattle.pk_remap.proofs.Served.{SoFar}
+use Rattle.pk_remap.{specs.Counting.SparesCounted, specs.Running.RelocationRuns, specs.Running.relocation_steps_left, proofs.Served.SoFar}
 use Rattle.pk_remap.proofs.relocation.Relocation.serve.Given as goal
 
 abbrev pub invariant-loop : goal.invariant-loop

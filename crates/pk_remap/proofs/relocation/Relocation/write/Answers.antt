@@ -1,12 +1,7 @@
 use Rattle.std.proofs.Common.{◌≡◌, ◌+◌, suc, refl, ◌∙◌, arith}
-use Rattle.pk_nand.specs.BoardState.{BoardState}
-use Rattle.pk_nand.specs.Calls.{after_program}
-use Rattle.pk_nand.proofs.Writing.{shape_is}
-use Rattle.pk_remap.specs.Relocating.{spare_page}
-use Rattle.pk_remap.specs.Running.{relocation_of}
+use Rattle.pk_nand.{specs.BoardState.BoardState, specs.Calls.after_program, proofs.Writing.shape_is, proofs.Effects.works_program, proofs.Effects.stops_program}
+use Rattle.pk_remap.{specs.Relocating.spare_page, specs.Running.relocation_of, proofs.Stopping.step_done, proofs.Stopping.step_next}
 use Rattle.pk_remap.proofs.Running.{page_written, page_write_failed, next_or_stop, write_order, write_less}
-use Rattle.pk_nand.proofs.Effects.{works_program, stops_program}
-use Rattle.pk_remap.proofs.Stopping.{step_done, step_next}
 use Rattle.pk_remap.proofs.relocation.Relocation.write.Goals as goal
 
 pub program-requires-clause-order : goal.program-requires-clause-order

@@ -1,11 +1,6 @@
 use Rattle.std.proofs.Common.{◌≡◌, ◌<◌, ℕ, length, sym, ap, subst, ◌∙◌, arith}
-use Rattle.pk_nand.specs.BoardState.{BoardState}
-use Rattle.pk_nand.specs.Calls.{after_program, ProgramFailed}
-use Rattle.pk_nand.specs.Operations.{InOrder}
-use Rattle.pk_remap.specs.declared.relocation.Relocation.{Relocation as InMemory}
-use Rattle.pk_remap.specs.Newest.{first_table_page}
-use Rattle.pk_remap.specs.Places.{inner_shape}
-use Rattle.pk_remap.specs.Running.{HasPageBuffers}
+use Rattle.pk_nand.{specs.BoardState.BoardState, specs.Calls.after_program, specs.Calls.ProgramFailed, specs.Operations.InOrder}
+use Rattle.pk_remap.{specs.declared.relocation.Relocation.Relocation as InMemory, specs.Newest.first_table_page, specs.Places.inner_shape, specs.Running.HasPageBuffers}
 use Rattle.pk_remap.specs.FirstTable.{first_table_bytes, IsHalfMade, FirstTableOutcome, FirstTableFailed}
 use Rattle.pk_remap.proofs.Making.{made_ready, first_inside, first_in_order, first_failed, outcome_copy}
 use Rattle.pk_remap.proofs.relocation.Relocation.write_first_table.Goals as goal

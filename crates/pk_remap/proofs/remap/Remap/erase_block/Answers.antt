@@ -1,11 +1,7 @@
-use Rattle.std.proofs.Common.{◌<◌, sym, ap, subst}
-use Rattle.std.specs.Prelude.{Result}
-use Rattle.pk_base.specs.Shape.{Shape}
-use Rattle.pk_base.specs.Mark.{erase}
-use Rattle.pk_nand.specs.BoardState.{BoardState}
-use Rattle.pk_nand.specs.declared.types.NandFault.{NandFault}
-use Rattle.pk_remap.specs.Remapped.{FindsTable, is_open, is_sure}
-use Rattle.pk_remap.proofs.Remapping.{rests, made, made_not_found}
+use Rattle.std.{proofs.Common.◌<◌, proofs.Common.sym, proofs.Common.ap, proofs.Common.subst, specs.Prelude.Result}
+use Rattle.pk_base.{specs.Shape.Shape, specs.Mark.erase}
+use Rattle.pk_nand.{specs.BoardState.BoardState, specs.declared.types.NandFault.NandFault}
+use Rattle.pk_remap.{specs.Remapped.FindsTable, specs.Remapped.is_open, specs.Remapped.is_sure, proofs.Remapping.rests, proofs.Remapping.made, proofs.Remapping.made_not_found}
 use Rattle.pk_remap.proofs.remap.Remap.erase_block.Goals as goal
 
 pub erase_found-requires-clause-sure : goal.erase_found-requires-clause-sure

@@ -1,11 +1,7 @@
-use Rattle.std.proofs.Common.{refl, ap, subst}
-use Rattle.std.specs.Prelude.{Result}
+use Rattle.std.{proofs.Common.refl, proofs.Common.ap, proofs.Common.subst, specs.Prelude.Result}
 use Rattle.pk_base.specs.Mark.{erase}
-use Rattle.pk_nand.specs.BoardState.{BoardState}
-use Rattle.pk_nand.specs.declared.types.NandFault.{NandFault}
-use Rattle.pk_remap.specs.declared.image.Image.TheVariants.{Sure, Unsure}
-use Rattle.pk_remap.specs.Serving.{OuterOutcome}
-use Rattle.pk_remap.specs.Counting.{OuterCounts}
+use Rattle.pk_nand.{specs.BoardState.BoardState, specs.declared.types.NandFault.NandFault}
+use Rattle.pk_remap.{specs.declared.image.Image.TheVariants.Sure, specs.declared.image.Image.TheVariants.Unsure, specs.Serving.OuterOutcome, specs.Counting.OuterCounts}
 use Rattle.pk_remap.specs.Remapped.{is_open, is_sure}
 use Rattle.pk_remap.proofs.Remapping.{rests, holds_rest, holds_unsure, same_fits, log_sized}
 use Rattle.pk_remap.proofs.remap.Remap.erase_found.Goals as goal

@@ -1,12 +1,7 @@
-use Rattle.std.proofs.Common.{refl, ap, subst, ◌∙◌}
-use Rattle.std.specs.Prelude.{Result}
+use Rattle.std.{proofs.Common.refl, proofs.Common.ap, proofs.Common.subst, proofs.Common.◌∙◌, specs.Prelude.Result}
 use Rattle.pk_base.specs.Mark.{erase}
 use Rattle.pk_nand.specs.declared.types.NandFault.{NandFault}
-use Rattle.pk_remap.specs.declared.counts.BoardCounts.{BoardCounts}
-use Rattle.pk_remap.specs.declared.mark_log.MarkLog.{MarkLog}
-use Rattle.pk_remap.specs.Logged.{told}
-use Rattle.pk_remap.specs.Remapped.{with_stop}
-use Rattle.pk_remap.specs.Causes.{MarkMade}
+use Rattle.pk_remap.{specs.declared.counts.BoardCounts.BoardCounts, specs.declared.mark_log.MarkLog.MarkLog, specs.Logged.told, specs.Remapped.with_stop, specs.Causes.MarkMade}
 use Rattle.pk_remap.proofs.Remapping.{log_sized}
 use Rattle.pk_remap.proofs.remap.Remap.erase_noted.Goals as goal
 

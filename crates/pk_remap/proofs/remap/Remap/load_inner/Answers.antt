@@ -1,12 +1,7 @@
-use Rattle.std.proofs.Common.{refl, sym, ap, subst, ◌∙◌}
-use Rattle.std.specs.Prelude.{Err}
-use Rattle.pk_nand.specs.BoardState.{BoardState}
-use Rattle.pk_nand.specs.declared.types.LoadFault.{LoadFault}
-use Rattle.pk_remap.specs.declared.image.Image.TheVariants.{Missing}
-use Rattle.pk_remap.specs.Remapped.{is_open, is_sure, is_missing, remap_board, spares_left}
-use Rattle.pk_remap.specs.Causes.{LoadCause}
-use Rattle.pk_remap.specs.Answers.{LoadAnswers}
-use Rattle.pk_remap.proofs.Remapping.{no_bool, holds_closed}
+use Rattle.std.{proofs.Common.refl, proofs.Common.sym, proofs.Common.ap, proofs.Common.subst, proofs.Common.◌∙◌, specs.Prelude.Err}
+use Rattle.pk_nand.{specs.BoardState.BoardState, specs.declared.types.LoadFault.LoadFault}
+use Rattle.pk_remap.{specs.declared.image.Image.TheVariants.Missing, specs.Remapped.is_open, specs.Remapped.is_sure, specs.Remapped.is_missing, specs.Remapped.remap_board, specs.Remapped.spares_left}
+use Rattle.pk_remap.{specs.Causes.LoadCause, specs.Answers.LoadAnswers, proofs.Remapping.no_bool, proofs.Remapping.holds_closed}
 use Rattle.pk_remap.proofs.Opening.{unknown_refused, unknown_none, unknown_then, load_cause_refused, load_cause_from}
 use Rattle.pk_remap.proofs.remap.Remap.load_inner.Goals as goal
 

@@ -1,8 +1,6 @@
 use Rattle.std.proofs.Common.{sym, ap, ◌∙◌}
 use Rattle.pk_nand.specs.declared.types.LoadFault.TheVariants.{Memory}
-use Rattle.pk_remap.specs.Remapped.{is_open}
-use Rattle.pk_remap.proofs.LogLemmas.{told_unfit}
-use Rattle.pk_remap.proofs.Opening.{missing_refused}
+use Rattle.pk_remap.{specs.Remapped.is_open, proofs.LogLemmas.told_unfit, proofs.Opening.missing_refused}
 use Rattle.pk_remap.proofs.remap.Remap.make_inner.Goals as goal
 
 pub make_with-requires-clause-told : goal.make_with-requires-clause-told

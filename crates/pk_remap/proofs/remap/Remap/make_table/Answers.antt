@@ -1,21 +1,11 @@
 use Rattle.std.proofs.Common.{◌≡◌, ◌≤◌, ◌-◌, ℕ, length, take, replicate, refl, sym, ap, subst, ◌∙◌, arith}
 use Rattle.std.specs.Prelude.{Result, Ok, Err}
-use Rattle.pk_base.specs.Shape.{Shape, IsShape, page_count}
-use Rattle.pk_base.specs.Page.{page_at, erased}
-use Rattle.pk_nand.specs.BoardState.{BoardState}
-use Rattle.pk_nand.specs.declared.types.NandFault.{NandFault}
-use Rattle.pk_nand.specs.declared.types.LoadFault.{LoadFault}
-use Rattle.pk_nand.specs.declared.types.LoadFault.TheVariants.{Fault}
-use Rattle.pk_remap.specs.declared.image.Image.TheVariants.{Sure}
-use Rattle.pk_remap.specs.declared.relocation.Relocation.{Relocation as InMemory}
-use Rattle.pk_remap.specs.Running.{relocation_of, HasPageBuffers}
-use Rattle.pk_remap.specs.FirstTable.{IsMade, FirstTableOutcome}
+use Rattle.pk_base.{specs.Shape.Shape, specs.Shape.IsShape, specs.Shape.page_count, specs.Page.page_at, specs.Page.erased}
+use Rattle.pk_nand.{specs.BoardState.BoardState, specs.declared.types.NandFault.NandFault, specs.declared.types.LoadFault.LoadFault, specs.declared.types.LoadFault.TheVariants.Fault}
+use Rattle.pk_remap.{specs.declared.image.Image.TheVariants.Sure, specs.declared.relocation.Relocation.Relocation as InMemory, specs.Running.relocation_of, specs.Running.HasPageBuffers}
+use Rattle.pk_remap.{specs.FirstTable.IsMade, specs.FirstTable.FirstTableOutcome, specs.Answers.MakeAnswers, specs.Causes.ImageOpened, specs.Causes.MakeCause, specs.Causes.inner_fault}
 use Rattle.pk_remap.specs.Remapped.{is_open, is_sure, is_missing, remap_board, outer_pages, spares_left}
-use Rattle.pk_remap.specs.Answers.{MakeAnswers}
-use Rattle.pk_remap.specs.Causes.{ImageOpened, MakeCause, inner_fault}
-use Rattle.pk_remap.proofs.Finding.{newest-found}
-use Rattle.pk_remap.proofs.Counting.{has_table}
-use Rattle.pk_remap.proofs.Remapping.{no_bool, holds_closed, holds_rest}
+use Rattle.pk_remap.{proofs.Finding.newest-found, proofs.Counting.has_table, proofs.Remapping.no_bool, proofs.Remapping.holds_closed, proofs.Remapping.holds_rest}
 use Rattle.pk_remap.proofs.Opening.{unknown_make_refused, unknown_made}
 use Rattle.pk_remap.proofs.remap.Remap.make_table.Goals as goal
 

@@ -1,15 +1,9 @@
-use Rattle.std.proofs.Common.{refl, sym, ap, subst, ◌∙◌, Some, replicate}
-use Rattle.std.specs.Prelude.{Err}
-use Rattle.pk_base.specs.Shape.{Shape, page_count}
-use Rattle.pk_base.specs.Page.{erased}
-use Rattle.pk_nand.specs.BoardState.{BoardState}
-use Rattle.pk_nand.specs.declared.types.LoadFault.{LoadFault}
-use Rattle.pk_remap.specs.declared.image.Image.TheVariants.{Unknown}
-use Rattle.pk_remap.specs.Remapped.{is_open, is_missing, remap_board, spares_left}
-use Rattle.pk_remap.proofs.Remapping.{no_bool, holds_closed}
+use Rattle.std.{proofs.Common.refl, proofs.Common.sym, proofs.Common.ap, proofs.Common.subst, proofs.Common.◌∙◌, proofs.Common.Some, proofs.Common.replicate, specs.Prelude.Err}
+use Rattle.pk_base.{specs.Shape.Shape, specs.Shape.page_count, specs.Page.erased}
+use Rattle.pk_nand.{specs.BoardState.BoardState, specs.declared.types.LoadFault.LoadFault}
+use Rattle.pk_remap.{specs.declared.image.Image.TheVariants.Unknown, specs.Remapped.is_open, specs.Remapped.is_missing, specs.Remapped.remap_board, specs.Remapped.spares_left, specs.Causes.MakeCause}
+use Rattle.pk_remap.{proofs.Remapping.no_bool, proofs.Remapping.holds_closed, specs.Answers.MakeAnswers}
 use Rattle.pk_remap.proofs.Opening.{missing_failed, missing_then, make_cause_from, make_cause_refused}
-use Rattle.pk_remap.specs.Answers.{MakeAnswers}
-use Rattle.pk_remap.specs.Causes.{MakeCause}
 use Rattle.pk_remap.proofs.remap.Remap.make_with.Goals as goal
 
 pub make-requires : goal.make-requires

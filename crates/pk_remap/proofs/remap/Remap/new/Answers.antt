@@ -1,6 +1,5 @@
 use Rattle.std.proofs.Common.{refl, arith}
-use Rattle.pk_remap.specs.declared.image.Image.TheVariants.{Unknown}
-use Rattle.pk_remap.proofs.Remapping.{no_bool, holds_closed}
+use Rattle.pk_remap.{specs.declared.image.Image.TheVariants.Unknown, proofs.Remapping.no_bool, proofs.Remapping.holds_closed}
 use Rattle.pk_remap.proofs.remap.Remap.new.Goals as goal
 
 pub invariant_of-result : goal.invariant_of-result

@@ -1,18 +1,10 @@
 use Rattle.std.proofs.Common.{◌≡◌, ℕ, refl, sym, ap, subst, ◌∙◌, arith}
 use Rattle.std.specs.Prelude.{Result, Err, IsErr, None}
-use Rattle.pk_base.specs.declared.shape.ShapeError.{ShapeError}
-use Rattle.pk_base.specs.Shape.{Shape}
-use Rattle.pk_nand.specs.BoardState.{BoardState}
-use Rattle.pk_nand.specs.Calls.{IsReady}
-use Rattle.pk_nand.specs.declared.types.LoadFault.{LoadFault}
-use Rattle.pk_nand.specs.declared.types.LoadFault.TheVariants.{BadImage}
-use Rattle.pk_remap.specs.declared.relocation.Relocation.{Relocation as InMemory}
-use Rattle.pk_remap.specs.Places.{inner_shape}
+use Rattle.pk_base.{specs.declared.shape.ShapeError.ShapeError, specs.Shape.Shape}
+use Rattle.pk_nand.{specs.BoardState.BoardState, specs.Calls.IsReady, specs.declared.types.LoadFault.LoadFault, specs.declared.types.LoadFault.TheVariants.BadImage}
+use Rattle.pk_remap.{specs.declared.relocation.Relocation.Relocation as InMemory, specs.Places.inner_shape, specs.Causes.LoadCause, specs.Causes.no_outer_shape, specs.Answers.LoadAnswers}
 use Rattle.pk_remap.specs.Remapped.{RemapHolds, is_open, is_sure, is_missing, spares_left, remap_board}
-use Rattle.pk_remap.specs.Causes.{LoadCause, no_outer_shape}
-use Rattle.pk_remap.proofs.Remapping.{no_bool, holds_closed}
-use Rattle.pk_remap.proofs.Opening.{with_spares, unknown_refused, unknown_then}
-use Rattle.pk_remap.specs.Answers.{LoadAnswers}
+use Rattle.pk_remap.{proofs.Remapping.no_bool, proofs.Remapping.holds_closed, proofs.Opening.with_spares, proofs.Opening.unknown_refused, proofs.Opening.unknown_then}
 use Rattle.pk_remap.proofs.remap.Remap.open_image.Goals as goal
 
 pub invariant_of-self : goal.invariant_of-self

@@ -1,17 +1,9 @@
 use Rattle.std.proofs.Common.{◌≡◌, length, take, refl, sym, ap, ◌∙◌, arith}
 use Rattle.std.proofs.lemmas.List.{length-take-le}
 use Rattle.pk_base.specs.Page.{page_at}
-use Rattle.pk_nand.specs.BoardState.{BoardState}
-use Rattle.pk_nand.specs.declared.types.LoadFault.TheVariants.{Memory}
-use Rattle.pk_remap.specs.declared.image.Image.TheVariants.{Sure}
-use Rattle.pk_remap.specs.Logged.{told}
-use Rattle.pk_remap.specs.Running.{relocation_of}
-use Rattle.pk_remap.specs.Remapped.{is_open}
-use Rattle.pk_remap.proofs.Finding.{newest-found}
-use Rattle.pk_remap.proofs.LogLemmas.{told_unfit}
-use Rattle.pk_remap.proofs.Counting.{has_table}
-use Rattle.pk_remap.proofs.Remapping.{no_bool, holds_rest}
-use Rattle.pk_remap.proofs.Opening.{unknown_refused, unknown_opened}
+use Rattle.pk_nand.{specs.BoardState.BoardState, specs.declared.types.LoadFault.TheVariants.Memory}
+use Rattle.pk_remap.{specs.declared.image.Image.TheVariants.Sure, specs.Logged.told, specs.Running.relocation_of, specs.Remapped.is_open, proofs.Finding.newest-found, proofs.LogLemmas.told_unfit}
+use Rattle.pk_remap.{proofs.Counting.has_table, proofs.Remapping.no_bool, proofs.Remapping.holds_rest, proofs.Opening.unknown_refused, proofs.Opening.unknown_opened}
 use Rattle.pk_remap.proofs.remap.Remap.open_log.Goals as goal
 
 pub invariant_of-self : goal.invariant_of-self

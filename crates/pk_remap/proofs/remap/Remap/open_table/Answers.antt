@@ -1,18 +1,11 @@
 use Rattle.std.proofs.Common.{◌≡◌, ℕ, Bool, refl, sym, ap, subst, ◌∙◌, arith, None}
 use Rattle.std.specs.Prelude.{Result, Ok, Err, max}
 use Rattle.pk_base.specs.Page.{Flash, page_at}
-use Rattle.pk_nand.specs.BoardState.{BoardState}
-use Rattle.pk_nand.specs.declared.types.NandFault.{NandFault}
-use Rattle.pk_nand.specs.declared.types.LoadFault.{LoadFault}
+use Rattle.pk_nand.{specs.BoardState.BoardState, specs.declared.types.NandFault.NandFault, specs.declared.types.LoadFault.LoadFault}
 use Rattle.pk_nand.specs.declared.types.LoadFault.TheVariants.{BadImage, Fault}
-use Rattle.pk_remap.specs.Newest.{newest_table}
-use Rattle.pk_remap.specs.Serving.{FindOutcome}
+use Rattle.pk_remap.{specs.Newest.newest_table, specs.Serving.FindOutcome, specs.Causes.LoadCause, specs.Causes.no_table, proofs.Outer.find_same, specs.Answers.LoadAnswers}
 use Rattle.pk_remap.specs.Remapped.{is_open, is_sure, is_missing, spares_left, remap_board}
-use Rattle.pk_remap.specs.Causes.{LoadCause, no_table}
-use Rattle.pk_remap.proofs.Outer.{find_same}
-use Rattle.pk_remap.proofs.Remapping.{no_bool, holds_closed, same_fits}
-use Rattle.pk_remap.proofs.Opening.{unknown_refused, unknown_then, load_cause_from}
-use Rattle.pk_remap.specs.Answers.{LoadAnswers}
+use Rattle.pk_remap.{proofs.Remapping.no_bool, proofs.Remapping.holds_closed, proofs.Remapping.same_fits, proofs.Opening.unknown_refused, proofs.Opening.unknown_then, proofs.Opening.load_cause_from}
 use Rattle.pk_remap.proofs.remap.Remap.open_table.Goals as goal
 
 pub find-requires : goal.find-requires

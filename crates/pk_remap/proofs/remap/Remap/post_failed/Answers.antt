@@ -1,8 +1,5 @@
-use Rattle.std.proofs.Common.{◌≡◌, length, sym, subst, ◌∙◌}
-use Rattle.std.proofs.Common.{ℕ, take}
-use Rattle.std.proofs.lemmas.List.{length-take-le}
-use Rattle.pk_remap.specs.Logged.{HasLogRoom}
-use Rattle.pk_remap.proofs.LogLemmas.{room_fewer}
+use Rattle.std.{proofs.Common.◌≡◌, proofs.Common.length, proofs.Common.sym, proofs.Common.subst, proofs.Common.◌∙◌, proofs.Common.ℕ, proofs.Common.take, proofs.lemmas.List.length-take-le}
+use Rattle.pk_remap.{specs.Logged.HasLogRoom, proofs.LogLemmas.room_fewer}
 use Rattle.pk_remap.proofs.remap.Remap.post_failed.Goals as goal
 
 pub note_post-requires : goal.note_post-requires

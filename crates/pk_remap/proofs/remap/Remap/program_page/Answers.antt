@@ -1,13 +1,7 @@
-use Rattle.std.proofs.Common.{◌<◌, sym, ap, subst}
-use Rattle.std.specs.Prelude.{Result}
-use Rattle.pk_base.specs.Shape.{Shape, page_count}
-use Rattle.pk_base.specs.Page.{Flash, IsPage}
-use Rattle.pk_base.specs.Mark.{program}
-use Rattle.pk_nand.specs.BoardState.{BoardState}
-use Rattle.pk_nand.specs.Operations.{InOrder}
-use Rattle.pk_nand.specs.declared.types.NandFault.{NandFault}
-use Rattle.pk_remap.specs.Serving.{outer_of}
-use Rattle.pk_remap.specs.Remapped.{FindsTable, is_open, is_sure}
+use Rattle.std.{proofs.Common.◌<◌, proofs.Common.sym, proofs.Common.ap, proofs.Common.subst, specs.Prelude.Result}
+use Rattle.pk_base.{specs.Shape.Shape, specs.Shape.page_count, specs.Page.Flash, specs.Page.IsPage, specs.Mark.program}
+use Rattle.pk_nand.{specs.BoardState.BoardState, specs.Operations.InOrder, specs.declared.types.NandFault.NandFault}
+use Rattle.pk_remap.{specs.Serving.outer_of, specs.Remapped.FindsTable, specs.Remapped.is_open, specs.Remapped.is_sure}
 use Rattle.pk_remap.proofs.Remapping.{rests, outer_same, made, made_not_found}
 use Rattle.pk_remap.proofs.remap.Remap.program_page.Goals as goal
 

@@ -1,14 +1,7 @@
-use Rattle.std.proofs.Common.{◌≡◌, ◌<◌, sym, ap, subst, ◌∙◌}
-use Rattle.std.specs.Prelude.{Result, IfOk, OnOk}
-use Rattle.pk_base.specs.Shape.{Shape, page_count}
-use Rattle.pk_base.specs.Page.{Flash, page_at}
-use Rattle.pk_base.specs.Mark.{erase}
-use Rattle.pk_nand.specs.BoardState.{BoardState}
-use Rattle.pk_nand.specs.Operations.{filled}
-use Rattle.pk_nand.specs.Seen.{answer}
-use Rattle.pk_nand.specs.declared.types.NandFault.{NandFault}
-use Rattle.pk_remap.specs.Remapped.{FindsTable, is_open, is_sure}
-use Rattle.pk_remap.proofs.Outer.{rests_again}
+use Rattle.std.{proofs.Common.◌≡◌, proofs.Common.◌<◌, proofs.Common.sym, proofs.Common.ap, proofs.Common.subst, proofs.Common.◌∙◌, specs.Prelude.Result, specs.Prelude.IfOk, specs.Prelude.OnOk}
+use Rattle.pk_base.{specs.Shape.Shape, specs.Shape.page_count, specs.Page.Flash, specs.Page.page_at, specs.Mark.erase}
+use Rattle.pk_nand.{specs.BoardState.BoardState, specs.Operations.filled, specs.Seen.answer, specs.declared.types.NandFault.NandFault}
+use Rattle.pk_remap.{specs.Remapped.FindsTable, specs.Remapped.is_open, specs.Remapped.is_sure, proofs.Outer.rests_again}
 use Rattle.pk_remap.proofs.Remapping.{rests, outer_same, open_there, holds_rest, reading_page, reading_then, rose_page}
 use Rattle.pk_remap.proofs.remap.Remap.read_page.Goals as goal
 

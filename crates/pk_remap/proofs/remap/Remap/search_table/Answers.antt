@@ -1,10 +1,6 @@
-use Rattle.std.proofs.Common.{Bool, refl, ap, subst, ◌∙◌}
-use Rattle.std.specs.Prelude.{Result, Ok}
-use Rattle.pk_nand.specs.BoardState.{BoardState}
-use Rattle.pk_nand.specs.declared.types.NandFault.{NandFault}
-use Rattle.pk_remap.specs.declared.image.Image.TheVariants.{Sure}
-use Rattle.pk_remap.specs.Serving.{FindOutcome}
-use Rattle.pk_remap.specs.Remapped.{SameTaken}
+use Rattle.std.{proofs.Common.Bool, proofs.Common.refl, proofs.Common.ap, proofs.Common.subst, proofs.Common.◌∙◌, specs.Prelude.Result, specs.Prelude.Ok}
+use Rattle.pk_nand.{specs.BoardState.BoardState, specs.declared.types.NandFault.NandFault}
+use Rattle.pk_remap.{specs.declared.image.Image.TheVariants.Sure, specs.Serving.FindOutcome, specs.Remapped.SameTaken}
 use Rattle.pk_remap.proofs.Remapping.{holds_rest, holds_table, table_again, same_fits, log_sized, unsure_is, reading_reads}
 use Rattle.pk_remap.proofs.remap.Remap.search_table.Goals as goal
 

@@ -1,8 +1,6 @@
 use Rattle.std.proofs.Common.{◌≡◌, ◌∙◌, sym, subst}
 use Rattle.pk_rootfmt.specs.Root.{Root}
-use Rattle.pk_root.specs.declared.next.Next.{Next}
-use Rattle.pk_root.specs.declared.next.Next.TheVariants.{Again}
-use Rattle.pk_root.specs.Installing.{IsForStep, InstallerOnFlash}
+use Rattle.pk_root.{specs.declared.next.Next.Next, specs.declared.next.Next.TheVariants.Again, specs.Installing.IsForStep, specs.Installing.InstallerOnFlash}
 use Rattle.pk_root.proofs.installer.Installer.step.Goals as goal
 
 pub repeat-requires-clause-fits : goal.repeat-requires-clause-fits

@@ -1,9 +1,6 @@
 use Rattle.std.proofs.Common.{◌≡◌, ◌∙◌, ◌+◌, ◌*◌, ◌<◌, ◌∷◌, [], List, ℕ, map, ap, sym, subst, arith, length, take, drop, get_or, refl, Some}
-use Rattle.pk_base.specs.Shape.{Shape, IsShape, run_blocks, meta_blocks}
-use Rattle.pk_rootfmt.specs.Root.{parts, u16s_at, page_limits}
-use Rattle.pk_base.specs.Fields.{u16_at}
-use Rattle.pk_rootfmt.specs.Held.{Held, total}
-use Rattle.pk_rootfmt.proofs.RunLemmas.{total_small, whole}
+use Rattle.pk_base.{specs.Shape.Shape, specs.Shape.IsShape, specs.Shape.run_blocks, specs.Shape.meta_blocks, specs.Fields.u16_at}
+use Rattle.pk_rootfmt.{specs.Root.parts, specs.Root.u16s_at, specs.Root.page_limits, specs.Held.Held, specs.Held.total, proofs.RunLemmas.total_small, proofs.RunLemmas.whole}
 use Rattle.pk_rootfmt.proofs.FillLemmas.{sizes_at, journal_facts, sizes_fit, sizes_room, filled, limit_facts, limits_few}
 use Rattle.pk_rootfmt.proofs.root.Root.fill.Goals as goal
 

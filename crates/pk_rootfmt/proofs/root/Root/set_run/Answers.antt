@@ -1,11 +1,7 @@
 use Rattle.std.proofs.Common.{◌≡◌, ◌∙◌, ◌-◌, ◌≤◌, List, ap, sym, subst, arith, length, ℕ}
-use Rattle.std.specs.Prelude.{slice_set}
-use Rattle.std.specs.List.{concat}
-use Rattle.std.proofs.lemmas.List.{length-set}
+use Rattle.std.{specs.Prelude.slice_set, specs.List.concat, proofs.lemmas.List.length-set}
 use Rattle.pk_base.specs.Shape.{meta_blocks}
-use Rattle.pk_rootfmt.specs.Held.{Held, total}
-use Rattle.pk_rootfmt.specs.Root.{parts}
-use Rattle.pk_rootfmt.proofs.RunLemmas.{joined_set, whole}
+use Rattle.pk_rootfmt.{specs.Held.Held, specs.Held.total, specs.Root.parts, proofs.RunLemmas.joined_set, proofs.RunLemmas.whole}
 use Rattle.pk_rootfmt.proofs.root.Root.set_run.Goals as goal
 
 pub put_run-requires-clause-room : goal.put_run-requires-clause-room

@@ -1,11 +1,9 @@
 use Rattle.std.proofs.Common.{◌∙◌, ℕ, sym, ap, length, List}
 use Rattle.pk_base.specs.Page.{whole}
 use Rattle.pk_pin.specs.Frames.{Frames, leased, filled}
-use Rattle.pk_run.specs.Kept.{Kept, IsFrameOf, page_of}
-use Rattle.pk_run.proofs.Lookups.{page_stands}
-use Rattle.pk_seg.proofs.Readings.{whole_exists}
-use Rattle.pk_run.proofs.Others.{RunOnFlash-taken, RunOnFlash-filled}
+use Rattle.pk_run.{specs.Kept.Kept, specs.Kept.IsFrameOf, specs.Kept.page_of, proofs.Lookups.page_stands, proofs.Others.RunOnFlash-taken, proofs.Others.RunOnFlash-filled}
 use Rattle.pk_run.proofs.Standing.{RunOnFlash-frame}
+use Rattle.pk_seg.proofs.Readings.{whole_exists}
 use Rattle.pk_run.proofs.run.Run.fill_page.Goals as goal
 
 pub read_page-requires-clause-exists : goal.read_page-requires-clause-exists

@@ -1,9 +1,7 @@
 use Rattle.std.proofs.Common.{◌≡◌, ◌∙◌, refl, sym, ap, ◌∷◌, ◌++◌, List, ℕ, subst, length}
 use Rattle.pk_pin.specs.Frames.{Frames, given}
-use Rattle.pk_run.specs.Kept.{Kept, RunOnFlash}
-use Rattle.pk_run.specs.Leases.{given_all, LeavesOthers, LeavesOtherLeases}
+use Rattle.pk_run.{specs.Kept.Kept, specs.Kept.RunOnFlash, specs.Leases.given_all, specs.Leases.LeavesOthers, specs.Leases.LeavesOtherLeases, proofs.Standing.RunOnFlash-bare}
 use Rattle.pk_run.proofs.Leasing.{last_leased, still_leased, row_next, stands_back, leases_back, given_bytes, given_size}
-use Rattle.pk_run.proofs.Standing.{RunOnFlash-bare}
 use Rattle.pk_run.proofs.run.Run.give_frames.Goals as goal
 
 pub give-requires : goal.give-requires

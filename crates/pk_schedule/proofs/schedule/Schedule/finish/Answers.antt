@@ -1,5 +1,4 @@
-use Rattle.pk_schedule.proofs.Calling.{calls_one}
-use Rattle.pk_schedule.proofs.Finishing.{may_finish, settles_all, breaks_all}
+use Rattle.pk_schedule.{proofs.Calling.calls_one, proofs.Finishing.may_finish, proofs.Finishing.settles_all, proofs.Finishing.breaks_all}
 use Rattle.pk_schedule.proofs.schedule.Schedule.finish.Goals as goal
 
 pub finish_pair-requires-clause-may : goal.finish_pair-requires-clause-may

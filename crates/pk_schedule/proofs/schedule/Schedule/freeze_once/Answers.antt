@@ -1,5 +1,4 @@
-use Rattle.pk_schedule.proofs.Freezing.{can_step, moves, freezes, broken}
-use Rattle.pk_schedule.proofs.Calling.{calls_one}
+use Rattle.pk_schedule.{proofs.Freezing.can_step, proofs.Freezing.moves, proofs.Freezing.freezes, proofs.Freezing.broken, proofs.Calling.calls_one}
 use Rattle.pk_schedule.proofs.schedule.Schedule.freeze_once.Goals as goal
 
 pub freeze_step-requires-clause-can : goal.freeze_step-requires-clause-can

@@ -1,8 +1,7 @@
 use Rattle.std.proofs.Common.{◌≡◌, sym, ap, ◌∙◌, arith}
 use Rattle.pk_plan.specs.declared.owner.Owner.TheVariants.{Values}
 use Rattle.pk_rootfmt.specs.Held.{Held, older_of}
-use Rattle.pk_schedule.specs.declared.phase.Phase.TheVariants.{Ready}
-use Rattle.pk_schedule.specs.Index.{Index, Schedule, index, output}
+use Rattle.pk_schedule.{specs.declared.phase.Phase.TheVariants.Ready, specs.Index.Index, specs.Index.Schedule, specs.Index.index, specs.Index.output}
 use Rattle.pk_schedule.proofs.Installed.{ready_at, ask_prepare, ask_merge, ask_first, ask_level, ask_deep, steps_on, made_prepared, first_replaces, deep_replaces, ask_release, made_release}
 use Rattle.pk_schedule.proofs.Installed.{merge_breaks, merges_told}
 use Rattle.pk_compact.proofs.NextRoot.{programs_then}

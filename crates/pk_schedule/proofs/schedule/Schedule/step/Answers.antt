@@ -1,6 +1,5 @@
 use Rattle.std.proofs.Common.{refl}
-use Rattle.pk_schedule.proofs.Stepping.{other_answer}
-use Rattle.pk_schedule.proofs.Calling.{calls_one, calls_none}
+use Rattle.pk_schedule.{proofs.Stepping.other_answer, proofs.Calling.calls_one, proofs.Calling.calls_none}
 use Rattle.pk_schedule.proofs.schedule.Schedule.step.Goals as goal
 
 pub returns-in-Worked-clause-less : goal.returns-in-Worked-clause-less

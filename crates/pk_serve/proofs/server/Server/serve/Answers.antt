@@ -1,6 +1,5 @@
 use Rattle.pk_serve.proofs.Closing.{keeps_script, keeps_some, answers_all, calls_within, causes_all, none_left}
-use Rattle.pk_serve.proofs.Consuming.{says_of_script}
-use Rattle.pk_serve.proofs.Completing.{completes}
+use Rattle.pk_serve.{proofs.Consuming.says_of_script, proofs.Completing.completes}
 use Rattle.pk_serve.proofs.server.Server.serve.Goals as goal
 
 pub returns : goal.returns

@@ -1,5 +1,4 @@
-use Rattle.std.proofs.Common.{true, false, arith}
-use Rattle.std.proofs.lemmas.Bool.Decides.{nat_tests}
+use Rattle.std.{proofs.Common.true, proofs.Common.false, proofs.Common.arith, proofs.lemmas.Bool.Decides.nat_tests}
 use Rattle.pk_show.proofs.Fronts.{length-front}
 use Rattle.pk_show.proofs.head.Head.len.Goals as goal
 

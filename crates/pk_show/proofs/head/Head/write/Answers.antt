@@ -1,10 +1,6 @@
-use Rattle.std.proofs.Common.{◌==◌, true, ◌∷◌, [], refl, arith}
-use Rattle.std.specs.Prelude.{codes}
-use Rattle.std.proofs.lemmas.Bool.Decides.{nat_tests}
-use Rattle.pk_nvme.specs.Text.{number_text, hex_text}
-use Rattle.pk_nvme.proofs.TextLemmas.{appended, length-hex_text}
-use Rattle.pk_show.proofs.Fronts.{length-front}
-use Rattle.pk_show.specs.declared.head.Head.{Head}
+use Rattle.std.{proofs.Common.◌==◌, proofs.Common.true, proofs.Common.◌∷◌, proofs.Common.[], proofs.Common.refl, proofs.Common.arith, specs.Prelude.codes, proofs.lemmas.Bool.Decides.nat_tests}
+use Rattle.pk_nvme.{specs.Text.number_text, specs.Text.hex_text, proofs.TextLemmas.appended, proofs.TextLemmas.length-hex_text}
+use Rattle.pk_show.{proofs.Fronts.length-front, specs.declared.head.Head.Head}
 use Rattle.pk_show.proofs.head.Head.write.Goals as goal
 
 pub push_number-requires-3 : goal.push_number-requires-3

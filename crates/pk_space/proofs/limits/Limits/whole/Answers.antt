@@ -1,7 +1,6 @@
 use Rattle.std.proofs.Common.{subst, sym, ◌≤◌, ◌∷◌, [], ◌≡◌}
 use Rattle.pk_base.specs.Shape.{limit, data_blocks}
-use Rattle.pk_space.specs.Limits.{AcceptsLimits}
-use Rattle.pk_space.proofs.Whole.{accepts_whole}
+use Rattle.pk_space.{specs.Limits.AcceptsLimits, proofs.Whole.accepts_whole}
 use Rattle.pk_space.proofs.limits.Limits.whole.Goals as goal
 
 pub of_each-requires : goal.of_each-requires

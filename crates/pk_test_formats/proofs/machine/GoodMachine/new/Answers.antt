@@ -1,6 +1,5 @@
 use Rattle.std.proofs.Common.{sym, subst}
-use Rattle.pk_host.specs.Good.{IsGood}
-use Rattle.pk_host.proofs.LeftLemmas.{good_empty}
+use Rattle.pk_host.{specs.Good.IsGood, proofs.LeftLemmas.good_empty}
 use Rattle.pk_test_formats.proofs.machine.GoodMachine.new.Goals as goal
 
 pub invariant_of-result : goal.invariant_of-result

@@ -1,11 +1,8 @@
 use Rattle.std.proofs.Common.{arith, sym, subst, ◌∷◌, []}
-use Rattle.pk_nvme.specs.Opcode.{op_of}
-use Rattle.pk_nvme.specs.Command.{command}
+use Rattle.pk_nvme.{specs.Opcode.op_of, specs.Command.command}
 use Rattle.pk_model.specs.Machine.{Machine}
-use Rattle.pk_host.specs.Port.{Took}
-use Rattle.pk_test_formats.specs.Memory.{seen}
-use Rattle.pk_host.proofs.HandedLemmas.{room_small}
-use Rattle.pk_test_formats.proofs.PortLemmas.{answer_fits, replies_so, took_one, took_fault}
+use Rattle.pk_host.{specs.Port.Took, proofs.HandedLemmas.room_small}
+use Rattle.pk_test_formats.{specs.Memory.seen, proofs.PortLemmas.answer_fits, proofs.PortLemmas.replies_so, proofs.PortLemmas.took_one, proofs.PortLemmas.took_fault}
 use Rattle.pk_test_formats.proofs.memory_port.MemoryPortPort.submit.Goals as goal
 
 pub completed-requires-clause-room : goal.completed-requires-clause-room

@@ -1,7 +1,6 @@
 use Rattle.std.proofs.Common.{arith}
-use Rattle.pk_text.specs.Assembled.{assembled_from, assembled}
+use Rattle.pk_text.{specs.Assembled.assembled_from, specs.Assembled.assembled, proofs.Lining.Lines-stop}
 use Rattle.pk_text.proofs.Turning.{TextAdvances-empty, TextAdvances-then, TextAdvances-count, Turns-behind, Turns-all}
-use Rattle.pk_text.proofs.Lining.{Lines-stop}
 use Rattle.pk_text.proofs.assembler.Assembler.assemble.Goals as goal
 
 pub returns-in-Err : goal.returns-in-Err

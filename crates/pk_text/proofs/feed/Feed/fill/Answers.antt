@@ -1,7 +1,5 @@
-use Rattle.std.proofs.Common.{sym, ap, arith, rules, length, take, length-take-le}
-use Rattle.std.proofs.lemmas.List.{length-drop}
-use Rattle.pk_text.proofs.Feeding.{Filled-buffer}
-use Rattle.pk_text.proofs.Turning.{Fed-none}
+use Rattle.std.{proofs.Common.sym, proofs.Common.ap, proofs.Common.arith, proofs.Common.rules, proofs.Common.length, proofs.Common.take, proofs.Common.length-take-le, proofs.lemmas.List.length-drop}
+use Rattle.pk_text.{proofs.Feeding.Filled-buffer, proofs.Turning.Fed-none}
 use Rattle.pk_text.proofs.feed.Feed.fill.Goals as goal
 
 pub returns-in-Ok-clause-ok : goal.returns-in-Ok-clause-ok

@@ -1,7 +1,6 @@
 use Rattle.std.proofs.Common.{arith}
-use Rattle.pk_text.specs.Records.{shown_from, shown}
+use Rattle.pk_text.{specs.Records.shown_from, specs.Records.shown, proofs.Showing.Records-stop}
 use Rattle.pk_text.proofs.Turning.{TextAdvances-empty, TextAdvances-then, TextAdvances-count, Turns-behind, Turns-all}
-use Rattle.pk_text.proofs.Showing.{Records-stop}
 use Rattle.pk_text.proofs.shower.Shower.show.Goals as goal
 
 pub returns-in-Err : goal.returns-in-Err

@@ -1,6 +1,5 @@
 use Rattle.std.proofs.Common.{[]}
-use Rattle.pk_text.specs.Records.{shown_from}
-use Rattle.pk_text.specs.Steps.{TextAdvances, ahead}
+use Rattle.pk_text.{specs.Records.shown_from, specs.Steps.TextAdvances, specs.Steps.ahead}
 use Rattle.pk_text.proofs.shower.Shower.show.Given as goal
 
 abbrev pub invariant-loop-taken : goal.invariant-loop-taken

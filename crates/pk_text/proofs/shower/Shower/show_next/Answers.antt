@@ -1,7 +1,6 @@
 use Rattle.std.proofs.Common.{suc}
-use Rattle.pk_text.specs.Records.{shown_from}
+use Rattle.pk_text.{specs.Records.shown_from, proofs.Showing.Head-advances_as, proofs.Showing.Head-part_as}
 use Rattle.pk_text.proofs.Turning.{TextAdvances-then, Turns-behind, Turns-input, on_ok, if_err_map, not_empty}
-use Rattle.pk_text.proofs.Showing.{Head-advances_as, Head-part_as}
 use Rattle.pk_text.proofs.shower.Shower.show_next.Goals as goal
 
 pub returns-in-Ok-true-clause-advances : goal.returns-in-Ok-true-clause-advances

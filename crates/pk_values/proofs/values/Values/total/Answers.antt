@@ -1,6 +1,5 @@
 use Rattle.std.proofs.Common.{◌∙◌, ap, sum}
-use Rattle.pk_values.specs.State.{ValuesState}
-use Rattle.pk_values.proofs.Standing.{total_of}
+use Rattle.pk_values.{specs.State.ValuesState, proofs.Standing.total_of}
 use Rattle.pk_values.proofs.values.Values.total.Goals as goal
 
 pub returns-clause-placed : goal.returns-clause-placed

@@ -1,5 +1,4 @@
-use Rattle.std.proofs.Common.{◌-◌, ◌∙◌, ap, sym}
-use Rattle.std.proofs.lemmas.Option.{slice_get_past}
+use Rattle.std.{proofs.Common.◌-◌, proofs.Common.◌∙◌, proofs.Common.ap, proofs.Common.sym, proofs.lemmas.Option.slice_get_past}
 use Rattle.pk_walk.specs.Steps.{seen_bytes}
 use Rattle.pk_walk.proofs.cursor.Cursor.bytes.Goals as goal
 

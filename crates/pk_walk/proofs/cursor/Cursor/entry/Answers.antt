@@ -1,8 +1,7 @@
 use Rattle.std.proofs.Common.{◌≡◌, ℕ, ◌-◌, ◌%◌, ◌∙◌, List, slice_get, ap, sym, subst}
 use Rattle.pk_base.specs.Shape.{page_entries}
 use Rattle.pk_meta.specs.PageChecks.{IsMetaPage}
-use Rattle.pk_walk.specs.Walking.{Cursor}
-use Rattle.pk_walk.proofs.Following.{page_before, before_place, in_page}
+use Rattle.pk_walk.{specs.Walking.Cursor, proofs.Following.page_before, proofs.Following.before_place, proofs.Following.in_page}
 use Rattle.pk_walk.proofs.cursor.Cursor.entry.Goals as goal
 
 pub overflow_sub-start : goal.overflow_sub-start

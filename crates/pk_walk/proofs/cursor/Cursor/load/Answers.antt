@@ -1,6 +1,5 @@
 use Rattle.std.proofs.Common.{ap, arith, rules, ◌≤◌}
-use Rattle.pk_walk.specs.Walking.{Cursor}
-use Rattle.pk_walk.proofs.Following.{looked, looked_all, come_pinned, come_pinned_all, has_frames}
+use Rattle.pk_walk.{specs.Walking.Cursor, proofs.Following.looked, proofs.Following.looked_all, proofs.Following.come_pinned, proofs.Following.come_pinned_all, proofs.Following.has_frames}
 use Rattle.pk_walk.proofs.cursor.Cursor.load.Goals as goal
 
 pub returns-in-Some-clause-loads : goal.returns-in-Some-clause-loads

@@ -1,6 +1,5 @@
 use Rattle.std.proofs.Common.{◌≡◌, ℕ, slice_get, None, ◌/◌, suc, ap, sym, subst, ◌∙◌}
-use Rattle.pk_base.specs.Shape.{page_entries}
-use Rattle.pk_base.specs.Page.{page_at, whole}
+use Rattle.pk_base.{specs.Shape.page_entries, specs.Page.page_at, specs.Page.whole}
 use Rattle.pk_nand.specs.Operations.{ReadFailed}
 use Rattle.pk_run.specs.Kept.{page_of}
 use Rattle.pk_walk.specs.Walking.{Cursor, Reads, read_of}

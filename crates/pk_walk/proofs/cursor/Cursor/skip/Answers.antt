@@ -1,7 +1,4 @@
-use Rattle.pk_walk.specs.Heads.{seen_head}
-use Rattle.pk_walk.specs.Steps.{bytes_in}
-use Rattle.pk_walk.specs.Walking.{Cursor}
-use Rattle.pk_walk.proofs.Moving.{moves_to}
+use Rattle.pk_walk.{specs.Heads.seen_head, specs.Steps.bytes_in, specs.Walking.Cursor, proofs.Moving.moves_to}
 use Rattle.pk_walk.proofs.cursor.Cursor.skip.Goals as goal
 
 pub returns : goal.returns

@@ -1,8 +1,6 @@
 use Rattle.std.proofs.Common.{[], ◌∷◌, ap, refl, sym, ◌∙◌, option_map}
 use Rattle.pk_base.specs.Seen.{entry as seen}
-use Rattle.pk_walk.specs.Heads.{seen_head}
-use Rattle.pk_walk.specs.Visible.{behind_found}
-use Rattle.pk_walk.specs.Walking.{seen_tops}
+use Rattle.pk_walk.{specs.Heads.seen_head, specs.Visible.behind_found, specs.Walking.seen_tops}
 use Rattle.pk_walk.proofs.Keeping.{before_first, before_fourth, before_second, before_third, none_kept}
 use Rattle.pk_walk.proofs.Taking.{fourth_went, third_went, second_went, first_went, frozen_went, active_went}
 use Rattle.pk_walk.proofs.cursors.Cursors.take_least.Goals as goal

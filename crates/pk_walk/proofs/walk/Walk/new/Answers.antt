@@ -1,7 +1,5 @@
 use Rattle.std.proofs.Common.{refl}
-use Rattle.pk_walk.specs.declared.position.Position.TheVariants.{First}
-use Rattle.pk_walk.specs.Walking.{seen_tops}
-use Rattle.pk_walk.proofs.Walks.{start_all, start_none, start_skips_none}
+use Rattle.pk_walk.{specs.declared.position.Position.TheVariants.First, specs.Walking.seen_tops, proofs.Walks.start_all, proofs.Walks.start_none, proofs.Walks.start_skips_none}
 use Rattle.pk_walk.proofs.walk.Walk.new.Goals as goal
 
 pub returns-clause-left : goal.returns-clause-left

@@ -1,7 +1,5 @@
 use Rattle.std.proofs.Common.{refl}
-use Rattle.pk_walk.specs.declared.position.Position.TheVariants.{First, From}
-use Rattle.pk_walk.specs.Walking.{seen_tops}
-use Rattle.pk_walk.proofs.Keeping.{none_kept}
+use Rattle.pk_walk.{specs.declared.position.Position.TheVariants.First, specs.declared.position.Position.TheVariants.From, specs.Walking.seen_tops, proofs.Keeping.none_kept}
 use Rattle.pk_walk.proofs.Walks.{start_walk, start_left, start_none, start_skips_none}
 use Rattle.pk_walk.proofs.walk.Walk.start.Goals as goal
 

@@ -1,7 +1,6 @@
 use Rattle.std.proofs.Common.{sym, ap, subst, ◌∙◌}
 use Rattle.pk_base.specs.Shape.{Shape}
-use Rattle.pk_walk.specs.Walking.{Walk, AreOfShape, seen_tops}
-use Rattle.pk_walk.proofs.Keeping.{learned_kept, learned_settled, none_kept}
+use Rattle.pk_walk.{specs.Walking.Walk, specs.Walking.AreOfShape, specs.Walking.seen_tops, proofs.Keeping.learned_kept, proofs.Keeping.learned_settled, proofs.Keeping.none_kept}
 use Rattle.pk_walk.proofs.Walks.{Learned, comes_to_found, walks_to_found, walks_failed, is_walk_behind}
 use Rattle.pk_walk.proofs.walk.Walk.step.Goals as goal
 

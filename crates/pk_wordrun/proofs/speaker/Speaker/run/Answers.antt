@@ -1,6 +1,5 @@
 use Rattle.std.proofs.Common.{sym, subst}
-use Rattle.pk_base.specs.Shape.{Shape}
-use Rattle.pk_base.specs.Map.{Map}
+use Rattle.pk_base.{specs.Shape.Shape, specs.Map.Map}
 use Rattle.pk_nand.specs.Calls.{IsReady}
 use Rattle.pk_call.specs.Drive.{HoldsMap}
 use Rattle.pk_port.specs.Steps.{mount}

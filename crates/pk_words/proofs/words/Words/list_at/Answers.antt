@@ -1,9 +1,7 @@
 use Rattle.std.proofs.Common.{ap, refl, ◌∙◌, ◌++◌}
-use Rattle.pk_nvme.specs.Bytes.{RoomyList}
-use Rattle.pk_nvme.specs.declared.opcode.Opcode.TheVariants.{Exist}
+use Rattle.pk_nvme.{specs.Bytes.RoomyList, specs.declared.opcode.Opcode.TheVariants.Exist}
 use Rattle.pk_host.proofs.PageLemmas.{took_one}
-use Rattle.pk_words.specs.Lines.{status_line, key_line}
-use Rattle.pk_words.proofs.ListLemmas.{says_there, says_missing, exist_failed}
+use Rattle.pk_words.{specs.Lines.status_line, specs.Lines.key_line, proofs.ListLemmas.says_there, proofs.ListLemmas.says_missing, proofs.ListLemmas.exist_failed}
 use Rattle.pk_words.proofs.words.Words.list_at.Goals as goal
 
 pub returns-in-Ok-true-clause-piece : goal.returns-in-Ok-true-clause-piece

@@ -1,7 +1,6 @@
 use Rattle.std.proofs.Common.{ap, ◌∙◌}
 use Rattle.pk_nvme.specs.Bytes.{RoomyList}
-use Rattle.pk_words.specs.Lines.{status_line}
-use Rattle.pk_words.proofs.ReportLemmas.{said_numbers, refused_numbers}
+use Rattle.pk_words.{specs.Lines.status_line, proofs.ReportLemmas.said_numbers, proofs.ReportLemmas.refused_numbers}
 use Rattle.pk_words.proofs.words.Words.stat.Goals as goal
 
 pub returns-in-Ok-clause-said : goal.returns-in-Ok-clause-said
