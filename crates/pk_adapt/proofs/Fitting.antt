@@ -3,7 +3,7 @@ use Rattle.std.proofs.Common.{◌≡◌, inl, inr, ℕ, zero, suc, ◌+◌, ◌-
 use Rattle.std.proofs.Common.{leb→le, drop-cons, length-drop, add-one}
 use Rattle.std.{proofs.lemmas.Bool.cases_lt, proofs.lemmas.Bool.Decides.nat_tests}
 use Rattle.pk_base.specs.Shape.{Shape, need, pinned}
-use Rattle.pk_adapt.specs.Adapted.{spare_frames, pages_of_first, last_fitting, adapted, pages_up_to, IsAdapted}
+use Rattle.pk_adapt.specs.Adapted.{spare_frames, pages_of_first, last_fitting, adapted, IsAdapted}
 
 -- the pinned levels have the frames that they need
 pub need_most : (shape : Shape) (frames : ℕ) → need shape (pinned shape frames) ≤ frames

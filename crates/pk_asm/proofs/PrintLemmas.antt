@@ -11,48 +11,14 @@ use Rattle.pk_asm.specs.declared.writer.Word.TheVariants.{Text, Hex}
 pub record Wrote (old : RoomyList) (text : List ℕ) (new : RoomyList) : Type 0 where
   pub now : new ≡ record old { items = old.items ++ text }
 
-pub wrote_none : (old : RoomyList) → Wrote old [] old
-wrote_none old = record { now = ap (λ (xs : List ℕ). record old { items = xs }) (sym (append-nil old.items)) }
-
-pub wrote_more : (old now next : RoomyList) (front text whole : List ℕ) → front ++ text ≡ whole → Wrote old front now → next ≡ record now { items = now.items ++ text } → Wrote old whole next
-wrote_more old now next front text whole e h step =
-    let moved : record now { items = now.items ++ text } ≡ record old { items = (old.items ++ front) ++ text } = ap (λ (v : RoomyList). record v { items = v.items ++ text }) h.now in
-    record { now = step ∙ moved ∙ ap (λ (xs : List ℕ). record old { items = xs }) (append_assoc old.items front text ∙ ap (λ (xs : List ℕ). old.items ++ xs) e) }
-
 pub wrote_len : (old now : RoomyList) (text : List ℕ) → Wrote old text now → (length now.items ≡ length old.items + length text) × (now.room ≡ old.room)
 wrote_len old now text h = (ap (λ (v : RoomyList). length v.items) h.now ∙ length-append old.items text, ap (λ (v : RoomyList). v.room) h.now)
 
 -- ---- hexadecimal digits
 
-hex_append : (xs ys : List ℕ) → hex_text (xs ++ ys) ≡ hex_text xs ++ hex_text ys
-unfolding encode_with
-hex_append [] ys = refl
-hex_append (x ∷ xs) ys = ap (λ (r : List ℕ). get_or lower_digits (x / 16) 0 ∷ get_or lower_digits (x % 16) 0 ∷ r) (hex_append xs ys)
-
-pub hex_more : (bytes : List ℕ) (i : ℕ) → i < length bytes → hex_text (take i bytes) ++ hex_text (get_or bytes i 0 ∷ []) ≡ hex_text (take (i + 1) bytes)
-hex_more bytes i lt = sym (hex_append (take i bytes) (get_or bytes i 0 ∷ [])) ∙ ap hex_text (sym (take_more bytes i 0 lt))
-
 -- n bytes were written
 pub record HexSoFar (bytes : List ℕ) (i : ℕ) (old now : RoomyList) : Type 0 where
   pub wrote : Wrote old (hex_text (take i bytes)) now
-
-pub hex_none : (bytes : List ℕ) (old : RoomyList) → HexSoFar bytes 0 old old
-unfolding encode_with
-hex_none bytes old = record { wrote = wrote_none old }
-
-pub hex_room : (bytes : List ℕ) (i : ℕ) (old now : RoomyList) → i < length bytes → length old.items + 2 * length bytes ≤ old.room → HexSoFar bytes i old now → length now.items + 2 ≤ now.room
-hex_room bytes i old now lt room h =
-    let sized = wrote_len old now (hex_text (take i bytes)) h.wrote in
-    let digits = length-encode_with lower_digits (take i bytes) in
-    let count = length-take-le i bytes (omega arith) in
-    omega (arith, sized.0, sized.1, digits)
-
-pub hex_step : (bytes : List ℕ) (i : ℕ) (old now next : RoomyList) → i < length bytes
-    → next ≡ record now { items = now.items ++ hex_text (get_or bytes i 0 ∷ []) } → HexSoFar bytes i old now → HexSoFar bytes (i + 1) old next
-hex_step bytes i old now next lt step h = record { wrote = wrote_more old now next _ _ _ (hex_more bytes i lt) h.wrote step }
-
-pub hex_all : (bytes : List ℕ) (i : ℕ) (old now : RoomyList) → length bytes ≤ i → HexSoFar bytes i old now → now ≡ record old { items = old.items ++ hex_text bytes }
-hex_all bytes i old now all h = h.wrote.now ∙ ap (λ (xs : List ℕ). record old { items = old.items ++ hex_text xs }) (take_all i bytes all)
 
 -- ---- words after blanks
 
@@ -102,22 +68,12 @@ fit_all words i left room all so_far =
 pub record WordsSoFar (words : List Word) (i : ℕ) (old now : RoomyList) : Type 0 where
   pub wrote : Wrote old (tail_text (take i words)) now
 
-pub words_none : (words : List Word) (old : RoomyList) → WordsSoFar words 0 old old
-words_none words old = record { wrote = wrote_none old }
-
 pub words_room : (words : List Word) (i : ℕ) (old now : RoomyList) → i < length words → length old.items + length (tail_text words) ≤ old.room
     → WordsSoFar words i old now → length now.items + (1 + length (word_text (get_or words i no_word))) ≤ now.room
 words_room words i old now lt room h =
     let sized = wrote_len old now (tail_text (take i words)) h.wrote in
     let short = tail_short words i lt in
     omega (arith, sized.0, sized.1)
-
-pub words_step : (words : List Word) (i : ℕ) (old now next : RoomyList) → i < length words → next ≡ record now { items = now.items ++ 32 ∷ word_text (get_or words i no_word) }
-    → WordsSoFar words i old now → WordsSoFar words (i + 1) old next
-words_step words i old now next lt step h = record { wrote = wrote_more old now next _ _ _ (tail_more words i lt) h.wrote step }
-
-pub words_all : (words : List Word) (i : ℕ) (old now : RoomyList) → length words ≤ i → WordsSoFar words i old now → now ≡ record old { items = old.items ++ tail_text words }
-words_all words i old now all h = h.wrote.now ∙ ap (λ (ws : List Word). record old { items = old.items ++ tail_text ws }) (take_all i words all)
 
 -- digits after a blank
 pub hex_fits : (word : Word) (bytes : Bor (List ℕ)) (old new : RoomyList) → word ≡ Hex bytes → length old.items + (1 + length (word_text word)) ≤ old.room

@@ -3,20 +3,20 @@ use Rattle.std.proofs.Common.{◌≡◌, inl, inr, ℕ, zero, suc, ◌+◌, ◌-
 use Rattle.std.proofs.Common.{sum, slice_get, slice_set, Option, Some, Ok}
 use Rattle.std.{specs.Prelude.not, specs.Prelude.slice_index_or, specs.Prelude.◌==◌, specs.List.AllByRecursion, proofs.lemmas.Bool.cases_lt, proofs.lemmas.Bool.eqb-true, proofs.lemmas.Bool.eq-eqb}
 use Rattle.std.proofs.lemmas.Option.{slice_get-get_or}
-use Rattle.pk_base.{specs.Shape.Shape, specs.Shape.cap, specs.Shape.caps, specs.Page.Flash, specs.Page.page_at, specs.Entry.Entry, proofs.Logic.not_both}
+use Rattle.pk_base.{specs.Shape.Shape, specs.Shape.cap, specs.Shape.caps, specs.Page.Flash, specs.Entry.Entry, proofs.Logic.not_both}
 use Rattle.pk_rootfmt.specs.Root.{Root}
-use Rattle.pk_nand.{specs.BoardState.BoardState, specs.Calls.IsReady, specs.Effects.AtMostOneCall, specs.Effects.OnlyFlash, specs.Effects.OnlyReading, specs.Effects.made_read}
+use Rattle.pk_nand.{specs.BoardState.BoardState, specs.Calls.IsReady, specs.Effects.OnlyFlash, specs.Effects.OnlyReading, specs.Effects.made_read}
 use Rattle.pk_nand.{specs.Operations.ReadFailed, specs.Operations.after_read, proofs.Reaching.Reached-start}
-use Rattle.pk_pin.specs.Frames.{Frames, filled, leased}
+use Rattle.pk_pin.specs.Frames.{Frames, filled}
 use Rattle.pk_run.specs.Kept.{Kept, IsKept, empty, is_pinned}
 use Rattle.pk_level.specs.Levels.{Levels, IsLevels, IsOfLevel, AreOfLevels, HaveBlocks, RunsOnFlash, run_of, with_run}
 use Rattle.pk_level.specs.Arenas.{FillsOne, HasArena, last_level, unfilled, unfilled_from}
 use Rattle.pk_level.proofs.Filling.{framed_blocks, framed_counts, got_of}
 use Rattle.pk_model.{specs.Found.Found, specs.Crashes.CrashFinds, specs.Crashes.background, specs.Reading.reading, specs.Wear.roots}
-use Rattle.pk_law_work.{specs.Backlog.Backlog, specs.Work.work, proofs.Lowering.fills}
-use Rattle.pk_schedule.{specs.declared.phase.Phase.Phase, specs.Index.Index, specs.Index.IndexOnFlash, specs.Index.MergeStands, specs.Index.merging, specs.Index.output, proofs.Backlogs.four}
+use Rattle.pk_law_work.{specs.Work.work, proofs.Lowering.fills}
+use Rattle.pk_schedule.{specs.declared.phase.Phase.Phase, specs.Index.Index, specs.Index.IndexOnFlash, specs.Index.MergeStands, specs.Index.output, proofs.Backlogs.four}
 use Rattle.pk_schedule.specs.declared.phase.Phase.TheVariants.{Idle as NoMerge, Running, Ready}
-use Rattle.pk_schedule.{specs.Steps.backlog_of as backlog_of_index, specs.Steps.has_no_merge, specs.Steps.is_between, specs.Steps.merge_left, proofs.Keeping.idle_leases}
+use Rattle.pk_schedule.{specs.Steps.has_no_merge, specs.Steps.is_between, specs.Steps.merge_left, proofs.Keeping.idle_leases}
 use Rattle.pk_call.specs.declared.types.Ticked.TheVariants.{Worked, Fault}
 use Rattle.pk_parts.{specs.Parts.Parts, specs.Parts.backlog_of, specs.Parts.frames_of, specs.Parts.index_of, specs.Parts.is_half, specs.Parts.sight_of, specs.Agreeing.DriveOnFlashWith}
 use Rattle.pk_parts.{specs.Moves.StandsFor, specs.Staying.Stays, proofs.Halves.between, proofs.Halves.whole_like, proofs.Standing.reads_as, proofs.Staying.stays_frees, proofs.Staying.stays_same}

@@ -6,7 +6,7 @@ use Rattle.pk_nand.{specs.declared.types.Fault.Fault, specs.declared.types.Fault
 use Rattle.pk_nand.{specs.Calls.IsReady, specs.Calls.Rose, specs.Calls.last_count, proofs.Reaching.Reached-start, proofs.Writing.shape_is}
 use Rattle.pk_nand.specs.Effects.{AtMostOneCall, NoFault, OnlyFlash, OnlyReading, Works, Stops, made_no_call, made_read, made_program, made_erase}
 use Rattle.pk_rootfmt.{specs.Root.Root, specs.Newest.newest_root}
-use Rattle.pk_model.{specs.Found.Found, specs.Reading.reading, specs.Growth.Grows, specs.Growth.Goes, specs.Crashes.CrashFinds, specs.Crashes.background, specs.Crashes.commit}
+use Rattle.pk_model.{specs.Found.Found, specs.Reading.reading, specs.Growth.Goes, specs.Crashes.CrashFinds, specs.Crashes.background, specs.Crashes.commit}
 use Rattle.pk_model.{specs.Wear.root_number, specs.Wear.roots, proofs.Growing.weaken, proofs.Growing.weaken_went}
 use Rattle.pk_law_steps.{specs.Under.places, proofs.Untouched.under_reads}
 use Rattle.pk_root.{specs.declared.next.Next.Next, specs.declared.next.Next.TheVariants.Erase, specs.declared.next.Next.TheVariants.Program, specs.declared.next.Next.TheVariants.Again}
@@ -120,10 +120,6 @@ module _ (d : Parts) (old : BoardState) (may : MayEmpty d old) where
         still = inr (under_reads d.log.shape new.pages [] is.then_top is.then_found m is.under);
         cuts = (run.0, weaken run.0 old new (CrashFinds d.log.shape background old.pages m) (CrashFinds d.log.shape commit old.pages m) (commit_cut m) run.1, run.2);
       })
-
-  -- the tree grows
-  pub moved_grows : (x : Index) (new : BoardState) → Moves (index_of d) old x new → Grows d.log.shape old.pages new.pages
-  moved_grows x new moves = let some = may.may.stands in (moves (frames_of d) some.1.top some.1.found some.0 (may_work some.0 some.1)).grows
 
   pub broken_breaks : (new : BoardState) → Breaks (index_of d) old new → BreaksAll d old new
   broken_breaks new breaks shape m stands =

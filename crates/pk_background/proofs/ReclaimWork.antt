@@ -145,9 +145,6 @@ module _ (b c : Parts) (leaves : LeavesIndex b c) where
     pool = c.pool;
   }
 
-  shape_same : c.log.shape ≡ b.log.shape
-  shape_same = ap (λ (d : Parts). d.log.shape) leaves
-
   work_less : (may_freeze c ≡ true → may_freeze b ≡ true) → Lowers (reclaiming b.log.shape (backlog_of b)) (unready b.pool.states) (reclaiming c.log.shape (backlog_of c)) (unready c.pool.states)
       → (sight_of c).work < (sight_of b).work
   work_less may lowers =

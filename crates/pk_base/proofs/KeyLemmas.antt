@@ -3,7 +3,7 @@ use Rattle.std.proofs.Common.{◌≡◌, ℕ, ◌≤◌, Bool, true, false, cond
 use Rattle.std.{specs.Prelude.nat_lt, specs.Prelude.◌==◌, proofs.lemmas.Bool.Decides.nat_tests, specs.FinMap.slice_cmp-IsAntisymmetric, specs.FinMap.nat_cmp-IsAntisymmetric}
 use Rattle.std.{specs.Ordering.nat_cmp, specs.Ordering.is_lt, specs.Ordering.ordering_then, specs.Ordering.ordering_reverse, proofs.lemmas.Cmp.nat_list_cmp_total}
 use Rattle.std.specs.FinMap.Entries.{find, is_sorted, below_all, is_sorted-put}
-use Rattle.pk_base.{specs.Key.Key, specs.Key.IsKey, specs.Key.key_cmp, specs.Key.space_of, specs.Key.bytes_of, specs.Entry.Entry, specs.Firsts.firsts}
+use Rattle.pk_base.{specs.Key.Key, specs.Key.IsKey, specs.Key.key_cmp, specs.Entry.Entry, specs.Firsts.firsts}
 use Rattle.pk_base.proofs.Logic.{left_part, right_part, both, less}
 
 pub same_key : (a b : Key) → key_cmp a b ≡ Equal → a ≡ b
@@ -32,10 +32,6 @@ firsts_sorted [] = tt
 firsts_sorted (e ∷ es) = is_sorted-put key_cmp nat_list_cmp_total e.0 e.1 (firsts es) (firsts_sorted es)
 
 -- ---- a namespace and bytes
-
-pub whole_key : (key : Key) → IsKey key → space_of key ∷ bytes_of key ≡ key
-whole_key [] h = let some = h.some in absurd (omega arith)
-whole_key (n ∷ b) h = refl
 
 none_below : (bytes : List ℕ) → is_lt (key_cmp bytes []) ≡ false
 none_below [] = refl

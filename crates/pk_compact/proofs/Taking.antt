@@ -11,7 +11,7 @@ use Rattle.pk_model.{specs.Found.Found, specs.Laws.AnyByRecursion, specs.Growth.
 use Rattle.pk_model.{specs.Spaces.limits_at, proofs.Growing.top_limits, proofs.Running.Reaches-none, proofs.Running.Reaches-erase, proofs.Running.Goes-erase}
 use Rattle.pk_pool.{specs.declared.state.BlockState.BlockState, specs.Blocks.Blocks, specs.Blocks.IsSpare, specs.Blocks.with_state, specs.Taking.TakesReady, specs.Taking.ErasesFree}
 use Rattle.pk_pool.specs.declared.state.BlockState.TheVariants.{Free, Ready, Owned}
-use Rattle.pk_pool.{proofs.States.get-set_other, proofs.States.get-set_same, proofs.States.owned_is_not_free, proofs.States.owned_is_not_ready, proofs.Fitting.IsReady-erase}
+use Rattle.pk_pool.{proofs.States.get-set_other, proofs.States.get-set_same, proofs.States.owned_is_not_free, proofs.States.owned_is_not_ready}
 use Rattle.pk_law_steps.{specs.Under.IsUnder, specs.Under.IsValuePage, specs.Under.places, proofs.Untouched.erases, proofs.Untouched.under_reads}
 use Rattle.pk_compact.specs.Steps.{AtMostErases}
 
@@ -54,14 +54,6 @@ module _ (shape : Shape) (block : ℕ) (old new : BoardState) (taken : AtMostEra
         ∙ (let T : Shape → Type 0 = λ s. page_at (after s (erase block) old.pages) k ≡ page_at old.pages k in
         subst T (sym (shape_is old shape ready)) (page_at-erased_from shape block 0 old.pages k (λ e. other (ap (λ n. n / shape.block_pages) (sym (zero-add k)) ∙ e))))
   ]
-
-  pub still_ready : IsShape shape → IsReady new shape
-  still_ready is_shape =
-      let T : BoardState → Type 0 = λ s. IsReady s shape in
-      elim taken [
-        | inl same ↦ subst T (sym same) ready
-        | inr made ↦ subst T (sym made) (IsReady-erase shape old block is_shape ready)
-      ]
 
 -- a page of the root blocks is in no block after them
 pub not_behind : (shape : Shape) (block k : ℕ) → IsShape shape → 2 ≤ block → k < 2 * shape.block_pages → k / shape.block_pages ≢ block

@@ -142,9 +142,6 @@ module _ (d : Parts) (old new : BoardState) (r : Request) (o : Outcome) (into : 
   pub list_pages : new.pages ≡ old.pages
   list_pages = same_pages
 
-  pub list_agrees : DriveOnFlash d new.shape new.pages
-  list_agrees = subst (λ (s : Option Shape). DriveOnFlash d s new.pages) (sym same_shape) (subst (λ (f : Flash). DriveOnFlash d old.shape f) (sym same_pages) a)
-
   pub list_executes : (e : Parts) → IsServable d old r → e ≡ record d { walk = e.walk } → Executes d e old new c o into o.reads
   list_executes e s same = executes_walked d e old new r c o into o.reads s same list_pages list_runs list_does
 

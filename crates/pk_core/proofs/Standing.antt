@@ -4,7 +4,7 @@ use Rattle.pk_base.{specs.Shape.Shape, specs.Page.Flash, specs.Map.Map, proofs.L
 use Rattle.pk_nand.specs.BoardState.{BoardState}
 use Rattle.pk_model.specs.Spaces.{Terms, limits_at}
 use Rattle.pk_call.specs.Drive.{HoldsMap}
-use Rattle.pk_parts.{specs.Parts.Parts, specs.Parts.drive_limits, specs.Parts.sight_of, specs.Parts.frames_of, specs.Parts.terms_of, specs.Agreeing.DriveOnFlash, specs.Moves.StandsBetween}
+use Rattle.pk_parts.{specs.Parts.Parts, specs.Parts.drive_limits, specs.Parts.sight_of, specs.Parts.frames_of, specs.Agreeing.DriveOnFlash, specs.Moves.StandsBetween}
 use Rattle.pk_parts.{proofs.OwnLimits.limits_between, proofs.Standing.reads_between, proofs.Standing.stands_between}
 
 same_shape : (x y : Shape) → Some x ≡ Some y → x ≡ y
@@ -18,10 +18,6 @@ stands_for d board shape terms m agrees stands =
     let here : StandsBetween d shape board.pages agrees.all = subst (λ s. StandsBetween d s board.pages agrees.all) shapes
     (record { top = agrees.top; found = agrees.found; without = agrees.without; with = agrees.with; course = agrees.course }) in
     subst (λ x. StandsBetween d shape board.pages x) (ok_same agrees.all m (sym (reads_between d shape board.pages agrees.all here) ∙ stands.map_is)) here
-
--- and the other way round
-pub stands_so : (d : Parts) (board : BoardState) (shape : Shape) (m : Map) → board.shape ≡ Some shape → StandsBetween d shape board.pages m → HoldsMap shape (terms_of d) board (sight_of d) m
-stands_so d board shape m told is = record { shape_is = told; frames_is = refl; limits_is = limits_between d shape board.pages m is; map_is = reads_between d shape board.pages m is }
 
 pub stands_here : (d : Parts) (told : Option Shape) (flash : Flash) → DriveOnFlash d told flash → (m : Map) × StandsBetween d d.log.shape flash m
 stands_here d told flash agrees = (agrees.all, stands_between d told flash agrees)

@@ -13,7 +13,7 @@ use Rattle.pk_pool.{specs.declared.state.BlockState.BlockState, specs.Blocks.Blo
 use Rattle.pk_pool.specs.declared.state.BlockState.TheVariants.{Root as RootBlock, Free, Ready, Owned, Leaving}
 use Rattle.pk_pool.proofs.Sharing.{behind_roots}
 use Rattle.pk_nand.{specs.Operations.IsErasedBlock, specs.BoardState.BoardState, specs.Effects.OnlyFlash}
-use Rattle.pk_run.specs.Kept.{Kept, empty}
+use Rattle.pk_run.specs.Kept.{Kept}
 use Rattle.pk_jrn.proofs.Puts.{firsts-reverse}
 use Rattle.pk_model.{specs.Found.Found, specs.Values.all_pages}
 use Rattle.pk_call.{specs.Sight.Sight, specs.Sight.entries_of_runs, specs.Sight.most_work, specs.Sight.pages_of_each, specs.Exec.IsNextMerge}

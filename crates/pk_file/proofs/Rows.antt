@@ -1,14 +1,11 @@
 -- Rows of pages that become Erased.
 use Rattle.std.proofs.Common.{◌≡◌, ◌⊎◌, inl, inr, ℕ, suc, ◌+◌, ◌-◌, ◌*◌, ◌/◌, ◌<◌, ◌≤◌, List, [], length, length-set, slice_set, refl, sym, ap, subst, ◌∙◌, arith, zero-add, Option, Some, None}
 use Rattle.std.{proofs.Math.Nat.mul-le-mul_right, proofs.Math.Nat.suc-mul, proofs.Math.Nat.mul_comm, proofs.lemmas.Bool.Decides.eqb_tells, proofs.lemmas.Bool.cases_lt}
-use Rattle.pk_base.{specs.Shape.Shape, specs.Shape.IsShape, specs.Shape.page_count, specs.Page.Flash, specs.Page.page_at, specs.Page.erased, specs.Page.torn}
-use Rattle.pk_base.{specs.Mark.program, specs.Mark.erase, specs.Mark.after, specs.Mark.erased_from, proofs.BlockLemmas.in_block, proofs.BlockLemmas.of_block}
+use Rattle.pk_base.{specs.Shape.Shape, specs.Shape.IsShape, specs.Shape.page_count, specs.Page.Flash, specs.Page.page_at, specs.Page.erased}
+use Rattle.pk_base.{specs.Mark.erase, specs.Mark.after, specs.Mark.erased_from, proofs.BlockLemmas.in_block, proofs.BlockLemmas.of_block}
 use Rattle.pk_nand.{specs.BoardState.shape_or_none, specs.Calls.LeftBehind, specs.Cut.Interrupted, specs.Cut.MayLeave}
-use Rattle.pk_nand.proofs.Leaving.{page_at-slice_set, page_at-slice_set_same, set_leaves, same_pages, page_at-erased_from, page-erased_in, length-erased_from}
+use Rattle.pk_nand.proofs.Leaving.{page_at-slice_set, page_at-slice_set_same, same_pages, page_at-erased_from, page-erased_in, length-erased_from}
 use Rattle.pk_file.specs.Slots.{ErasedRow}
-
-pub row_none : (first : ℕ) (old : Flash) → ErasedRow first 0 old old
-row_none first old = record { same_size = refl; inside = λ k low high. absurd (omega (arith, low, high)); outside = λ k out. refl }
 
 -- the next page of the row
 pub row_more : (first i : ℕ) (old now : Flash) → first + i < length now → ErasedRow first i old now → ErasedRow first (i + 1) old (slice_set now (first + i) erased)
@@ -55,12 +52,6 @@ row_left shape block done old new few row = record { same_size = row.same_size; 
       ]
     ]
 
--- a program that was interrupted may leave its page Torn
-pub torn_left : (shape : Shape) (at : ℕ) (bytes : List ℕ) (old : Flash) → Interrupted shape (program at bytes) old (slice_set old at torn) []
-torn_left shape at bytes old = record {
-  same_size = length-set old at torn;
-  pages = λ k. elim (set_leaves old at k torn) [ inl same ↦ inl same | inr is ↦ inr (inl (is.0, inr is.1)) ];
-  posted = ([], refl);
 }
 
 -- ---- the board's shape, if there is one

@@ -1,7 +1,7 @@
 -- Slots as the pages of a flash.
 use Rattle.std.proofs.Common.{◌≡◌, ℕ, zero, suc, ◌+◌, ◌<◌, List, [], ◌∷◌, ◌++◌, length, take, drop, get_or, replicate, slice_set, refl, sym, ap, subst, ◌∙◌, arith, Option, Some, None, true, false}
 use Rattle.std.{specs.Prelude.nat_le, proofs.lemmas.Bool.Decides.nat_tests, proofs.lemmas.List.length-map, proofs.lemmas.List.drop_more, proofs.lemmas.List.take_more}
-use Rattle.pk_base.{specs.Shape.Shape, specs.Shape.page_count, specs.Page.Flash, specs.Page.page_at, specs.Page.erased, specs.Page.whole, specs.Page.torn, specs.Page.IsPage, specs.Page.IsFlash}
+use Rattle.pk_base.{specs.Shape.Shape, specs.Shape.page_count, specs.Page.Flash, specs.Page.page_at, specs.Page.erased, specs.Page.whole, specs.Page.IsFlash}
 use Rattle.pk_nand.specs.BoardState.{shape_or_none}
 use Rattle.pk_image.specs.Image.{bad_state}
 use Rattle.pk_file.{specs.declared.slot.Slot.Slot, specs.declared.slot.Slot.TheVariants.Erased, specs.declared.slot.Slot.TheVariants.Whole, specs.declared.slot.Slot.TheVariants.Torn}
@@ -23,22 +23,10 @@ states_next bytes i h small =
     let next : (32 + i) + 1 ≡ 32 + (i + 1) = omega arith in
     ap (λ (bs : List ℕ). bad_state (32 + i) bs) (drop_more bytes i 0 h) ∙ rw test (ap (λ (at : ℕ). bad_state at (drop (i + 1) bytes)) next)
 
--- the next byte is no state
-pub states_stop : (bytes : List ℕ) (i : ℕ) → i < length bytes → 2 < get_or bytes i 0 → bad_state (32 + i) (drop i bytes) ≡ Some (32 + i)
-states_stop bytes i h large =
-    let test : nat_le (get_or bytes i 0) 2 ≡ false = grind (arith, nat_tests) in
-    ap (λ (bs : List ℕ). bad_state (32 + i) bs) (drop_more bytes i 0 h) ∙ rw test refl
-
 -- ---- slots that are written and added
 
 pub erased_fits : (shape : Shape) (s : Slot) → slot_page s ≡ erased → SlotFits shape s
 erased_fits shape s is bytes e = cc
-
-pub torn_fits : (shape : Shape) (s : Slot) → slot_page s ≡ torn → SlotFits shape s
-torn_fits shape s is bytes e = cc
-
-pub whole_fits : (shape : Shape) (own bytes : List ℕ) → own ≡ bytes → IsPage shape bytes → (b : List ℕ) → whole own ≡ whole b → IsPage shape b
-whole_fits shape own bytes same page b e = let is : bytes ≡ b = cc in subst (IsPage shape) is page
 
 none_whole : (n k : ℕ) (bytes : List ℕ) → page_at (replicate n erased) k ≡ whole bytes → ⊥
 none_whole zero k bytes e = cc

@@ -136,26 +136,7 @@ module _ (shape : Shape) (most : ℕ) (m : Map) (c : Command) (alone : in_space 
   first_key : (k : Opcode) → NamesSpace k → op_of c.opcode ≡ Some k → early 1 shape c ≡ None → space_of (key c) ≡ 1
   first_key k names is passed = let spaced = key_spaced 1 shape c k names is passed in omega (arith, spaced.some, spaced.most)
 
-  alone_effect : (k : Opcode) → op_of c.opcode ≡ Some k → early 1 shape c ≡ None → in_space 1 (effect m c (Some k)) ≡ effect m c (Some k)
-  alone_effect Store is passed = in_space-insert 1 m (key c) (first_key Store (λ n k. refl) is passed) c.value ∙ ap (λ (n : Map). insert n (key c) c.value) alone
-  alone_effect Delete is passed = in_space-remove 1 m (key c) (first_key Delete (λ n k. refl) is passed) ∙ ap (λ (n : Map). remove n (key c)) alone
-  alone_effect Flush is passed = alone
-  alone_effect Retrieve is passed = alone
-  alone_effect ListKeys is passed = alone
-  alone_effect Exist is passed = alone
-  alone_effect Tick is passed = alone
-  alone_effect Report is passed = alone
-
   abbrev left_alone : Type 0
   left_alone = in_space 1 (map_after shape (most ∷ []) m c) ≡ map_after shape (most ∷ []) m c
 
-  alone_served : (o : Option Opcode) → op_of c.opcode ≡ o → early 1 shape c ≡ None → late_of shape (limit_of (most ∷ []) c.namespace) (in_space c.namespace m) c o ≡ None → left_alone
-  alone_served None is passed late = absurd (let clash : ◌≡◌ {A = Option ℕ} (Some 1) None = sym (ap (λ (o : Option Opcode). fault_of 1 shape c o) is) ∙ passed in cc)
-  alone_served (Some k) is passed late = subst (λ (n : Map). in_space 1 n ≡ n) (sym (serves shape (one_space 0 most) m [] c k is passed late).leaves) (alone_effect k is passed)
-
-  pub alone_left : left_alone
-  alone_left = elim (refused shape (most ∷ []) m c) as (λ r. refused shape (most ∷ []) m c ≡ r → left_alone) [
-    | Some status ↦ λ e. subst (λ (n : Map). in_space 1 n ≡ n) (sym (refuses_with shape (one_space 0 most) m [] c status e).leaves) alone
-    | None ↦ λ e.
-        let both = first_none (early 1 shape c) (late_of shape (limit_of (most ∷ []) c.namespace) (in_space c.namespace m) c (op_of c.opcode)) e in alone_served (op_of c.opcode) refl both.0 both.1
   ] refl

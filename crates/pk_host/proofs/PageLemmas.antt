@@ -204,9 +204,6 @@ pub record IsListing (start now : PortState) (all : List Key) : Type 0 where
   pub leaves : Leaves start now (λ m. m)
   pub listed_keys : (m : Map) → start.map ≡ Some m → all ++ above (key_or_none (slice_get all (length all - 1))) (keys m) ≡ above [] (keys m)
 
-pub listing_begins : (p : PortState) → IsListing p p []
-listing_begins p = record { leaves = λ m told. told; listed_keys = λ m told. refl }
-
 add_page : (m : Map) (all page : List Key) (from : Key) → page ≡ page_after from m → from ≡ key_or_none (slice_get all (length all - 1))
     → all ++ above from (keys m) ≡ above [] (keys m)
     → (all ++ page) ++ above (key_or_none (slice_get (all ++ page) (length (all ++ page) - 1))) (keys m) ≡ above [] (keys m)

@@ -3,10 +3,10 @@ use Rattle.std.proofs.Common.{◌≡◌, ◌≢◌, ◌⊎◌, inl, inr, ℕ, ze
 use Rattle.std.proofs.Common.{Some, Ok, zero-add, below_more, le_refl}
 use Rattle.std.{specs.Prelude.slice_index, specs.List.AllByRecursion, proofs.lemmas.Bool.cases_lt}
 use Rattle.pk_base.{specs.declared.entry.Entry.Entry as RustEntry, specs.Seen.entries as seen_all, specs.EntryChecks.IsEntry, specs.Entry.Entry}
-use Rattle.pk_base.specs.Shape.{Shape, IsShape, epoch_pages, epoch_commits, page_entries, page_count}
-use Rattle.pk_base.specs.Page.{Page, Flash, page_at, erased, whole, torn, page_in, page_of_pair, commit_page, commit_at, commits_of}
+use Rattle.pk_base.specs.Shape.{IsShape, epoch_pages, epoch_commits, page_entries}
+use Rattle.pk_base.specs.Page.{Page, Flash, page_at, erased, whole, page_in, page_of_pair, commit_page, commit_at, commits_of}
 use Rattle.pk_base.proofs.CommitPages.{second, only_commit}
-use Rattle.pk_nand.{specs.BoardState.BoardState, specs.Calls.IsReady, specs.Crash.Reached, specs.Crash.Went, specs.Pairs.HoldsAtMost, specs.Pairs.IsPairCut}
+use Rattle.pk_nand.{specs.BoardState.BoardState, specs.Crash.Reached, specs.Crash.Went, specs.Pairs.IsPairCut}
 use Rattle.pk_nand.proofs.Pairing.{outside_pair, pair_read, read_first}
 use Rattle.pk_jrnfmt.{specs.Page.journal_entries, specs.Epoch.journal, specs.Epoch.epoch, proofs.PageLemmas.journal_entries_again, proofs.PageLemmas.length-seen}
 use Rattle.pk_jrn.specs.Epochs.{JournalEpoch, EpochOnFlash, Reads, HasCommit, left_of, next_page, pages_of}

@@ -2,7 +2,7 @@
 use Rattle.std.proofs.Common.{◌≡◌, ℕ, zero, suc, ◌+◌, ◌*◌, ◌/◌, ◌%◌, ◌<◌, ◌≤◌, refl, sym, ap, subst, ◌∙◌, arith, Bool, true, false, List, [], ◌∷◌, ◌++◌, length, nat_le, Option, Some, None, Result, Ok}
 use Rattle.std.proofs.Common.{Err, add-zero, le_refl}
 use Rattle.std.{specs.Prelude.⊤, proofs.lemmas.Bool.Decides.nat_tests}
-use Rattle.pk_base.{specs.Shape.Shape, specs.Shape.IsShape, specs.Shape.buffer, specs.Shape.epoch_commits, specs.Entry.Entry, specs.Firsts.firsts, proofs.Logic.ok_same}
+use Rattle.pk_base.{specs.Shape.Shape, specs.Shape.IsShape, specs.Shape.epoch_commits, specs.Entry.Entry, proofs.Logic.ok_same}
 use Rattle.pk_base.specs.Page.{Page, Flash, page_at, erased, whole, torn, page_of_pair, commit_at, commits_of}
 use Rattle.pk_base.specs.Refusal.{Refusal, damaged, ◌>>=◌, ensure, some_or}
 use Rattle.pk_jrnfmt.{specs.Page.journal_entries, specs.Epoch.may_follow, specs.Epoch.journal, specs.Epoch.epoch}

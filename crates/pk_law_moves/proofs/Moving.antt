@@ -3,7 +3,7 @@ use Rattle.std.proofs.Common.{◌≡◌, inl, inr, ℕ, zero, suc, ◌+◌, ◌-
 use Rattle.std.proofs.Common.{false, cond, Ordering, drop, nat_le, nat_eq, ◌==◌, Some, Ok, le→leb, le_trans, append_assoc, append-nil, add-zero}
 use Rattle.std.{specs.List.list_any, specs.List.list_all, specs.List.starts_with, specs.List.AllByRecursion, specs.FinMap.Entries.put, specs.FinMap.Entries.find, specs.FinMap.Entries.is_sorted}
 use Rattle.std.{proofs.lemmas.Nat.div-mul-add, specs.Ordering.eq_by_cmp}
-use Rattle.pk_base.{specs.Key.Key, specs.Key.key_cmp, specs.Key.space_of, specs.Shape.Shape, specs.Shape.IsShape, specs.Shape.charge, specs.Shape.buffer, specs.Entry.Entry, specs.Entry.Place}
+use Rattle.pk_base.{specs.Key.Key, specs.Key.key_cmp, specs.Key.space_of, specs.Shape.Shape, specs.Shape.IsShape, specs.Shape.charge, specs.Entry.Entry, specs.Entry.Place}
 use Rattle.pk_base.{specs.Page.Page, specs.Page.Flash, specs.Page.page_at, specs.Page.erased, specs.Page.whole, specs.Page.torn, specs.Refusal.ensure, specs.Firsts.firsts}
 use Rattle.pk_base.{proofs.Logic.is_true, proofs.Logic.left_part, proofs.Logic.right_part, proofs.Logic.passed, proofs.Logic.both, proofs.KeyLemmas.firsts_sorted}
 use Rattle.pk_nand.{specs.Pairs.first_of_pair, proofs.Pairing.outside_pair}

@@ -4,7 +4,7 @@ use Rattle.std.specs.List.{concat}
 use Rattle.pk_base.{specs.Page.page_at, specs.Firsts.firsts}
 use Rattle.pk_rootfmt.specs.Root.{named, differ}
 use Rattle.pk_model.{specs.Tree.blocks_after, proofs.SamePages.any_front, proofs.SamePages.any_back, proofs.Roots.newest_sound, specs.RootLimits.root_limits}
-use Rattle.pk_model.proofs.Commits.{apart, rest_differs, differ_front, blocks_of_root, root_valid, values_apart, is_any_back}
+use Rattle.pk_model.proofs.Commits.{apart, differ_front, blocks_of_root, root_valid, values_apart, is_any_back}
 use Rattle.pk_law_steps.{specs.Under.IsValuePage, specs.Under.places, proofs.Untouched.values_under, proofs.Places.In, proofs.Places.in_append, proofs.Places.differ_back, proofs.Merging.in_set}
 use Rattle.pk_law_steps.{specs.Merging.Freed, specs.Merging.blocks_at, proofs.FourRuns.IsLevel, proofs.FourRuns.next_is_level, proofs.Following.merged_next}
 

@@ -4,7 +4,7 @@ use Rattle.std.{specs.declared.cmp.Ordering.TheVariants.Less, specs.declared.cmp
 use Rattle.std.specs.Ordering.{is_lt, is_eq, eq_by_cmp}
 use Rattle.std.specs.FinMap.{from_entries, get-from_entries, remove, get-remove, same_map}
 use Rattle.std.specs.FinMap.Entries.{put, find, is_sorted, below_all, by_order, where_key, find-where_key}
-use Rattle.pk_base.{specs.Key.Key, specs.Key.key_cmp, specs.Key.space_of, specs.Shape.Shape, specs.Shape.buffer, specs.Page.Page, specs.Page.page_at, specs.Entry.Entry, specs.Entry.Place}
+use Rattle.pk_base.{specs.Key.Key, specs.Key.key_cmp, specs.Shape.Shape, specs.Page.Page, specs.Page.page_at, specs.Entry.Entry, specs.Entry.Place}
 use Rattle.pk_base.{specs.Firsts.firsts, proofs.Logic.is_true, proofs.Logic.left_part, proofs.Logic.right_part, proofs.Logic.both, proofs.Logic.less, proofs.KeyLemmas.firsts_sorted}
 use Rattle.pk_rootfmt.specs.Root.{named}
 use Rattle.pk_model.{specs.RootLimits.root_limits, specs.RootLimits.root_spaces, specs.Found.entries_in_order, specs.Values.placed, specs.Values.values_of, proofs.RootLimits.in_spaces_last}

@@ -5,7 +5,7 @@ use Rattle.std.{specs.List.list_all, specs.List.starts_with, specs.List.concat, 
 use Rattle.pk_base.{specs.Key.Key, specs.Shape.Shape, specs.Shape.charge, specs.Shape.buffer, specs.Entry.Entry, specs.Entry.Place, specs.Firsts.firsts, specs.Map.Map}
 use Rattle.pk_base.{specs.Page.Page, specs.Page.Flash, specs.Page.page_at, specs.Page.erased, specs.Page.whole, specs.Page.torn, specs.Page.page_in, proofs.ShapeLemmas.block_pages_positive}
 use Rattle.pk_base.{specs.Refusal.Refusal, specs.Refusal.not_formatted, specs.Refusal.ensure, specs.Refusal.some_or, proofs.Logic.passed, proofs.Logic.left_part, proofs.Logic.right_part}
-use Rattle.pk_segfmt.specs.Value.{head_bytes, value_pages, value_page, value_from, value_at}
+use Rattle.pk_segfmt.specs.Value.{head_bytes, value_page, value_from, value_at}
 use Rattle.pk_rootfmt.{specs.Root.Root, specs.Root.named, specs.Newest.newest_root}
 use Rattle.pk_model.{specs.RootLimits.root_limits, specs.RootLimits.root_spaces, specs.Found.Found, specs.Found.found_under, specs.Found.entries_in_order, specs.Values.values_of}
 use Rattle.pk_model.{specs.Reading.reading_of, specs.Reading.map_under, specs.Reading.may_add, specs.Laws.AnyByRecursion, specs.Laws.IsPageOf, specs.Laws.IsRead, specs.Laws.IsWholePage}

@@ -340,11 +340,6 @@ lacks_some true false last level r le all is = elim (cases_lt last level) [
   ]
 ]
 
-pub lacks_told : (last : ℕ) (levels : Levels) (level : ℕ) → 1 ≤ level → lacks last level (run_of levels level) ≡ true → IsUnfilled last levels level
-lacks_told last levels level least is =
-    let told = lacks_some (nat_le level last) (is_pinned (run_of levels level)) last level (run_of levels level) refl refl is in
-    record { least = least; most = told.0; some = told.1 }
-
 lacks_none : (b c : Bool) (last level : ℕ) (r : Kept) → nat_le level last ≡ b → is_pinned r ≡ c → (b && not c) ≡ false → (if b then length r.firsts - length r.leases else 0) ≡ 0
 lacks_none false c last level r le all is = refl
 lacks_none true false last level r le all is = cc

@@ -235,9 +235,6 @@ pub Looking-end : (rs : List Kept) (arena : Frames) (key : Key) (old now : Board
     → (ess : List (List Entry)) → RunsOnFlash old.pages arena rs ess → find key_cmp key (all_entries ess) ≡ None
 Looking-end rs arena key old now i all at ess each = at.none ess each ∙ ap (find key_cmp key) (no_more old.pages arena rs ess i each all)
 
-pub reads_end : (rs : List Kept) (arena : Frames) (key : Key) (old now : BoardState) (i : ℕ) → Looking rs arena key old now i → ReadsUpTo (reads_through rs) old now
-reads_end rs arena key old now i at = let few = at.few in (at.made, omega (arith, few), at.board)
-
 pub looks_end : (rs : List Kept) (arena : Frames) (key : Key) (old now : BoardState) (i : ℕ) → length rs ≤ i → Looking rs arena key old now i
     → (ess : List (List Entry)) → RunsOnFlash old.pages arena rs ess → LooksFor key rs ess old now
 looks_end rs arena key old now i all at ess each = at.on ess each now (subst (λ (ks : List Kept). LooksFor key ks (drop i ess) now now) (sym (drop_all rs i all)) refl)

@@ -4,7 +4,7 @@ use Rattle.pk_base.{specs.Shape.Shape, specs.Shape.buffer, specs.Shape.epoch_pag
 use Rattle.pk_base.specs.Page.{Page, Flash, page_at, erased, whole, page_in, commit_page, commit_at}
 use Rattle.pk_base.{specs.Mark.program, specs.Mark.after, specs.Mark.all_posted, proofs.CommitPages.within, proofs.CommitPages.second, proofs.CommitPages.even_page}
 use Rattle.pk_nand.{specs.BoardState.BoardState, specs.Cut.Interrupted, specs.Pairs.programs_of_pair, specs.Pairs.IsPairCut, proofs.Leaving.page_at-slice_set, proofs.Leaving.page_at-slice_set_same}
-use Rattle.pk_nand.{specs.Calls.IsReady, specs.Calls.after_program, specs.Calls.after_programs, specs.Calls.ProgramFailed, specs.Calls.ProgramsFailed, proofs.Reaching.Reached-start}
+use Rattle.pk_nand.{specs.Calls.IsReady, specs.Calls.after_program, specs.Calls.after_programs, specs.Calls.ProgramsFailed, proofs.Reaching.Reached-start}
 use Rattle.pk_nand.proofs.Pairing.{IsPairCut-cut, IsPairCut-done, outside_pair}
 use Rattle.pk_jrnfmt.{specs.Page.journal_entries, specs.Epoch.epoch, specs.Epoch.may_follow}
 use Rattle.pk_rootfmt.{specs.Root.Root, specs.Newest.newest_root}
@@ -17,7 +17,7 @@ use Rattle.pk_model.proofs.Commits.{Blocks, valid_blocks, pair_behind_roots, roo
 use Rattle.pk_model.{proofs.Growing.at_end, proofs.Growing.top_limits, proofs.Growing.Reaches-then, proofs.Growing.Goes-then, proofs.Running.Reaches-program, proofs.Running.Goes-program}
 use Rattle.pk_model.specs.RootLimits.{root_spaces}
 use Rattle.pk_law_steps.{specs.Under.IsUnder, specs.Roots.committed, proofs.Committing.commits_pair, proofs.Committing.commit_done, proofs.NewestBlocks.valid_root, proofs.UnderRoot.newest_found}
-use Rattle.pk_log.{specs.State.LogState, specs.State.all_committed, specs.Logs.LogOnFlash, specs.Commits.CommitStands, specs.Commits.CommitCut, specs.Commits.CommitHolds, specs.Commits.CommitReaches}
+use Rattle.pk_log.{specs.State.LogState, specs.State.all_committed, specs.Logs.LogOnFlash, specs.Commits.CommitCut, specs.Commits.CommitHolds, specs.Commits.CommitReaches}
 use Rattle.pk_log.proofs.Standing.{blocks_are}
 
 -- ---- the programs
@@ -218,9 +218,6 @@ module _ (log : LogState) (board : BoardState) (none : log.pending ≡ []) where
   -- found is as before
   same_found : (found : Found) → found ≡ committed found log.pending
   same_found found = λ i. record found { newest = (sym (append-nil found.newest) ∙ ap (λ es. found.newest ++ es) (sym none)) i }
-
-  pub stands_none : CommitStands log board log board
-  stands_none top found logs = subst (λ f. LogOnFlash log board.pages top f) (same_found found) logs
 
   pub holds_none : CommitHolds log board board
   holds_none top found m0 m1 maps =

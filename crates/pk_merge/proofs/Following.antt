@@ -137,7 +137,3 @@ module _ (flash : Flash) (r : Kept) (c : Cursor) (is : IsShape r.shape) (f : Fol
 -- at the start it follows any run
 pub Follows-start : (flash : Flash) (r : Kept) (c : Cursor) → c.shape ≡ r.shape → Follows flash r (at_start c)
 Follows-start flash r c same = record { same_shape = same; within = omega arith; pages = omega arith; behind = omega arith; holds = λ e. absurd (omega (arith, e)) }
-
--- the page that it wants exists
-pub wanted_exists : (flash : Flash) (r : Kept) (c : Cursor) → IsShape r.shape → IsKept r → Follows flash r c → c.place < r.count → own_page c < length r.firsts
-wanted_exists flash r c is kept f inside = rw (same_page flash r c f) (page_exists r c.place is kept inside)

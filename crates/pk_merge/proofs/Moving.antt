@@ -108,11 +108,6 @@ module _ (pool : Blocks) (b : ℕ) (old new : Flash) (spare : IsSpare pool b) (s
   source_by_take (Frozen x) arena es has is of meta = tt
   source_by_take (Run r) arena es has is of meta = moves_by_take r.now arena es has (subst IsShape (sym of) is) (sym of) meta
 
--- one more block
-get_here : (xs : List ℕ) (b : ℕ) → slice_get (xs ++ b ∷ []) (length xs) ≡ Some b
-get_here [] b = refl
-get_here (x ∷ xs) b = get_here xs b
-
 pub from_more : (xs : List ℕ) (b i c : ℕ) → slice_get (xs ++ b ∷ []) i ≡ Some c → (slice_get xs i ≡ Some c) ⊎ ((i ≡ length xs) × (c ≡ b))
 from_more [] b zero c got = inr (refl, cc)
 from_more [] b (suc i) c got = cc

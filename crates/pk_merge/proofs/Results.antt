@@ -13,10 +13,6 @@ pub if_err : {X E : Type 0} (r : Result X E) (P Q : E → Type 0) → IfErr r P 
 if_err (Ok x) P Q h f = h
 if_err (Err e) P Q h f = f e h
 
-pub on_err : {X E : Type 0} (r : Result X E) (P Q : Type 0) → OnErr r P → (P → Q) → OnErr r Q
-on_err (Ok x) P Q h f = h
-on_err (Err e) P Q h f = f h
-
 -- what holds of a value that was answered, from two facts
 pub if_ok_also : {X E : Type 0} (r : Result X E) (P : Type 0) (Q R : X → Type 0) → OnOk r P → IfOk r Q → ((x : X) → P → Q x → R x) → IfOk r R
 if_ok_also (Ok x) P Q R h g f = f x h g

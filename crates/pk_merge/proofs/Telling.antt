@@ -52,9 +52,6 @@ wants false false false u v e room first some = absurd (some refl refl)
 is_below : (m n : ℕ) → m < n → nat_lt m n ≡ true
 is_below m n h = grind (arith, nat_tests)
 
-is_not_below : (m n : ℕ) → n ≤ m → nat_lt m n ≡ false
-is_not_below m n h = grind (arith, nat_tests)
-
 below_is : (m n : ℕ) → nat_lt m n ≡ true → m < n
 below_is m n h = grind (arith, nat_tests)
 

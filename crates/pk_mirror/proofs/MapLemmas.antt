@@ -147,6 +147,3 @@ len_of_part a b h = part_len (len b) a b refl h
 -- maps that have the same of every key are one
 pub same_by_keys : (a b : Map) → ((key : Key) → HaveSame a b key) → b ≡ a
 same_by_keys a b h = same_map key_total key_antisymm b a h
-
-pub part_of_all : (a b : Map) → ((key : Key) → NoOther a b key) → IsPart a b
-part_of_all a b h = h

@@ -3,21 +3,17 @@ use Rattle.std.proofs.Common.{◌≤◌, ◌≡◌, inl, inr, ℕ, ◌+◌, ◌�
 use Rattle.std.proofs.lemmas.List.{append_assoc}
 use Rattle.pk_base.{specs.Shape.Shape, specs.Shape.limit, specs.Map.Map}
 use Rattle.pk_nvme.{specs.Command.Command, specs.declared.opcode.TheConstants.STORE, specs.declared.opcode.TheConstants.DELETE}
-use Rattle.pk_host.{specs.Port.PortState, specs.Port.Took, specs.Calls.store_of, specs.Calls.delete_of, specs.Outcomes.AtMostOne, specs.Outcomes.TookSome}
-use Rattle.pk_host.specs.declared.types.StoreRule.TheVariants.{Any}
+use Rattle.pk_host.{specs.Port.PortState, specs.Port.Took, specs.Outcomes.TookSome}
 use Rattle.pk_words.specs.Lines.{status_line}
-use Rattle.pk_mirror.{specs.declared.error.Side.Side, specs.declared.error.Side.TheVariants.First, specs.declared.error.Side.TheVariants.Second, specs.declared.error.MirrorError.MirrorError}
+use Rattle.pk_mirror.{specs.declared.error.Side.TheVariants.First, specs.declared.error.Side.TheVariants.Second, specs.declared.error.MirrorError.MirrorError}
 use Rattle.pk_mirror.specs.declared.error.MirrorError.TheVariants.{Refused, Port, Split}
 use Rattle.pk_mirror.{specs.Pair.Mirrored, specs.Pair.IsPair, specs.Causes.OnlyAsks, specs.Causes.AreAsking, specs.Causes.IsCause, specs.Causes.IsReadError}
-use Rattle.pk_mirror.specs.Spending.{LooksOr, opcode_count, AreOfResync}
+use Rattle.pk_mirror.specs.Spending.{opcode_count, AreOfResync}
 use Rattle.pk_mirrorwords.specs.PairTasks.{PairTask, put, get, delete, list, resync, change_of, text_of, map_left}
-use Rattle.pk_mirrorwords.specs.PairAnswers.{IsToldPair, IsInStep, PairDone, PairSaid, PairFails, ResyncFails, AreChange, AreOfFirst, AreOfPair, HaveOneChange, AreOfSecond}
+use Rattle.pk_mirrorwords.specs.PairAnswers.{IsToldPair, IsInStep, PairDone, PairFails, ResyncFails, AreChange, AreOfFirst, AreOfPair, HaveOneChange, AreOfSecond}
 use Rattle.pk_mirrorwords.proofs.Paging.{unread_later, fault_later}
 
 -- ---- commands
-
-abbrev IsOfPair : Command → Type 0
-IsOfPair c = LooksOr DELETE c ⊎ (c.opcode ≡ STORE)
 
 pair_both : (cs ds : List Command) → AreOfPair cs → AreOfPair ds → AreOfPair (cs ++ ds)
 pair_both [] ds h g = g
@@ -50,14 +46,6 @@ asking_count (c ∷ cs) h =
 pub one_of_asking : (cs : List Command) → AreAsking cs → HaveOneChange cs
 one_of_asking cs h = let (none, only) = asking_count cs h in record { only = only; few = omega (arith, none) }
 
-pub one_of_store : (k : List ℕ) (value : List ℕ) (cs : List Command) → AtMostOne (store_of k value Any) cs → HaveOneChange cs
-one_of_store k value cs (inl none) = subst HaveOneChange (sym none) (record { only = tt; few = omega arith })
-one_of_store k value cs (inr one) = subst HaveOneChange (sym one) (record { only = (inr refl, tt); few = omega arith })
-
-pub one_of_delete : (k : List ℕ) (cs : List Command) → AtMostOne (delete_of k) cs → HaveOneChange cs
-one_of_delete k cs (inl none) = subst HaveOneChange (sym none) (record { only = tt; few = omega arith })
-one_of_delete k cs (inr one) = subst HaveOneChange (sym one) (record { only = (inl (inr refl), tt); few = omega arith })
-
 -- none at all
 no_change : (task : PairTask) → AreChange (change_of task) []
 no_change (put key value) = inl refl
@@ -73,10 +61,6 @@ append_none (c ∷ cs) = ap (λ (ds : List Command). c ∷ ds) (append_none cs)
 -- commands that only ask, of a word
 pub first_asks : (task : PairTask) (cs : List Command) → AreAsking cs → AreOfFirst task cs
 first_asks task cs h = record { asks = cs; change = []; asking = h; changing = no_change task; are = append_none cs }
-
--- the command that changes the maps alone
-pub first_change : (task : PairTask) (c : Command) (cs : List Command) → change_of task ≡ Some c → AtMostOne c cs → AreOfFirst task cs
-first_change task c cs is one = record { asks = []; change = cs; asking = tt; changing = subst (λ (o : Option Command). AreChange o cs) (sym is) one; are = refl }
 
 module _ {P : Type 0} (took : P → List Command → P → Type 0) (both : (p : P) (cs : List Command) (q : P) (ds : List Command) (r : P) → took p cs q → took q ds r → took p (cs ++ ds) r) where
   -- the resync asks, and then the word
@@ -150,14 +134,6 @@ resync_failed p p' q q' (Refused Second status) cause unread = (inr (cause.unrea
 resync_failed p p' q q' (Port First) cause unread = inl cause
 resync_failed p p' q q' (Port Second) cause unread = inr cause
 resync_failed p p' q q' Split cause unread = absurd cause
-
--- a refusal is said as it is
-pub said_refused : (asked : Type 0) (task : PairTask) (p p' q q' : PortState) (m : Map) (side : Side) (status : ℕ) (text : List ℕ)
-    → text ≡ status_line status → asked ⊎ ResyncFails p p' q q' (Err (Refused side status))
-    → PairFails task p p' q q' m (Refused side status) → PairSaid asked task p p' q q' m text
-said_refused asked task p p' q q' m side status text is (inr (unread, read)) fails = inr (unread, is ∙ ap status_line read)
-said_refused asked task p p' q q' m side status text is (inl some) (inl done) = inl (some, record { spelled = is ∙ done.spelled; first_left = done.first_left; second_left = done.second_left })
-said_refused asked task p p' q q' m side status text is (inl some) (inr (unread, read)) = inr (unread, is ∙ ap status_line read)
 
 -- a word that was done began after a resync
 pub asked_done : (asked : Type 0) → asked ⊎ ⊥ → asked

@@ -12,7 +12,7 @@ use Rattle.pk_host.{specs.declared.types.HostError.HostError, specs.Port.PortSta
 use Rattle.pk_host.specs.Outcomes.{Gives, TookSome, AtMostOne, list_of}
 use Rattle.pk_host.specs.Listing.{above, Pages, Follows, listed_by}
 use Rattle.pk_host.proofs.PageLemmas.{next_page, nothing_above, all_above_none}
-use Rattle.pk_words.{specs.Lines.key_line, specs.Lines.key_lines, proofs.LineLemmas.one_more}
+use Rattle.pk_words.{specs.Lines.key_line, specs.Lines.key_lines}
 use Rattle.pk_mirror.{specs.Ranks.IsText, specs.Ranks.keys_left, specs.declared.error.Side.Side, specs.declared.error.Side.TheVariants.First, specs.declared.error.Side.TheVariants.Second}
 use Rattle.pk_mirror.{specs.declared.error.MirrorError.MirrorError, specs.Pair.Mirrored, specs.Pair.IsPair, specs.Asks.Asks, specs.Asks.KeepsMaps, specs.Asks.StaysUnlessPort}
 use Rattle.pk_mirror.specs.declared.error.MirrorError.TheVariants.{Refused, Port, Split}
@@ -28,26 +28,7 @@ pub record AreAdded (page : List Key) (text initial : RoomyList) (i : ℕ) : Typ
   pub lines : text ≡ record initial { items = initial.items ++ key_lines (take i page) }
   pub most : length text.items ≤ length initial.items + 33 * i
 
-pub added_none : (page : List Key) (initial : RoomyList) → AreAdded page initial initial 0
-added_none page initial = record { lines = ap (λ (xs : List ℕ). record initial { items = xs }) (sym (append-nil initial.items)); most = omega arith }
-
-pub added_more : (page : List Key) (text next initial : RoomyList) (i : ℕ) (key : Key) → i < length page → AreAdded page text initial i → key ≡ slice_index_or page i []
-    → next ≡ record text { items = text.items ++ key_line key } → length next.items ≤ length text.items + 33 → AreAdded page next initial (i + 1)
-added_more page text next initial i key less h is added short = record {
-  lines =
-      added ∙ ap (λ (t : RoomyList). record t { items = t.items ++ key_line key }) h.lines
-      ∙ ap (λ (xs : List ℕ). record initial { items = xs }) (append_assoc initial.items (key_lines (take i page)) (key_line key))
-      ∙ ap (λ (k : Key). record initial { items = initial.items ++ (key_lines (take i page) ++ key_line k) }) is
-      ∙ ap (λ (xs : List ℕ). record initial { items = initial.items ++ xs }) (sym (one_more page i less));
-  most = omega (arith, h.most, short);
 }
-
-pub added_room : (page : List Key) (text initial : RoomyList) (i : ℕ) → i < length page
-    → length initial.items + 33 * length page ≤ initial.room → AreAdded page text initial i → length text.items + 33 ≤ text.room
-added_room page text initial i less room h = let same = ap (λ (t : RoomyList). t.room) h.lines in let most = h.most in omega (arith, less, room, same, most)
-
-pub added_all : (page : List Key) (text initial : RoomyList) (i : ℕ) → length page ≤ i → AreAdded page text initial i → text ≡ record initial { items = initial.items ++ key_lines page }
-added_all page text initial i all h = h.lines ∙ ap (λ (ks : List Key). record initial { items = initial.items ++ key_lines ks }) (take_all i page all)
 
 -- ---- how many keys there can be
 

@@ -156,24 +156,6 @@ module _ (shape : Shape) (terms : Terms) (most : ℕ) (m : Map) (alone : IsAlone
   reply_alone own Tick is e = refl
   reply_alone own Report is e = reply_first (first_only Report (λ n k. refl) is e) own Report
 
-  -- which status refuses it
-  pub refused_alone : refused shape terms.limits m c ≡ or_else (early 1 shape c) (late_of shape most m c (op_of c.opcode))
-  refused_alone =
-      elim (op_of c.opcode) as (λ o. op_of c.opcode ≡ o → or_else (early (length terms.limits) shape c) (late_of shape (limit_of terms.limits c.namespace) (in_space c.namespace m) c o)
-      ≡ or_else (early 1 shape c) (late_of shape most m c o)) [
-        | None ↦ λ is. ap (λ e. or_else e None) early_one
-        | Some k ↦ λ is.
-            elim (early (length terms.limits) shape c) as (λ e. early (length terms.limits) shape c ≡ e → or_else (early (length terms.limits) shape c)
-            (late_of shape (limit_of terms.limits c.namespace) (in_space c.namespace m) c (Some k)) ≡ or_else (early 1 shape c) (late_of shape most m c (Some k))) [
-              | None ↦ λ e. (λ i. or_else (early_one i) (late_alone k is e i))
-              | Some status ↦ λ e. ap (λ o. or_else o (late_of shape (limit_of terms.limits c.namespace) (in_space c.namespace m) c (Some k))) e
-                  ∙ ap (λ o. or_else o (late_of shape most m c (Some k))) (sym e ∙ early_one)
-            ] refl
-      ] refl
-    where
-      early_one : early (length terms.limits) shape c ≡ early 1 shape c
-      early_one = ap (λ (limits : List ℕ). early (length limits) shape c) alone.one
-
   -- its reply, and the map that it leaves
   pub record ServesAlone (own : List ℕ) (k : Opcode) : Type 0 where
     pub replied : reply shape terms m own c ≡ reply_of shape most terms.frames m own c (Some k)

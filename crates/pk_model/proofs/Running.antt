@@ -6,7 +6,7 @@ use Rattle.pk_nand.{specs.Calls.longer, specs.Calls.LeftBy, specs.Calls.after_pr
 use Rattle.pk_nand.proofs.CutLemmas.{interrupted_none}
 use Rattle.pk_nand.proofs.Reaching.{Reached-start, Reached-erase, Reached-program, Went-reached, silent_cuts, longer-nil}
 use Rattle.pk_model.{specs.Spaces.limits_at, specs.Growth.Grows, specs.Growth.KeepsLimits, specs.Growth.Reaches, specs.Growth.Goes, specs.Crashes.CrashFinds, specs.Crashes.background}
-use Rattle.pk_model.proofs.Growing.{at_end, Reaches-then, Goes-then}
+use Rattle.pk_model.proofs.Growing.{at_end}
 
 module _ (shape : Shape) (old : BoardState) (P : Flash → List ℕ → Type 0) (has : old.shape ≡ Some shape) where
   is_shape_of : shape_of old ≡ shape
@@ -82,9 +82,3 @@ module _ (shape : Shape) (m : Map) (a b c : BoardState) (has : a.shape ≡ Some 
 
   behind : (f : Flash) (q : List ℕ) → CrashFinds shape background a.pages m f q → CrashFinds shape background a.pages m f (all_posted begun.0 ++ q)
   behind f q holds = (ap (λ t. t ++ q) nothing_posted ∙ holds.0, holds.1)
-
-  pub run_then : Reaches shape b c (CrashFinds shape background b.pages m) → Reaches shape a c (CrashFinds shape background a.pages m)
-  run_then more = Reaches-then shape begun.0 a b (CrashFinds shape background a.pages m) has begun.1 begun.2 c (CrashFinds shape background a.pages m) behind more
-
-  pub go_then : Goes shape b c (CrashFinds shape background b.pages m) → Goes shape a c (CrashFinds shape background a.pages m)
-  go_then more = Goes-then shape begun.0 a b (CrashFinds shape background a.pages m) has begun.1 begun.2 c (CrashFinds shape background a.pages m) behind more

@@ -80,8 +80,3 @@ module _ (space : ℕ) (m : Map) (k : Key) (other : (space_of k == space) ≡ fa
   in_space-insert-other v = by_keys _ _ (λ q.
       get_in_space space (insert m k v) q ∙ ap (λ x. cond (space_of q == space) x None) (get-insert key_total m k v q)
       ∙ put_other (space_of q == space) (eq_by_cmp key_cmp q k) (Some v) (get m q) (tied_other q) ∙ sym (get_in_space space m q))
-
-  pub in_space-remove-other : in_space space (remove m k) ≡ in_space space m
-  in_space-remove-other = by_keys _ _ (λ q.
-      get_in_space space (remove m k) q ∙ ap (λ x. cond (space_of q == space) x None) (get-remove key_total m k q)
-      ∙ put_other (space_of q == space) (eq_by_cmp key_cmp q k) None (get m q) (tied_other q) ∙ sym (get_in_space space m q))

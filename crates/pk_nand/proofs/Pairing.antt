@@ -2,11 +2,11 @@
 use Rattle.std.proofs.Common.{◌≡◌, ◌⊎◌, ◌<◌, ◌≤◌, inl, inr, ℕ, zero, suc, ◌+◌, ◌-◌, ◌*◌, ◌/◌, ◌%◌, mod-lt, div-add-mod', refl, sym, ap, subst, ◌∙◌, arith, List, [], ◌∷◌, ◌++◌, length}
 use Rattle.std.{proofs.Math.Nat.mod-zero, proofs.lemmas.Nat.div-mul-add, proofs.lemmas.Bool.cases_lt}
 use Rattle.pk_base.{specs.Shape.Shape, specs.Page.Page, specs.Page.Flash, specs.Page.page_at, specs.Page.erased, specs.Page.whole, specs.Page.torn, specs.Page.page_of_pair}
-use Rattle.pk_base.specs.Mark.{Mark, program, after, after_all}
+use Rattle.pk_base.specs.Mark.{program, after}
 use Rattle.pk_nand.{specs.BoardState.BoardState, specs.BoardState.shape_of, specs.Cut.Cut, specs.Cut.MayLeave, specs.Cut.Interrupted, specs.Calls.after_program, specs.Calls.ProgramFailed}
-use Rattle.pk_nand.{specs.Crash.SameOutside, specs.Crash.ReachedBy, specs.Crash.Reached, specs.Crash.WentBy, specs.Crash.Went, proofs.Leaving.interrupted_done, proofs.Writing.SameOutside-cut}
+use Rattle.pk_nand.{specs.Crash.SameOutside, specs.Crash.ReachedBy, specs.Crash.Went, proofs.Leaving.interrupted_done, proofs.Writing.SameOutside-cut}
 use Rattle.pk_nand.specs.Pairs.{first_of_pair, HoldsAtMost, IsPairCut, marks_of_pair}
-use Rattle.pk_nand.proofs.Reaching.{Reached-program, Reached-then, Went-program_failed, Went-then}
+use Rattle.pk_nand.proofs.Reaching.{Reached-program, Went-program_failed}
 
 -- ---- where a pair lies
 

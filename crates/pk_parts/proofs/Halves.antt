@@ -149,9 +149,3 @@ half_in Idle x flash top found m moves epoch = epoch
 half_in (Copies c) x flash top found m moves epoch = epoch
 half_in (Commits victim) x flash top found m moves epoch = absurd (true_false moves)
 half_in (GivesBack victim) x flash top found m moves epoch = epoch
-
-pub half_out : (p : Phase) (x : ReclaimParts) (flash : Flash) (top : ℕ × Root) (found : Found) (m : Map) → commits_in p ≡ false → HalfIn p x flash top found m → x.log.epoch.half ≡ false
-half_out Idle x flash top found m moves is = is
-half_out (Copies c) x flash top found m moves is = is
-half_out (Commits victim) x flash top found m moves is = absurd (true_false moves)
-half_out (GivesBack victim) x flash top found m moves is = is

@@ -10,7 +10,7 @@ use Rattle.pk_space.specs.Uses.{Use, space_live, space_keys}
 use Rattle.pk_model.{specs.Found.Found, specs.Growth.Reaches, specs.RootLimits.root_limits, specs.Spaces.limit_of, specs.Spaces.limits_at, proofs.Commits.root_valid, proofs.Growing.reached_limits}
 use Rattle.pk_model.{proofs.RootLimits.limits_under, proofs.Roots.newest_sound}
 use Rattle.pk_call.specs.Sight.{InSpace, in_space_at, live_of_all}
-use Rattle.pk_parts.{specs.Parts.Parts, specs.Parts.drive_limits, specs.Parts.reported_from, specs.Parts.spaces_of, specs.Parts.settled_parts, specs.Moves.StandsFor, specs.Moves.StandsBetween}
+use Rattle.pk_parts.{specs.Parts.Parts, specs.Parts.drive_limits, specs.Parts.reported_from, specs.Parts.spaces_of, specs.Parts.settled_parts, specs.Moves.StandsBetween}
 use Rattle.pk_parts.specs.Agreeing.{DriveOnFlashWith, DriveOnFlash}
 
 -- ---- the limits on the flash
@@ -22,9 +22,6 @@ limits_with d shape flash top found without all a =
 
 pub limits_between : (d : Parts) (shape : Shape) (flash : Flash) (m : Map) → StandsBetween d shape flash m → limits_at shape flash ≡ drive_limits d
 limits_between d shape flash m s = limits_with (settled_parts d) shape flash s.top s.found s.without m s.with
-
-pub limits_for : (d : Parts) (shape : Shape) (flash : Flash) (m : Map) → StandsFor d shape flash m → limits_at shape flash ≡ drive_limits d
-limits_for d shape flash m s = limits_with d shape flash s.top s.found s.without m s.with
 
 pub limits_on : (d : Parts) (told : Option Shape) (flash : Flash) (a : DriveOnFlash d told flash) → limits_at d.log.shape flash ≡ drive_limits d
 limits_on d told flash a = ap (λ (s : Shape). limits_at s flash) a.with.shape_is ∙ limits_with (settled_parts d) a.shape flash a.top a.found a.without a.all a.with

@@ -118,15 +118,3 @@ had n h = omega arith
 -- a frame that is filled has its bytes
 pub frame_filled : (a : Frames) (l : ℕ) (bytes : List ℕ) → l < length a.frames → frame_of (filled a l bytes) l ≡ bytes
 frame_filled a l bytes h = get_or-set_same a.frames l bytes [] h
-
--- and all others have what they had
-pub frames_kept : (a : Frames) (l : ℕ) (bytes : List ℕ) (ls : List ℕ) → times l ls ≡ 0 → map (frame_of (filled a l bytes)) ls ≡ map (frame_of a) ls
-frames_kept a l bytes [] h = refl
-frames_kept a l bytes (k ∷ ks) h =
-    elim (cases_eq l k) [
-      | inl e ↦ absurd (had (times k ks) (sym (times-cons_same k ks) ∙ ap (λ j. times j (k ∷ ks)) (sym e) ∙ h))
-      | inr ne ↦
-          let first : frame_of (filled a l bytes) k ≡ frame_of a k = get_or-set_other a.frames l k bytes [] (λ e. ne (sym e)) in
-          let rest = frames_kept a l bytes ks (sym (times-cons_other l k ks ne) ∙ h) in
-          λ i. first i ∷ rest i
-    ]

@@ -4,7 +4,7 @@ use Rattle.std.{specs.Prelude.count_by, specs.Prelude.slice_get, specs.Prelude.n
 use Rattle.std.proofs.lemmas.List.Sums.{sum_by-cons}
 use Rattle.pk_base.{specs.Shape.Shape, specs.Page.Flash}
 use Rattle.pk_plan.specs.declared.owner.Owner.{Owner}
-use Rattle.pk_pool.{specs.declared.state.BlockState.BlockState, proofs.States.owned_is_not_root, proofs.States.leaving_is_not_root, proofs.Sharing.count-set, proofs.Sharing.shared_set}
+use Rattle.pk_pool.{specs.declared.state.BlockState.BlockState, proofs.Sharing.count-set}
 use Rattle.pk_pool.specs.declared.state.BlockState.TheVariants.{Root, Free, Ready, Owned, Leaving}
 use Rattle.pk_pool.specs.Blocks.{Blocks, is_root, is_ready, is_owned_by, used_by, with_state, given_back, freed_state, freed, IsShared, IsSpare, IsLeaving, NoneLeaves, PoolOnFlash}
 use Rattle.pk_pool.specs.Leaving.{LeftAndFreed, FreedWith, FreedSame, SpareFreed, LeavingFreed, OwnedFreed, LeftUnready, FreedUnready}
@@ -13,10 +13,6 @@ use Rattle.pk_pool.specs.Leaving.{LeftAndFreed, FreedWith, FreedSame, SpareFreed
 
 pub used_left : (states : List BlockState) (b : ℕ) (o p : Owner) → slice_get states b ≡ Some (Owned o) → used_by p (set states b (Leaving o)) ≡ used_by p states
 used_left states b o p h = omega (arith, count-set (is_owned_by p) states b (Owned o) (Leaving o) h)
-
-pub shared_left : (shape : Shape) (states : List BlockState) (b : ℕ) (o : Owner) → slice_get states b ≡ Some (Owned o) → IsShared shape states → IsShared shape (set states b (Leaving o))
-shared_left shape states b o h i =
-    shared_set shape states b (Owned o) (Leaving o) owned_is_not_root leaving_is_not_root h i (λ p. omega (arith, used_left states b o p h, i.within p))
 
 pub left_unready : LeftUnready
 left_unready states b o p is = omega (arith, count-set (λ s. not (is_ready s)) states b (Owned o) (Leaving p) is)
@@ -124,13 +120,6 @@ freed_set p b s = ap (λ states. record { shape = p.shape; states = states }) (m
 pub left_and_freed : LeftAndFreed
 left_and_freed o p [] = refl
 left_and_freed o p (b ∷ bs) = left_and_freed o (with_state p b (Leaving o)) bs ∙ ap (λ q. given_back q bs) (freed_set p b (Leaving o))
-
-pub freed_given : (p : Blocks) (bs : List ℕ) → freed (given_back p bs) ≡ given_back (freed p) bs
-freed_given p [] = refl
-freed_given p (b ∷ bs) = freed_given (with_state p b Free) bs ∙ ap (λ q. given_back q bs) (freed_set p b Free)
-
-pub freed_again : (p : Blocks) → freed (freed p) ≡ freed p
-freed_again p = freed_same (freed p) (none_leaves p)
 
 spare_then : (p : Blocks) (b : ℕ) → IsSpare p b → IsSpare (freed p) b
 spare_then p b (inl free) = inl (state_after p.states b Free free)

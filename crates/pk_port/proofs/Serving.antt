@@ -5,7 +5,7 @@ use Rattle.pk_base.{specs.Shape.Shape, specs.Page.Flash, specs.Entry.Entry, spec
 use Rattle.pk_nvme.{specs.Command.Command, specs.Reply.Reply}
 use Rattle.pk_nand.{specs.BoardState.BoardState, specs.BoardState.shape_of, specs.BoardState.shape_or_none, specs.Calls.Rose, specs.Effects.OnlyFlash, specs.Effects.OnlyReading}
 use Rattle.pk_call.{specs.Calling.only_looks, specs.Drive.HoldsMap, specs.Sight.Sight, specs.Exec.most_installs, specs.Exec.IsValue, specs.Meter.reads_after}
-use Rattle.pk_model.{specs.Answer.map_after, specs.Reading.reading, specs.Reading.Holds, specs.Spaces.Terms, specs.Spaces.limits_at, specs.Spaces.limit_of, specs.Spaces.in_space}
+use Rattle.pk_model.{specs.Reading.reading, specs.Reading.Holds, specs.Spaces.Terms, specs.Spaces.limits_at, specs.Spaces.limit_of, specs.Spaces.in_space}
 use Rattle.pk_model.{specs.Wear.root_number, specs.Wear.roots, specs.Wear.is_worn, proofs.Growing.went_limits}
 use Rattle.pk_serve.{specs.Port.StepCut, specs.Port.Submitted, specs.Port.Submits, specs.Port.SubmitStops, proofs.Limiting.limits_some, proofs.Limiting.limits_held}
 use Rattle.pk_host.{specs.Good.IsGoodMap, specs.Good.IsHanded, specs.Port.IsWithin, specs.Port.PortSteps, specs.Port.Replies, specs.Port.room_of, proofs.LeftLemmas.good_left}

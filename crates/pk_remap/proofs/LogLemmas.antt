@@ -30,10 +30,6 @@ pub told_some : (room : ℕ) (marks : List Mark) (mark : Mark) → 0 < room → 
 told_some zero marks mark some = absurd (omega (arith, some))
 told_some (suc room) marks mark some = refl
 
-pub told_none : (room : ℕ) (marks : List Mark) (mark : Mark) → room ≤ 0 → told_of room marks ≡ longer (told_of room marks) (mark ∷ [])
-told_none zero marks mark none = refl
-told_none (suc room) marks mark none = absurd (omega (arith, none))
-
 -- n marks have room for the bytes
 pub marks_hold : (p len : ℕ) → 1 ≤ p → len ≤ marks_for p len * p
 marks_hold p len some =

@@ -435,19 +435,6 @@ module _ (r : InMemory) (old : BoardState) (rest : IsAtRest r old) where
       board = inr is;
     }
 
-  pub kept_failed : (page : ℕ) (e : NandFault) (partner : Vec ℕ Global) (new : BoardState) → MOST_PAGE_BYTES ≤ length partner.items
-      → ReadFailed old new (placed_page r.shape (relocation_of r).table (page - 1))
-      → PartnerOutcome r page old (Err e) (record r { kept = false; partner = partner }) new
-  kept_failed page e partner new large failed = (
-    failed,
-    record {
-      shape = refl;
-      spares = refl;
-      taken = omega arith;
-      most = rest.taken;
-      room = record { fits = rest.room.fits; all = rest.room.all; kept_page = large; new_page = rest.room.new_page; read_page = rest.room.read_page };
-    },
-    refl,
   )
 
 -- ---- the search for the newest table
@@ -601,9 +588,6 @@ module _ (r : InMemory) (old : BoardState) (rest : IsAtRest r old) (mark : Mark)
 module _ (r : InMemory) (page : ℕ) (old : BoardState) (r1 : InMemory) (mid : BoardState) (kept : PartnerKept r page old r1 mid) where
   pub same_shape : r1.shape ≡ r.shape
   same_shape = ap (λ (x : InMemory). x.shape) kept.others
-
-  pub same_outer : outer_of r1 mid.pages ≡ outer_of r old.pages
-  same_outer = ap (λ (x : InMemory). outer_of x mid.pages) kept.others ∙ ap (outer_of r) (only_read old mid kept.board).0.pages
 
   pub kept_outcome : IsAtRest r old → (mark : Mark) (result : Result Unit NandFault) (r' : InMemory) (new : BoardState)
       → OuterOutcome r1 mark mid result r' new → OuterOutcome r mark old result r' new

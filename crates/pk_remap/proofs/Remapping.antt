@@ -401,9 +401,6 @@ log_sized image image' shape shape' log log' has_open has_open' same sized has =
 
 -- ---- reads
 
-pub reading_none : (old : BoardState) → OnlyReading old old
-reading_none old = refl
-
 pub reading_then : (a b c : BoardState) → OnlyReading a b → OnlyReading b c → OnlyReading a c
 reading_then a b c one two = let T : BoardState → Type 0 = λ s. c ≡ record s { reads = c.reads; flash_faults = c.flash_faults; read_faults = c.read_faults; failed_at = c.failed_at } in subst T one two
 

@@ -9,7 +9,7 @@ use Rattle.pk_base.specs.declared.sizes.TheConstants.{MOST_SPACES}
 use Rattle.pk_meta.{specs.PageChecks.IsMetaPage, specs.PageChecks.IsEntryOf, specs.PageChecks.Decodes, proofs.Reading.meta_held}
 use Rattle.pk_nand.{specs.BoardState.BoardState, specs.Calls.IsReady, specs.Operations.after_read}
 use Rattle.pk_pin.specs.Frames.{Frames, frame_of}
-use Rattle.pk_run.{specs.Kept.Kept, specs.Kept.IsKept, specs.Kept.IsPinned, specs.Kept.RunOnFlash, specs.Kept.page_of, specs.Kept.after_look, proofs.Pieces.pieces, proofs.Pieces.share}
+use Rattle.pk_run.{specs.Kept.Kept, specs.Kept.IsKept, specs.Kept.RunOnFlash, specs.Kept.page_of, proofs.Pieces.pieces, proofs.Pieces.share}
 use Rattle.pk_run.specs.Search.{IsFound, IsBeforeAll, IsPageFor}
 use Rattle.pk_run.proofs.Orders.{find_piece, find_nowhere, absent, present, sorted_drop, sorted_take}
 
@@ -124,18 +124,6 @@ pub frame_page : (r : Kept) (flash : Flash) (arena : Frames) (es : List Entry) (
     → RunOnFlash r flash arena es → (p lease : ℕ) → slice_get r.leases p ≡ Some lease → bytes ≡ frame_of arena lease
     → page_at flash (page_of r p) ≡ whole bytes
 frame_page r flash arena es bytes s p lease got is = (s.frames p lease got).bytes ∙ ap (λ (xs : List ℕ). whole xs) (sym is)
-
--- if a page has a frame, nothing is read
-pub look_pinned : (leases : List ℕ) (board : BoardState) (p lease : ℕ) → slice_get leases p ≡ Some lease → after_look (slice_get leases p) board ≡ board
-look_pinned leases board p lease got = ap (λ (o : Option ℕ). after_look o board) got
-
--- and if it has none, it is read
-pub look_unpinned : (leases : List ℕ) (board : BoardState) (p : ℕ) → length leases ≤ p → after_look (slice_get leases p) board ≡ after_read board
-look_unpinned leases board p past = ap (λ (o : Option ℕ). after_look o board) (slice_get_past leases p past)
-
--- if a page of a run has no frame, not all have one
-pub not_pinned : (r : Kept) (p : ℕ) → p < length r.firsts → length r.leases ≤ p → IsPinned r → ⊥
-not_pinned r p exists past all = omega (arith, exists, past, all)
 
 -- ---- boards
 

@@ -86,16 +86,6 @@ Checking-refused old now new shape key place i Fault less c refused =
       later = λ q e. refused_behind shape old.pages key place i q (omega arith) c.right e;
     }
 
--- the pages are unchanged
-pub refused_pages : (old new : BoardState) (shape : Shape) (key : Key) (place : Place) (e : PageError) → NotFound shape old new key place e → (new.pages ≡ old.pages) × (new.shape ≡ old.shape)
-refused_pages old new shape key place (Damaged page) refused = (ap (λ (b : BoardState). b.pages) refused.board, ap (λ (b : BoardState). b.shape) refused.board)
-refused_pages old new shape key place Fault refused = (ap (λ (b : BoardState). b.pages) refused.reads.failed.rest, ap (λ (b : BoardState). b.shape) refused.reads.failed.rest)
-
-pub refused_ready : (old new : BoardState) (shape : Shape) (key : Key) (place : Place) (e : PageError) → NotFound shape old new key place e → IsReady old shape → IsReady new shape
-refused_ready old new shape key place e not_found ready =
-    let same = refused_pages old new shape key place e not_found in
-    record { shape_is = same.1 ∙ ready.shape_is; flash = rw same.0 ready.flash }
-
 pub refused_rest : (old new : BoardState) (shape : Shape) (key : Key) (place : Place) (e : PageError) → NotFound shape old new key place e → OnlyReading old new
 refused_rest old new shape key place (Damaged page) refused = rest_reads old new (suc (page - place.page), refused.board)
 refused_rest old new shape key place Fault refused = rest_failed old new refused.reads.made (place.page + refused.reads.made) refused.reads.failed

@@ -136,7 +136,3 @@ module _ (shape : Shape) (flash : Flash) (root : Root) where
         (used, ap (λ (b : List ℕ). found_at_opening shape root.epoch b used) same, subst (λ (b : List ℕ). used < epoch_commits shape → HasCommit shape flash b used → ⊥) same r.ends),
         fits,
       )
-
-  pub newest_refused : (bs : List ℕ) (page : ℕ) → length root.newest ≡ 2 → bs ≡ two_of root.newest
-      → epoch shape (root_spaces shape root) at root.epoch bs ≡ Err (damaged page) → epoch shape (root_spaces shape root) at root.epoch root.newest ≡ Err (damaged page)
-  newest_refused bs page two is read = sym (ap (epoch shape (root_spaces shape root) at root.epoch) (is ∙ two_is root.newest two)) ∙ read

@@ -300,16 +300,6 @@ module _ (shape : Shape) (spaces level count : ℕ) (blocks : List ℕ) (pins : 
   pub stays_not_read : (new : BoardState) (e : PageError) → NotRead shape spaces level count blocks old new e → IsReady old shape → StaysReady shape old new
   stays_not_read new e not_read ready = stays_ready_behind shape old new (rest_not_read shape spaces level count blocks old new e not_read) ready
 
-  -- the pages are unchanged
-  pub not_read_pages : (new : BoardState) (e : PageError) → NotRead shape spaces level count blocks old new e → (new.pages ≡ old.pages) × (new.shape ≡ old.shape)
-  not_read_pages new (Damaged page) refused = (ap (λ (b : BoardState). b.pages) refused.board, ap (λ (b : BoardState). b.shape) refused.board)
-  not_read_pages new Fault refused = (ap (λ (b : BoardState). b.pages) refused.failed.rest, ap (λ (b : BoardState). b.shape) refused.failed.rest)
-
-  pub not_read_ready : (new : BoardState) (e : PageError) → NotRead shape spaces level count blocks old new e → IsReady old shape → IsReady new shape
-  not_read_ready new e not_read ready =
-      let same = not_read_pages new e not_read in
-      record { shape_is = same.1 ∙ ready.shape_is; flash = rw same.0 ready.flash }
-
 -- ---- the blocks of a run
 
 pub take_more : {X : Type 0} (xs : List X) (i : ℕ) (x : X) → slice_get xs i ≡ Some x → take (i + 1) xs ≡ take i xs ++ x ∷ []

@@ -6,7 +6,7 @@ use Rattle.pk_base.{specs.Key.Key, specs.Key.key_cmp, specs.Shape.Shape, specs.E
 use Rattle.pk_base.specs.Page.{Page, erased, whole, torn, NumberedPages}
 use Rattle.pk_meta.{specs.Page.meta_entries, specs.Run.meta, specs.Run.may_hold}
 use Rattle.pk_run.proofs.Pieces.{share}
-use Rattle.pk_scan.specs.Runs.{IsLast, are_put, RunGoesOn}
+use Rattle.pk_scan.specs.Runs.{IsLast, RunGoesOn}
 
 -- no entries of the page follow those before: it refuses
 pub meta_refused : (shape : Shape) (spaces level count index : ℕ) (before : List Entry) (p : ℕ) (page : Page) (pages : NumberedPages)

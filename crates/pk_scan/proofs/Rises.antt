@@ -14,17 +14,9 @@ below_both : (key : Key) (xs ys : List Entry) → T (below_all key_cmp key xs) �
 below_both key [] ys p q = q
 below_both key (x ∷ xs) ys p q = both _ _ (left_part _ _ p) (below_both key xs ys (right_part _ _ p) q)
 
-below_front : (key : Key) (xs ys : List Entry) → T (below_all key_cmp key (xs ++ ys)) → T (below_all key_cmp key xs)
-below_front key [] ys p = tt
-below_front key (x ∷ xs) ys p = both _ _ (left_part _ _ p) (below_front key xs ys (right_part _ _ p))
-
 below_back : (key : Key) (xs ys : List Entry) → T (below_all key_cmp key (xs ++ ys)) → T (below_all key_cmp key ys)
 below_back key [] ys p = p
 below_back key (x ∷ xs) ys p = below_back key xs ys (right_part _ _ p)
-
-pub sorted_back : (xs ys : List Entry) → T (is_sorted key_cmp (xs ++ ys)) → T (is_sorted key_cmp ys)
-sorted_back [] ys p = p
-sorted_back (x ∷ xs) ys p = sorted_back xs ys (right_part _ _ p)
 
 -- the last entry is below the next
 pub rises_behind : (front : List Entry) (last next : Entry) (more : List Entry) → T (is_sorted key_cmp (front ++ last ∷ []))

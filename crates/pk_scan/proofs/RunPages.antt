@@ -5,7 +5,7 @@ use Rattle.std.{specs.Prelude.slice_get, specs.Ordering.is_lt, specs.FinMap.Entr
 use Rattle.pk_base.{specs.Key.Key, specs.Key.key_cmp, specs.Shape.Shape, specs.Entry.Entry, specs.Entry.key_of, proofs.Logic.of_true}
 use Rattle.pk_meta.{specs.Page.meta_entries, specs.PageChecks.IsMetaPage, specs.declared.MetaHead.MetaHead, specs.declared.BadMeta.BadMeta, proofs.Reading.meta_held, proofs.Reading.sorted_true}
 use Rattle.pk_meta.specs.Run.{may_hold}
-use Rattle.pk_scan.{specs.Runs.IsLast, specs.Runs.is_behind, specs.Runs.are_put, specs.Runs.GoesOnOr, proofs.Rises.rises_behind, proofs.Rises.lies_behind}
+use Rattle.pk_scan.{specs.Runs.IsLast, specs.Runs.is_behind, specs.Runs.GoesOnOr, proofs.Rises.rises_behind, proofs.Rises.lies_behind}
 
 -- ---- each entry passes a test
 
@@ -22,9 +22,6 @@ module _ (p : Entry → Bool) where
           rest true b c on e = on e
           rest false b c on e = e
 
-  pub all_end : (es : List Entry) (i : ℕ) → length es ≤ i → list_all p (take i es) ≡ true → true ≡ list_all p es
-  all_end es i all passes = sym passes ∙ ap (list_all p) (take_all i es all)
-
   pub all_not : (es : List Entry) (i : ℕ) (e : Entry) → slice_get es i ≡ Some e → p e ≡ false → false ≡ list_all p es
   all_not [] i e got fails = cc
   all_not (x ∷ es) zero e got fails = let same : e ≡ x = cc in sym (ap (λ b. b && list_all p es) (subst (λ (y : Entry). p y ≡ false) same fails))
@@ -40,15 +37,6 @@ module _ (p : Entry → Bool) where
 abbrev pub ReadSo : Shape → List ℕ → Result MetaHead BadMeta → Type 0
 ReadSo shape page r = (level index count : ℕ) (es : List Entry) → 1 ≤ level → level ≤ 4 → index < 2 ^ 32
     → meta_entries shape level index count page ≡ Some es → r ≡ Ok (record { level = level; index = index; count = count })
-
-pub another_page : (shape : Shape) (spaces level index count : ℕ) (page : List ℕ) (r : Result MetaHead BadMeta) (head : MetaHead) → 1 ≤ level → level ≤ 4 → index < 2 ^ 32
-    → ReadSo shape page r → r ≡ Ok head → (head ≡ record { level = level; index = index; count = count } → ⊥)
-    → (before : List Entry) → GoesOnOr shape spaces level index count before page false
-another_page shape spaces level index count page r head least most fits read is other before more goes =
-    other (head_same _ _ (sym is ∙ read level index count more least most fits goes.holds))
-  where
-    head_same : (x y : MetaHead) → ◌≡◌ {A = Result MetaHead BadMeta} (Ok x) (Ok y) → x ≡ y
-    head_same x y e = cc
 
 pub no_page : (shape : Shape) (spaces level index count : ℕ) (page : List ℕ) (r : Result MetaHead BadMeta) (bad : BadMeta) → 1 ≤ level → level ≤ 4 → index < 2 ^ 32
     → ReadSo shape page r → r ≡ Err bad → (before : List Entry) → GoesOnOr shape spaces level index count before page false

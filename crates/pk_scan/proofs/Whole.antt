@@ -5,7 +5,7 @@ use Rattle.pk_base.{specs.Key.Key, specs.Shape.Shape, specs.Shape.charge, specs.
 use Rattle.pk_base.{specs.EntryChecks.IsEntry, specs.EntryChecks.IsPlace, specs.Page.Page, specs.Page.Flash, specs.Page.page_at, specs.Page.erased, specs.Page.whole, specs.Page.torn}
 use Rattle.pk_base.specs.Refusal.{Refusal, damaged, ensure}
 use Rattle.pk_nand.{specs.BoardState.BoardState, specs.Counts.after_reads}
-use Rattle.pk_segfmt.specs.Value.{head_bytes, value_pages, value_page, value_from, value_at}
+use Rattle.pk_segfmt.specs.Value.{head_bytes, value_page, value_from, value_at}
 use Rattle.pk_rootfmt.{specs.Root.Root, specs.Root.named, specs.Root.is_root, specs.Newest.newest_root, specs.Held.Held}
 use Rattle.pk_buf.specs.Table.{Table}
 use Rattle.pk_jrn.{specs.Epochs.JournalEpoch, specs.Replays.buffer_of, proofs.Puts.firsts-reverse, specs.EpochReads.epoch_reads}
@@ -16,7 +16,7 @@ use Rattle.pk_walk.{specs.Visible.visible, specs.Walking.Walk, specs.Walking.IsL
 use Rattle.pk_plan.specs.declared.owner.Owner.TheVariants.{Values as for_values}
 use Rattle.pk_pool.specs.Blocks.{Blocks, used_by, unused}
 use Rattle.pk_model.{specs.Found.Found, specs.Found.found_under, specs.Found.entries_in_order, specs.Laws.IsPageOf, specs.Reading.reading, proofs.StrangePages.bind_ok, specs.RootLimits.root_limits}
-use Rattle.pk_model.specs.Values.{placed, fits, values_of, all_pages, blocks_with, fits_after}
+use Rattle.pk_model.specs.Values.{placed, values_of, all_pages, blocks_with, fits_after}
 use Rattle.pk_model.proofs.Entries.{counting_all, journal_are, meta_are}
 use Rattle.pk_law_steps.specs.Under.{IsValuePage, places}
 use Rattle.pk_scan.{specs.Starting.IsAtStart, specs.Opening.OnlyReads, specs.Opening.NotOpened, specs.Runs.LeasedMore, specs.declared.contents.Found.Found as Opened, specs.Adopts.HasOwners}

@@ -8,7 +8,7 @@ use Rattle.pk_pin.specs.Frames.{Frames, free_frames}
 use Rattle.pk_run.specs.Kept.{Kept, IsKept}
 use Rattle.pk_level.{specs.Levels.Levels, specs.Levels.IsLevels, specs.Levels.IsOfLevel, specs.Levels.AreOfLevels, specs.Levels.HaveBlocks, specs.Levels.run_of, specs.Arenas.HasArena}
 use Rattle.pk_level.proofs.Filling.{frames_fit}
-use Rattle.pk_law_steps.{proofs.FourRuns.four_of, proofs.FourRuns.IsLevel, proofs.Places.In}
+use Rattle.pk_law_steps.{proofs.FourRuns.IsLevel, proofs.Places.In}
 
 -- a run of a level, which keeps within it
 pub record Fit (shape : Shape) (level : ℕ) (r : Kept) : Type 0 where

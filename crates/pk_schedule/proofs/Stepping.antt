@@ -39,10 +39,6 @@ goes_lowers a b u v i l = let less = l.less in record { none_ready = l.none_read
 ends_lowers : (a b u v i : ℕ) → Lowers a u b v → Lowers (a + 1 + i) u i v
 ends_lowers a b u v i l = let less = l.less in record { none_ready = l.none_ready; less = omega (arith, less) }
 
--- a read that failed leaves as much of a merge
-abbrev Reread : Merger → Merger → Type 0
-Reread m m' = m' ≡ record m { source = record m.source { bytes = m'.source.bytes }; target = record m.target { bytes = m'.target.bytes } }
-
 wants_same : {X : Type 0} (source : Source X) (c : Cursor) (bytes : List ℕ) → wants_page_in source (record c { bytes = bytes }) ≡ wants_page_in source c
 wants_same (Frozen b) c bytes = refl
 wants_same (Run r) c bytes = refl

@@ -2,13 +2,13 @@
 use Rattle.std.proofs.Common.{◌≡◌, ◌≢◌, ◌<◌, ◌≤◌, ◌+◌, ◌-◌, ◌*◌, ◌%◌, ℕ, zero, suc, List, [], ◌∷◌, ◌++◌, length, sym, ◌∙◌, ap, subst, refl, arith, below_more}
 use Rattle.std.proofs.Math.ListN.{set}
 use Rattle.pk_base.{specs.Key.Key, specs.Shape.Shape, specs.Shape.page_count, specs.Shape.charge, specs.Mark.program}
-use Rattle.pk_base.specs.Page.{Page, Flash, page_at, erased, whole, IsPage}
+use Rattle.pk_base.specs.Page.{Flash, page_at, whole, IsPage}
 use Rattle.pk_nand.{specs.BoardState.BoardState, specs.BoardState.shape_of, specs.Cut.Interrupted, specs.Operations.InOrder, specs.Crash.SameOutside, specs.Crash.Reached, specs.Crash.Went}
 use Rattle.pk_nand.{specs.Calls.Rose, specs.Calls.IsReady, specs.Calls.ProgramFailed, specs.Calls.after_program, specs.Calls.LeftBehind, specs.Pairs.first_of_pair, specs.Pairs.SameOutsidePair}
 use Rattle.pk_nand.proofs.Leaving.{page_at-slice_set, page_at-slice_set_same, IsFlash-left, full_program}
 use Rattle.pk_nand.proofs.Reaching.{Went-then, Went-program_failed, Reached-then, Reached-program, Reached-start}
 use Rattle.pk_nand.proofs.Pairing.{pair_even, pair_low, pair_high}
-use Rattle.pk_nand.proofs.Writing.{mod-add, SameOutside-set, SameOutside-cut, InOrder-next, IsReady-program, shape_is}
+use Rattle.pk_nand.proofs.Writing.{mod-add, SameOutside-set, SameOutside-cut, InOrder-next, shape_is}
 use Rattle.pk_segfmt.specs.Stored.{page_of}
 use Rattle.pk_seg.specs.Stored.{written, WriteFailed}
 

@@ -76,22 +76,6 @@ module _ (shape : Shape) (is : IsShape shape) (key : Key) (value : List ℕ) (is
       drop_past (i * size) front value ∙ ap (λ (r : List ℕ). r ++ drop (i * size - length front) value) (drop_all (i * size) front (omega (arith, front_len)))
       ∙ ap (λ (k : ℕ). drop k value) e)
 
-  -- the prefix of the value in its first page
-  pub front_first : (n : ℕ) → n ≤ size - 32 → n ≤ length value → take n (drop 32 (page_of shape key value 0)) ≡ take n value
-  front_first n room short =
-      let part : List ℕ = take (size - 32) value in
-      let len : length part ≡ min (size - 32) (length value) = length-take (size - 32) value in
-      ap (λ (r : List ℕ). take n r) (ap (λ (r : List ℕ). drop 32 r) first_page ∙ drop_at front (padded (size - 32) part) 32 front_len)
-      ∙ take_front n (size - 32) value room short
-
-  -- a longer prefix of the value, with bytes of a further page
-  pub front_more : (i n : ℕ) → 0 < i → i < charge shape (length value) → n ≤ size → i * size - 32 + n ≤ length value
-      → take (i * size - 32) value ++ take n (page_of shape key value i) ≡ take (i * size - 32 + n) value
-  front_more i n some less room short =
-      let a : ℕ = i * size - 32 in
-      ap (λ (r : List ℕ). take a value ++ r) (ap (λ (r : List ℕ). take n r) (next_page i some less) ∙ take_front n size (drop a value) room (omega (arith, length-drop a value)))
-      ∙ sym (take-add a n value)
-
   -- if its pages are there, the value is found
   pub value_again : (at : ℕ → Page) (page : ℕ) → IsStored shape at key page value → value_at shape at key (record { page = page; len = length value }) ≡ Ok value
   unfolding value_at

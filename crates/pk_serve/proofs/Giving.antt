@@ -10,10 +10,6 @@ use Rattle.pk_serve.proofs.Serves.{Serving-commit, Cutoff-commit, Serving-post, 
 
 -- ---- posts
 
-pub posts_none : (b : BoardState) (bytes : List ℕ) → bytes ≡ [] → Posts b b bytes
-posts_none b bytes none drive idle shape terms start a behind all m w =
-    let T : List ℕ → Type 0 = λ t. Serving shape terms start a b drive (t ++ behind) all m in subst T none w
-
 pub posts_one : (b c : BoardState) (bytes : List ℕ) → c ≡ after_post b bytes → Posts b c bytes
 posts_one b c bytes is drive idle shape terms start a behind all m w =
     let T : BoardState → Type 0 = λ s. Serving shape terms start a s drive behind all m in

@@ -1,7 +1,7 @@
 -- The limit of a shape is the limit of a drive with one namespace.
 use Rattle.std.proofs.Common.{◌≡◌, ℕ, ◌*◌, ◌/◌, ◌<◌, ◌≤◌, [], ◌∷◌, refl, arith, sum, ◌==◌, Bool, true, false, ◌||◌, not, eq-eqb}
 use Rattle.std.{specs.Prelude.bytes_eq, specs.List.list_any, proofs.Math.Nat.mul-pos}
-use Rattle.pk_base.specs.Shape.{Shape, IsShape, data_blocks, dense, limit}
+use Rattle.pk_base.specs.Shape.{Shape, IsShape, data_blocks, limit}
 use Rattle.pk_space.specs.Limits.{AcceptsLimits, has_no_room}
 
 not_zero : (n : ℕ) → 1 ≤ n → list_any (λ l. l == 0) (n ∷ []) ≡ false

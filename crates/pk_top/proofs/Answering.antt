@@ -10,7 +10,7 @@ use Rattle.pk_serve.specs.Complete.{NoneRose}
 use Rattle.pk_scan.{specs.Opening.NotOpened, specs.declared.errors.OpenError.OpenError}
 use Rattle.pk_scan.specs.declared.errors.OpenError.TheVariants.{NotFormatted, Damaged, Fault as ReadFault, Memory as NoMemory}
 use Rattle.pk_wordrun.{specs.Tasks.Task, specs.Tasks.answer, specs.Tasks.list, specs.Tasks.generate, specs.Tasks.SaysTask, specs.Seen.IsAllowedTask, specs.declared.end.WordEnd.WordEnd}
-use Rattle.pk_wordrun.specs.Told.{EndsBy, WordDone, most_roots}
+use Rattle.pk_wordrun.specs.Told.{WordDone, most_roots}
 use Rattle.pk_wordrun.specs.declared.end.WordEnd.TheVariants.{Done, Output, Flash as FlashFailed, Worn}
 use Rattle.pk_top.{specs.Asks.word_status, specs.Asks.AskedTo, specs.Asks.Asks, specs.Asks.AsksAll, specs.Asks.AsksWhole, specs.Asks.AsksFound, specs.Asks.AskRun, specs.Ends.open_status}
 use Rattle.pk_top.{specs.declared.asking.TheConstants.WORD_FRAMES, specs.Serves.behind_opening, specs.Statuses.Untouched, proofs.Asked.same_meter}

@@ -1,10 +1,10 @@
 -- A run of a word that asks the drive, from the load on.
 use Rattle.std.proofs.Common.{◌≡◌, ◌⊎◌, inl, inr, ℕ, List, [], Option, Some, None, IsSome, Result, Ok, refl, sym, ◌∙◌, ap, subst, arith}
-use Rattle.pk_base.{specs.Entry.Entry, specs.Map.Map, specs.Page.Flash, specs.Page.IsFlash, specs.Refusal.Refusal, specs.Shape.Shape}
+use Rattle.pk_base.{specs.Entry.Entry, specs.Map.Map, specs.Page.Flash, specs.Page.IsFlash, specs.Shape.Shape}
 use Rattle.pk_nvme.specs.Command.{Command}
 use Rattle.pk_nand.{specs.BoardState.BoardState, specs.BoardState.shape_or_none, specs.Calls.Rose, specs.Calls.Loaded, specs.Calls.IsReady, specs.Counts.counted_by, specs.Effects.OnlyReading}
 use Rattle.pk_nand.{specs.Resting.RestsFlash, proofs.Reaching.Reached-start, proofs.Reaching.Went-reached, proofs.Resting.Rests-start}
-use Rattle.pk_model.{specs.Growth.Goes, specs.Spaces.Terms, specs.Spaces.limits_at, specs.Spaces.terms_at, specs.Spaces.in_space, specs.Kept.Kept, specs.Kept.rise, specs.Wear.root_number}
+use Rattle.pk_model.{specs.Spaces.Terms, specs.Spaces.limits_at, specs.Spaces.terms_at, specs.Spaces.in_space, specs.Kept.Kept, specs.Kept.rise, specs.Wear.root_number}
 use Rattle.pk_model.specs.Reading.{reading, Holds}
 use Rattle.pk_port.{specs.Steps.mount, proofs.Serving.mounted_terms}
 use Rattle.pk_call.{specs.Sight.Sight, specs.Drive.HoldsMap, specs.Meter.Meter, specs.Meter.meter}
@@ -15,9 +15,9 @@ use Rattle.pk_wordrun.{specs.Tasks.Task, specs.Tasks.answer, specs.Tasks.list, s
 use Rattle.pk_wordrun.specs.declared.end.WordEnd.{WordEnd}
 use Rattle.pk_wordrun.specs.declared.end.WordEnd.TheVariants.{Done, Output, Flash as FlashFailed, Worn}
 use Rattle.pk_top.{specs.Loads.no_memory, specs.Loads.not_loaded, specs.Loads.no_image, specs.Loads.has_image, specs.declared.asking.TheConstants.WORD_FRAMES, specs.Ends.open_status}
-use Rattle.pk_top.{specs.Asks.word_status, specs.Asks.KeepsTask, specs.Asks.AskedTo, specs.Asks.Asks, specs.Asks.AskRun, specs.Serves.behind_opening, specs.Statuses.Tells, specs.Statuses.Untouched}
-use Rattle.pk_top.proofs.Telling.{tells_good, tells_output, tells_flash, tells_memory, tells_no_drive, tells_refused, tells_not, wants_untouched, wants_sound, gives_same, untouched_same}
-use Rattle.pk_top.proofs.Telling.{load_untouched, refused_untouched}
+use Rattle.pk_top.{specs.Asks.word_status, specs.Asks.KeepsTask, specs.Asks.Asks, specs.Asks.AskRun, specs.Serves.behind_opening, specs.Statuses.Tells}
+use Rattle.pk_top.proofs.Telling.{tells_good, tells_output, tells_flash, tells_memory, tells_no_drive, tells_refused, tells_not, gives_same}
+use Rattle.pk_top.proofs.Telling.{load_untouched}
 
 -- ---- nothing was done
 
@@ -190,17 +190,6 @@ module _ (shape : Shape) (old loaded new : BoardState) (found : Loaded old loade
     | inr e ↦ let T : ℕ → Type 0 = λ n. Tells old new n in subst T (sym e.1) (tells_end task e.2.start e.0 e.2.ends)
   ]
 
-  -- lack of memory is met before anything is done
-  word_memory : (end : WordEnd) → word_status end ≡ 7 → ⊥
-  word_memory Done e = omega arith
-  word_memory Output e = omega arith
-  word_memory FlashFailed e = omega arith
-  word_memory Worn e = omega arith
-
-  memory_asks : (task : Task) (status : ℕ) → Asks task shape loaded new status → status ≡ 7 → Untouched old new
-  memory_asks task status s is = elim s.outcome [
-    | inl n ↦ wants_untouched shape old loaded new found n.error (sym n.tells ∙ is) n.reason
-    | inr e ↦ absurd (word_memory e.0 (sym e.1 ∙ is))
   ]
 
 pub tells_ask : (task : Task) (old new : BoardState) (status : ℕ) → AskRun task old new status → Tells old new status
@@ -208,9 +197,3 @@ tells_ask task old new status (no_memory is same) = tells_memory old new status 
 tells_ask task old new status (not_loaded refused) = tells_refused old new status refused
 tells_ask task old new status (no_image missing) = tells_no_drive old new status missing.tells (inl missing.found.shape_is) (load_untouched old new None missing.found)
 tells_ask task old new status (has_image found) = tells_asks found.shape old found.loaded new found.found task status found.asks
-
-pub memory_ask : (task : Task) (old new : BoardState) (status : ℕ) → AskRun task old new status → status ≡ 7 → Untouched old new
-memory_ask task old new status (no_memory tells same) is = untouched_same old new same
-memory_ask task old new status (not_loaded refused) is = refused_untouched old new (wants_sound old new refused.fault (sym refused.tells ∙ is) refused.reason) refused.failed
-memory_ask task old new status (no_image missing) is = load_untouched old new None missing.found
-memory_ask task old new status (has_image found) is = memory_asks found.shape old found.loaded new found.found task status found.asks is

@@ -2,9 +2,9 @@
 use Rattle.std.proofs.Common.{◌≡◌, ℕ, ◌+◌, ◌≤◌, ◌==◌, if◌then◌else◌, List, [], ◌∷◌, length, Bool, true, false, Option, Some, None, IsSome, refl, sym, ap, subst, ◌∙◌, arith}
 use Rattle.pk_base.{specs.Shape.Shape, specs.Page.Flash, specs.Map.Map}
 use Rattle.pk_nvme.specs.Command.{Command}
-use Rattle.pk_nand.{specs.BoardState.BoardState, specs.Calls.Rose, specs.Calls.Loaded, specs.Calls.longer, specs.declared.types.LoadFault.LoadFault}
+use Rattle.pk_nand.{specs.BoardState.BoardState, specs.Calls.Rose, specs.Calls.longer, specs.declared.types.LoadFault.LoadFault}
 use Rattle.pk_nand.specs.declared.types.LoadFault.TheVariants.{Fault, BadImage, Memory}
-use Rattle.pk_model.{specs.Reading.Holds, specs.Run.Run, specs.Run.RunWithin, specs.Run.Exchange, specs.Run.commands, specs.Run.records, specs.Run.faults, specs.Script.script}
+use Rattle.pk_model.{specs.Reading.Holds, specs.Run.Run, specs.Run.RunWithin, specs.Run.Exchange, specs.Run.records, specs.Run.faults, specs.Script.script}
 use Rattle.pk_model.specs.Spaces.{Terms, terms_at}
 use Rattle.pk_law_isolation.specs.Isolation.{map_alone, terms_alone, command_alone, commands_of_space, exchanges_in}
 use Rattle.pk_law_isolation.{proofs.Isolating.isolated, proofs.Fixing.fixed}

@@ -3,7 +3,7 @@ use Rattle.std.proofs.Common.{◌≡◌, ◌≢◌, ◌⊎◌, inl, inr, ℕ, �
 use Rattle.std.proofs.Common.{Ok, Err, refl, sym, ◌∙◌, ap, subst, arith, true, false, nat_le}
 use Rattle.std.{proofs.lemmas.Bool.Decides.nat_tests, specs.FinMap.len, specs.FinMap.entries, specs.FinMap.len-entries}
 use Rattle.pk_base.{specs.Entry.Entry, specs.Key.Key, specs.Map.Map, specs.Page.Flash, specs.Refusal.Refusal, specs.Refusal.not_formatted, specs.Refusal.damaged}
-use Rattle.pk_base.specs.Shape.{Shape, IsShape, limit}
+use Rattle.pk_base.specs.Shape.{Shape, IsShape}
 use Rattle.pk_nand.{specs.BoardState.BoardState, specs.BoardState.shape_or_none, specs.Calls.Rose, specs.Calls.Loaded, specs.Calls.IsReady, specs.Calls.longer, specs.Effects.OnlyReading}
 use Rattle.pk_nand.{specs.declared.types.LoadFault.LoadFault, proofs.Reaching.Reached-start, proofs.Reaching.Went-reached}
 use Rattle.pk_nand.specs.declared.types.LoadFault.TheVariants.{Fault, BadImage, Memory}
@@ -20,7 +20,7 @@ use Rattle.pk_wordrun.specs.declared.end.WordEnd.TheVariants.{Done, Output, Flas
 use Rattle.pk_words.specs.Question.{put as put_one, get as get_one, delete as delete_one, has as has_one, stat as stat_one}
 use Rattle.pk_top.{specs.Words.Word, specs.Words.make, specs.Words.serve, specs.Words.ask, specs.Words.assemble, specs.Words.show, specs.Words.word_of, proofs.Within.short_within}
 use Rattle.pk_top.{specs.PairWords.for_pair, specs.PairWords.is_resync, specs.PairWords.pair_task_of, specs.declared.asking.TheConstants.WORD_FRAMES, specs.Asks.word_status, specs.Ends.open_status}
-use Rattle.pk_top.{specs.Loads.load_status, specs.Loads.HasReason, specs.Serves.NotServed, specs.Serves.behind_opening, specs.Statuses.GivesNothing, specs.Statuses.Untouched, specs.Statuses.Tells}
+use Rattle.pk_top.{specs.Loads.load_status, specs.Loads.HasReason, specs.Serves.NotServed, specs.Serves.behind_opening, specs.Statuses.Untouched, specs.Statuses.Tells}
 use Rattle.pk_top.proofs.Asked.{input_still}
 use Rattle.pk_top.specs.PairRuns.{NotFound, KeepsPair, AskedPair, AsksPair, PairRun, PairTells, LacksPair, PairRefused, PairWhole, no_speaker, first_unopened, second_unopened, limits_differ}
 use Rattle.pk_top.specs.PairRuns.{pair_asked, no_pair_memory, first_missing, second_missing, shapes_differ, pair_found}
@@ -238,9 +238,6 @@ module _ (task : PairTask) (shape : Shape) (loaded new loaded' new' : BoardState
       (ap (first_limit shape) (sym (ap (λ (s : BoardState). s.pages) is)) ∙ one_limit ∙ ap (first_limit shape) (ap (λ (s : BoardState). s.pages) is'))
 
 -- ---- what the status says
-
-gives_of : (old new : BoardState) → Untouched old new → GivesNothing old new
-gives_of old new u = u.gives
 
 module _ (old new old' new' : BoardState) (status : ℕ) where
   -- the statuses of what was not found or not opened

@@ -80,15 +80,6 @@ tells_no_drive old new status is none untouched = record {
   made = λ e. absurd (omega arith);
 }
 
-pub tells_made : (old new : BoardState) (status : ℕ) → status ≡ 9 → IsSome new.shape → Untouched old new → Tells old new status
-tells_made old new status is some untouched = record {
-  no_words = λ e. absurd (omega arith);
-  input = λ e. absurd (omega arith);
-  output = λ e. absurd (omega arith);
-  flash = λ e. absurd (omega arith);
-  memory = λ e. absurd (omega arith);
-  no_drive = λ e. absurd (omega arith);
-  made = λ e. (some, untouched);
 }
 
 -- if nothing was done
@@ -189,19 +180,6 @@ module _ (shape : Shape) (old loaded new : BoardState) (found : Loaded old loade
     | inr e ↦ let T : ℕ → Type 0 = λ n. Tells old new n in subst T (sym e.1) (tells_end frames e.0 e.2.blames)
   ]
 
-  -- lack of memory is met before anything is taken
-  end_memory : (end : End) → end_status end ≡ 7 → ⊥
-  end_memory Done e = omega arith
-  end_memory Truncated e = omega arith
-  end_memory Input e = omega arith
-  end_memory Output e = omega arith
-  end_memory Flash e = omega arith
-  end_memory Worn e = omega arith
-
-  memory_serves : (frames status : ℕ) → RunServes shape frames loaded new status → status ≡ 7 → Untouched old new
-  memory_serves frames status s is = elim s.outcome [
-    | inl n ↦ wants_untouched n.error (sym n.tells ∙ is) n.reason
-    | inr e ↦ absurd (end_memory e.0 (sym e.1 ∙ is))
   ]
 
 -- ---- the word
@@ -211,9 +189,3 @@ tells_serve frames old new status (no_memory is same) = tells_memory old new sta
 tells_serve frames old new status (not_loaded refused) = tells_refused old new status refused
 tells_serve frames old new status (no_image missing) = tells_no_drive old new status missing.tells (inl missing.found.shape_is) (load_untouched old new None missing.found)
 tells_serve frames old new status (has_image found) = tells_serves found.shape old found.loaded new found.found frames status found.serves
-
-pub memory_serve : (frames : ℕ) (old new : BoardState) (status : ℕ) → ServeRun frames old new status → status ≡ 7 → Untouched old new
-memory_serve frames old new status (no_memory tells same) is = untouched_same old new same
-memory_serve frames old new status (not_loaded refused) is = refused_untouched old new (wants_sound old new refused.fault (sym refused.tells ∙ is) refused.reason) refused.failed
-memory_serve frames old new status (no_image missing) is = load_untouched old new None missing.found
-memory_serve frames old new status (has_image found) is = memory_serves found.shape old found.loaded new found.found frames status found.serves is

@@ -7,7 +7,7 @@ use Rattle.pk_base.specs.Key.{Key}
 use Rattle.pk_asm.specs.Words.{key_of}
 use Rattle.pk_host.specs.Calls.{IsOwnKey}
 use Rattle.pk_words.specs.Question.{put, get, delete, has, stat}
-use Rattle.pk_wordrun.{specs.Seen.IsAllowedTask, specs.Tasks.Task, specs.Tasks.list, specs.Tasks.generate}
+use Rattle.pk_wordrun.{specs.Seen.IsAllowedTask, specs.Tasks.Task, specs.Tasks.list}
 use Rattle.pk_top.specs.Words.{Word, make, serve, ask, question, assemble, show, limits_in_words, make_if, make_of, serve_with, serve_of, put_with, put_of, only_key, list_word, alone, generate_of}
 use Rattle.pk_top.specs.Words.{plain_of, word_of}
 

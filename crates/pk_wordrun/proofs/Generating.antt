@@ -12,9 +12,9 @@ use Rattle.pk_call.{specs.Sight.InSpace, specs.Sight.Sight, specs.Sight.in_space
 use Rattle.pk_model.{specs.Growth.Goes, specs.Kept.rise, specs.Wear.is_worn, specs.Wear.roots, specs.Reading.reading, specs.Reading.Holds, specs.Run.Exchange, specs.Run.commands}
 use Rattle.pk_model.{proofs.Growing.Goes-reaches, proofs.Growing.weaken_went, specs.Spaces.Terms, specs.Spaces.in_space, specs.Spaces.terms_at}
 use Rattle.pk_serve.{specs.Answered.installs, proofs.Counting.metered-roots, proofs.Counting.metered-unworn, proofs.Counting.few_unworn, proofs.Counting.commands-push}
-use Rattle.pk_port.{specs.Asking.KeptSilently, specs.declared.halt.Halt.Halt, specs.declared.halt.Halt.TheVariants.Stopped, specs.declared.halt.Halt.TheVariants.Worn as UsedUp, specs.Steps.mount}
-use Rattle.pk_port.{proofs.Growing.asked-posts, proofs.Growing.asked-post_failed, proofs.Growing.went-silent, proofs.Serving.mounted_limits}
-use Rattle.pk_wordrun.{specs.Ends.end_of, specs.Generated.Generating, specs.Generated.Generated, specs.Generated.Unfinished, specs.Summary.summary_lines, specs.Sums.Sums, proofs.Resting.never_both}
+use Rattle.pk_port.{specs.Asking.KeptSilently, specs.declared.halt.Halt.TheVariants.Stopped, specs.declared.halt.Halt.TheVariants.Worn as UsedUp, specs.Steps.mount}
+use Rattle.pk_port.{proofs.Growing.asked-posts, proofs.Growing.asked-post_failed, proofs.Serving.mounted_limits}
+use Rattle.pk_wordrun.{specs.Generated.Generating, specs.Generated.Generated, specs.Generated.Unfinished, specs.Summary.summary_lines, specs.Sums.Sums, proofs.Resting.never_both}
 use Rattle.pk_wordrun.{specs.Grouped.StoppedIn, specs.Grouped.KeepsGroup, specs.Grouped.AddsToGroup, specs.Grouped.StopsGroup, specs.Tasks.generate, specs.Tasks.SaysTask, specs.Tasks.KeptTask}
 use Rattle.pk_wordrun.{specs.Told.Told, specs.Told.turn_roots, specs.declared.end.WordEnd.TheVariants.Done, specs.declared.end.WordEnd.TheVariants.Output, specs.declared.summary.Summary.Summary}
 use Rattle.pk_wordrun.{proofs.Grouping.grouped_none, proofs.Grouping.grouped_asked, proofs.Telling.keeps-flash, proofs.Telling.done_unworn, proofs.Telling.output_unworn, proofs.Telling.flash_unworn}
@@ -276,13 +276,4 @@ module _ (begin count : ℕ) (shape : Shape) (terms : Terms) (start : Map) (a b 
         };
       }
 
--- a command was not answered
-pub told_unfinished : (begin count : ℕ) (shape : Shape) (terms : Terms) (start : Map) (a b : BoardState) (halt : Halt) → Unfinished begin count shape terms start a b halt
-    → Told (generate begin count) shape terms start a b (end_of halt)
-told_unfinished begin count shape terms start a b halt u = record {
-  kept = went-silent (SaysTask (generate begin count) a.read_faults b.read_faults shape terms start) shape terms start (workload begin count) (meter a) (meter b) a b u.kept;
-  rests = λ e. never_both e;
-  ends = u.ends;
-  used = u.used;
-  input = u.input;
 }

@@ -19,11 +19,4 @@ pub record AreSaid (page : List Key) (text initial : RoomyList) (i : ℕ) : Type
   pub lines : text ≡ record initial { items = key_lines (take i page) }
   pub most : length text.items ≤ 33 * i
 
-pub said_more : (page : List Key) (text next initial : RoomyList) (i : ℕ) (key : Key) → i < length page → AreSaid page text initial i → key ≡ slice_index_or page i []
-    → next ≡ record text { items = text.items ++ key_line key } → length next.items ≤ length text.items + 33 → AreSaid page next initial (i + 1)
-said_more page text next initial i key less h is added short = record {
-  lines =
-      added ∙ ap (λ (t : RoomyList). record t { items = t.items ++ key_line key }) h.lines ∙ ap (λ (k : Key). record initial { items = key_lines (take i page) ++ key_line k }) is
-      ∙ ap (λ (xs : List ℕ). record initial { items = xs }) (sym (one_more page i less));
-  most = omega (arith, h.most, short);
 }

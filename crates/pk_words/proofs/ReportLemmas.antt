@@ -40,11 +40,6 @@ counted_more numbers text next initial i name less h is added short =
 same_text : (text initial : RoomyList) (items : List ℕ) → text.items ≡ items → text.room ≡ initial.room → text ≡ record initial { items = items }
 same_text text initial items e f = λ i. record { items = e i; room = f i }
 
-pub counted_begins : (numbers : List ℕ) (text : RoomyList) → text.items ≡ [] → AreCounted numbers text text 0
-counted_begins numbers text none = record {
-  lines = ap (λ (xs : List ℕ). xs ++ report_lines numbers) none;
-  room = refl;
-  most = omega (arith, ap (λ (xs : List ℕ). length xs) none);
 }
 
 pub counted_all : (numbers : List ℕ) (text initial : RoomyList) (i : ℕ) → i ≡ 16 → AreCounted numbers text initial i → text ≡ record initial { items = report_lines numbers }

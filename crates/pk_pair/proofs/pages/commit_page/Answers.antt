@@ -1,5 +1,5 @@
 use Rattle.std.proofs.Common.{◌≡◌, ◌<◌, ◌≤◌, ◌+◌, ◌*◌, ◌/◌, ◌%◌, ℕ, suc, arith, ap, ◌∙◌, sym}
-use Rattle.pk_base.{specs.Page.commit_page as commit_page_of, proofs.CommitPages.within}
+use Rattle.pk_base.{proofs.CommitPages.within}
 use Rattle.pk_pair.proofs.PairLemmas.{pair_exists}
 use Rattle.pk_pair.proofs.pages.commit_page.Goals as goal
 

@@ -1,6 +1,6 @@
 use Rattle.std.{proofs.Common.◌≡◌, proofs.Common.◌∙◌, proofs.Common.ap, proofs.Common.arith, proofs.Common.true, proofs.Common.false, proofs.Common.nat_le, proofs.lemmas.Bool.Decides.nat_tests}
 use Rattle.pk_base.{specs.Key.space_of, specs.Seen.entry as seen}
-use Rattle.pk_scan.proofs.RunPages.{all_next, all_end, all_not}
+use Rattle.pk_scan.proofs.RunPages.{all_next, all_not}
 use Rattle.pk_scan.proofs.pages.are_in_spaces.Goals as goal
 
 pub returns-then-space-spaces : goal.returns-then-space-spaces

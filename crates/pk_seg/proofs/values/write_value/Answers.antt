@@ -1,8 +1,6 @@
 use Rattle.std.proofs.Common.{◌≡◌, ◌+◌, ◌∙◌, List, ℕ, length, arith, subst}
 use Rattle.pk_base.{specs.Shape.charge, proofs.CommitPages.even_rest}
-use Rattle.pk_nand.specs.Calls.{ProgramFailed}
-use Rattle.pk_seg.proofs.Programs.{Writing-start, Writing-written, Writing-failed, WriteFailed-next}
-use Rattle.pk_segfmt.specs.Stored.{page_of}
+use Rattle.pk_seg.proofs.Programs.{Writing-start, Writing-written, Writing-failed}
 use Rattle.pk_seg.proofs.values.write_value.Goals as goal
 
 pub loop-i-init : goal.loop-i-init

@@ -1,6 +1,6 @@
 use Rattle.std.proofs.Common.{◌≡◌, ◌-◌, ◌*◌, ◌++◌, ◌<◌, ◌∙◌, ℕ, List, length, take, drop, ap, sym, arith}
 use Rattle.pk_base.specs.Fields.{padded}
-use Rattle.pk_segfmt.{specs.Value.head_bytes, specs.Stored.page_of, proofs.HeadLemmas.greatest_small, proofs.StoredLemmas.first_page, proofs.StoredLemmas.next_page}
+use Rattle.pk_segfmt.{specs.Stored.page_of, proofs.HeadLemmas.greatest_small, proofs.StoredLemmas.first_page, proofs.StoredLemmas.next_page}
 use Rattle.pk_segfmt.proofs.pages.page.Goals as goal
 
 pub overflow_cast-value : goal.overflow_cast-value

@@ -1,5 +1,5 @@
 use Rattle.std.proofs.Common.{◌≡◌, ◌+◌, ◌<◌, ◌^◌, ◌∙◌, ap, arith, length, rules}
-use Rattle.pk_nand.{specs.BoardState.shape_of, proofs.Writing.shape_is}
+use Rattle.pk_nand.{proofs.Writing.shape_is}
 use Rattle.pk_jrn.{specs.contracts.epoch.Epoch.the_view, proofs.Places.InOrder-next_page}
 use Rattle.pk_jrn.proofs.Appending.{takes_more, commit_left, next_spells, Commit-fits, Commit-adds, Commit-reached, Commit-went}
 use Rattle.pk_jrn.proofs.epoch.Epoch.append.Goals as goal

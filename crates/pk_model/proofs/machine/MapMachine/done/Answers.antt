@@ -1,7 +1,7 @@
 use Rattle.std.proofs.Common.{◌≡◌, ap, refl, List, [], ℕ, inl, inr, subst}
 use Rattle.std.proofs.lemmas.Result.{IfOk-weaker}
 use Rattle.pk_nvme.{specs.Seen.command_of, specs.Opcode.op_of, specs.declared.opcode.Opcode.TheVariants.Flush, specs.declared.opcode.Opcode.TheVariants.Tick}
-use Rattle.pk_model.{specs.Answer.success, specs.Machine.replied, specs.Machine.Answers, specs.Machine.Machine, proofs.Machines.served_here, specs.Spaces.in_space}
+use Rattle.pk_model.{specs.Answer.success, specs.Machine.replied, specs.Machine.Answers, proofs.Machines.served_here}
 use Rattle.pk_model.proofs.machine.MapMachine.done.Goals as goal
 
 pub returns : goal.returns
