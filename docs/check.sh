@@ -20,10 +20,14 @@ quoted() { # document
     sed '/^```/,/^```/d' "$1" | tr '\n' ' ' | grep -o '`[^`]*`' | tr -d '`'
 }
 
+# Whether a crate has this wrong body, tried by the gate or by bench/wrong.sh.
+refused() { # crate, name
+    [ -f "crates/$1/must-fail/$2.edit" ] || [ -f "bench/wrong-bodies/$1/$2.edit" ]
+}
+
 # Whether the sources of a crate, its definitions or its wrong bodies have this name.
 has() { # crate, name
-    [ -f "crates/$1/must-fail/$2.edit" ] \
-        || grep -rqwE "(fn|struct|enum|trait|mod|ensures|requires|ghost) $2|(pub|record|abbrev) $2" "crates/$1/src" "crates/$1/specs" 2>/dev/null
+    refused "$1" "$2" || grep -rqwE "(fn|struct|enum|trait|mod|ensures|requires|ghost) $2|(pub|record|abbrev) $2" "crates/$1/src" "crates/$1/specs" 2>/dev/null
 }
 
 # Whether a path exists: after a name with a small letter, a public module, the next name is in the file of that module; after one with
@@ -68,6 +72,8 @@ edits=$(find crates -path '*/must-fail/*.edit' | wc -l)
 for document in README.md docs/TESTS.md; do
     grep -q "$edits wrong bodies" "$document" || fault "$document: there are $edits wrong bodies"
 done
+tried=$(find bench/wrong-bodies -name '*.edit' | wc -l)
+grep -q "| $tried | .bench/wrong.sh. |" docs/TESTS.md || fault "docs/TESTS.md: there are $tried wrong bodies in bench"
 sed -n 's/^| tests .* | \([0-9]*\) | `\(pk_test_[a-z_]*\)` .*/\1 \2/p' docs/TESTS.md | while read -r count crate; do
     found=$(grep -r '^#\[test\]' "crates/$crate/src" | wc -l)
     [ "$found" -eq "$count" ] || fault "docs/TESTS.md: $crate has $found tests"
@@ -107,7 +113,7 @@ awk '
         *)
             case $kind in
                 '*Refused*:')
-                    [ -f "crates/$crate/must-fail/$name.edit" ] || fault "docs/GUARANTEES.md: no wrong body $name of $crate"
+                    refused "$crate" "$name" || fault "docs/GUARANTEES.md: no wrong body $name of $crate"
                     echo "$crate $name" >>"$named"
                     ;;
                 *) has "$crate" "$name" || has pk_drive "$name" || has pk_call "$name" || fault "docs/GUARANTEES.md: no clause $name of $crate" ;;
@@ -124,16 +130,16 @@ sed -n 's/^| .* | \(`.*\|the test.*\) |$/\1/p' docs/WRONG-BODIES.md | while IFS=
             pk_*) crate=$name ;;
             *)
                 echo "$crate $name" >>"$named"
-                [ -f "crates/$crate/must-fail/$name.edit" ] \
-                    || grep -rqw "fn $name" crates/pk_test_program/src crates/pk_test_stress_run/src \
+                refused "$crate" "$name" || grep -rqw "fn $name" crates/pk_test_program/src crates/pk_test_stress_run/src \
                     || fault "docs/WRONG-BODIES.md: neither a wrong body nor a test $name"
                 ;;
         esac
     done
 done
 
-for edit in crates/*/must-fail/*.edit; do
+for edit in crates/*/must-fail/*.edit bench/wrong-bodies/*/*.edit; do
     crate=${edit#crates/}
+    crate=${crate#bench/wrong-bodies/}
     crate=${crate%%/*}
     name=$(basename "$edit" .edit)
     grep -qx "$crate $name" "$named" || fault "$crate: neither docs/WRONG-BODIES.md nor docs/GUARANTEES.md names its wrong body $name"

@@ -21,7 +21,7 @@ TOP = pathlib.Path(__file__).resolve().parent.parent
 PAGE = TOP / "docs" / "DEFINITIONS.md"
 BEGIN, END = "<!-- lists -->", "<!-- end of lists -->"
 
-IMPORT = re.compile(r"^(?:ghost |pub )?use Rattle\.(\w+)\.specs\.([\w.]+?)(?:\.\{(.*)\})?(?: as (\w+))?;?$")
+IMPORT = re.compile(r"^(?:ghost |pub )?use Rattle\.([\w.]+?)(?:\.\{(.*)\})?(?: as (\w+))?;?$")
 HEAD = re.compile(r"^(?:  )*(?:abbrev|record|data|unfoldable|infix\w*|pub record|pub data|pub abbrev|pub unfoldable)\b")
 TYPED = re.compile(r"^pub [\w']+ :")
 TOKEN = re.compile(r"[^\s(){}\[\],;]+")
@@ -50,15 +50,16 @@ class Imports:
         match = IMPORT.match(line.strip())
         if not match:
             return
-        crate, path, names, alias = match.groups()
-        file = f"{crate}/specs/{path}"
+        path, names, alias = match.groups()
         if names is None:
-            if alias:
-                self.whole[alias] = file
+            if alias and ".specs." in path:
+                self.whole[alias] = path.replace(".", "/")
             return
         for part in names.split(","):
             name, _, short = part.strip().partition(" as ")
-            self.single[short or name] = (file, name)
+            file, _, item = f"{path}.{name}".rpartition(".")
+            if ".specs." in file:
+                self.single[short or item] = (file.replace(".", "/"), item)
 
 
 class Definitions:
