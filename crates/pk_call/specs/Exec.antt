@@ -5,7 +5,7 @@ use Rattle.pk_nvme.{specs.declared.opcode.TheConstants.STORE, specs.declared.opc
 use Rattle.pk_nvme.specs.declared.opcode.Opcode.TheVariants.{Retrieve}
 use Rattle.pk_base.{specs.Shape.Shape, specs.Shape.fetched, specs.Shape.greatest, specs.Map.Map, specs.Merge.next_merge, specs.Fields.u32}
 use Rattle.pk_nand.specs.BoardState.{BoardState}
-use Rattle.pk_model.{specs.Answer.early, specs.Spaces.Terms, specs.Run.Step, specs.Bounds.most_reads}
+use Rattle.pk_model.{specs.Answer.early, specs.Spaces.Terms, specs.Run.Step, specs.Growth.Reaches, specs.Crashes.CrashFinds, specs.Crashes.change, specs.Bounds.most_reads}
 use Rattle.pk_call.{specs.Sight.InSpace, specs.Sight.Sight, specs.Sight.Counts, specs.Sight.levels_held, specs.Sight.numbers, specs.Drive.HoldsMap}
 
 -- most pages that a Retrieve reads if this many levels have all their pages in frames, by its status if it is refused, and by the value of its key
@@ -18,18 +18,20 @@ most_reads_beyond shape levels c None (Some value) = 4 - levels + fetched shape 
 abbrev pub most_unheld_reads : Shape → Terms → Sight → Map → Command → ℕ
 most_unheld_reads shape terms drive m c = most_reads_beyond shape (levels_held drive) c (early (length terms.limits) shape c) (get m (key c))
 
--- A command that did not stop the drive. What a Retrieve reads is bounded by the pinned levels, and by those that have all their pages in
--- frames as it begins.
-pub record Executed (shape : Shape) (terms : Terms) (before : Sight) (new : BoardState) (after : Sight) (m : Map) (c : Command) (reply : Reply) (reads : ℕ) : Type 0 where
+-- A command that did not stop the drive. A crash within it finds the map before it, or the map that its reply says. What a Retrieve reads is
+-- bounded by the pinned levels, and by those that have all their pages in frames as it begins.
+pub record Executed (shape : Shape) (terms : Terms) (old : BoardState) (before : Sight) (new : BoardState) (after : Sight)
+    (m : Map) (c : Command) (reply : Reply) (reads : ℕ) : Type 0 where
   pub left : Map
   pub stepped : Step shape terms m c reply left
+  pub reached : Reaches shape old new (CrashFinds shape (change left) old.pages m)
   pub stands : HoldsMap shape terms new after left
   pub bounded : op_of c.opcode ≡ Some Retrieve → reads ≤ most_reads shape terms m c
   pub held_bounded : op_of c.opcode ≡ Some Retrieve → reads ≤ most_unheld_reads shape terms before m c
 
 abbrev pub ExecStands : BoardState → BoardState → Sight → Sight → Command → Reply → ℕ → Type 0
 ExecStands old new before after c reply reads =
-    (shape : Shape) (terms : Terms) (m : Map) → HoldsMap shape terms old before m → Executed shape terms before new after m c reply reads
+    (shape : Shape) (terms : Terms) (m : Map) → HoldsMap shape terms old before m → Executed shape terms old before new after m c reply reads
 
 -- most roots of a Store: a reclaim and its entry may each need room, which takes four merges and a freeze, and each of these a root
 abbrev pub most_store_roots : ℕ

@@ -7,9 +7,9 @@ use Rattle.pk_nvme.specs.declared.opcode.Opcode.TheVariants.{Retrieve, List as L
 use Rattle.pk_nand.{specs.BoardState.BoardState, proofs.Reaching.Reached-start, specs.Effects.OnlyFlash, specs.Effects.OnlyReading}
 use Rattle.pk_level.specs.Levels.{RunsOnFlash}
 use Rattle.pk_model.{specs.Answer.early, specs.Answer.fitting, specs.Answer.list_bytes, specs.Run.Step, specs.Reading.reading, specs.Laws.IsStorable, proofs.HeldMap.map_held, proofs.Answering.serves}
-use Rattle.pk_model.{specs.Crashes.CrashFinds, specs.Growth.Reaches, specs.Wear.roots, specs.Spaces.in_space, specs.Spaces.limits_at}
+use Rattle.pk_model.{specs.Crashes.CrashFinds, specs.Crashes.change, specs.Growth.Reaches, specs.Wear.roots, specs.Spaces.in_space, specs.Spaces.limits_at}
 use Rattle.pk_law_steps.proofs.Untouched.{under_reads}
-use Rattle.pk_call.{specs.Call.command_on, specs.Exec.ExecStands, specs.Seen.reply_of, specs.declared.types.Outcome.Outcome, specs.Calling.FewCalls}
+use Rattle.pk_call.{specs.Exec.ExecStands, specs.Seen.reply_of, specs.declared.types.Outcome.Outcome, specs.Calling.FewCalls}
 use Rattle.pk_parts.{specs.Parts.Parts, specs.Parts.drive_limits, specs.Parts.sight_of, specs.Parts.settled_parts, specs.Parts.terms_of, specs.Agreeing.DriveOnFlash, proofs.Unchanging.for_its_map}
 use Rattle.pk_core.{specs.Done.Does, specs.Done.Executes, specs.Quiet.OnlyLooks, specs.Serving.IsServable, proofs.Callings.few_of_shape, proofs.Executing.executes_walked}
 use Rattle.pk_core.{specs.Listed.first_listed, specs.Listed.ListsInto, specs.Listed.own_keys, proofs.Replies.keys_own, proofs.Replies.keys_listed}
@@ -80,6 +80,15 @@ module _ (d : Parts) (old new : BoardState) (r : Request) (o : Outcome) (into : 
   same_shape : new.shape ≡ old.shape
   same_shape = ap (λ (b : BoardState). b.shape) l.board_is
 
+  -- nothing was done to the flash
+  reaches : (shape : Shape) (m : Map) → Reaches shape old new (CrashFinds shape (change m) old.pages m)
+  reaches shape m = (
+    [],
+    Reached-start old new (CrashFinds shape (change m) old.pages m) same_shape same_pages
+        (ap (λ (b : BoardState). b.trail) l.board_is) (ap (λ (b : BoardState). b.posted) l.board_is) (refl, inl refl),
+    tt,
+  )
+
   stands : ExecStands old new (sight_of d) (sight_of d) c (reply_of o into) o.reads
   stands shape terms m st =
       let here : Step d.log.shape (terms_of d) a.all c (reply_of o into) a.all =
@@ -87,6 +96,7 @@ module _ (d : Parts) (old new : BoardState) (r : Request) (o : Outcome) (into : 
       record {
         left = m;
         stepped = for_its_map d old a (λ s t x. Step s t x c (reply_of o into) x) here shape terms m st;
+        reached = reaches shape m;
         stands = record {
           shape_is = same_shape ∙ st.shape_is;
           frames_is = st.frames_is;
@@ -96,14 +106,6 @@ module _ (d : Parts) (old new : BoardState) (r : Request) (o : Outcome) (into : 
         bounded = λ other. absurd (not_retrieve (op_of c.opcode) is_list other);
         held_bounded = λ other. absurd (not_retrieve (op_of c.opcode) is_list other);
       }
-
-  reaches : (shape : Shape) (m : Map) → Reaches shape old new (CrashFinds shape (command_on old c) old.pages m)
-  reaches shape m = (
-    [],
-    Reached-start old new (CrashFinds shape (command_on old c) old.pages m) same_shape same_pages
-        (ap (λ (b : BoardState). b.trail) l.board_is) (ap (λ (b : BoardState). b.posted) l.board_is) (refl, inl refl),
-    tt,
-  )
 
   only_flash : OnlyFlash old new
   only_flash =
@@ -117,10 +119,7 @@ module _ (d : Parts) (old new : BoardState) (r : Request) (o : Outcome) (into : 
       let same_roots : roots new ≡ roots old = ap roots l.board_is in
       record {
         stands = λ runs. stands;
-        found = record {
-          cuts = λ runs shape frames m st. reaches shape m;
-          cuts_stopped = λ stopped. absurd (not_both o.stopped l.runs stopped);
-        };
+        cuts_stopped = λ stopped. absurd (not_both o.stopped l.runs stopped);
         rest = only_flash;
         reads_are = l.reads;
         up = l.up;

@@ -80,8 +80,8 @@ module _ (d : Parts) (old new : BoardState) (a : DriveOnFlash d old.shape old.pa
   exec_cut f q (quiet, inr (inl is)) = (quiet, inr (inl is))
   exec_cut f q (quiet, inr (inr is)) = (quiet, inr (inr (is ∙ ap (λ m. Ok m) (sym (ap (λ (limits : List ℕ). map_after d.log.shape limits a.all c) its_limits ∙ leaves)))))
 
-  -- so is it if the map is kept
-  kept_cut : (f : Flash) (q : List ℕ) → CrashFinds d.log.shape commit old.pages a.all f q → CrashFinds d.log.shape (command_on old c) old.pages a.all f q
+  -- if the map is kept, the change is to the same map
+  kept_cut : (f : Flash) (q : List ℕ) → CrashFinds d.log.shape commit old.pages a.all f q → CrashFinds d.log.shape (change a.all) old.pages a.all f q
   kept_cut f q (quiet, inl same) = (quiet, inl same)
   kept_cut f q (quiet, inr is) = (quiet, inr (inl is))
 
@@ -89,23 +89,16 @@ module _ (d : Parts) (old new : BoardState) (a : DriveOnFlash d old.shape old.pa
       → NoFault old new → reply.status ≢ 0x88 → Step d.log.shape (terms_of d) a.all c reply after
       → Does old new (sight_of d) (sight_of e) c reply (new.reads - old.reads) false
   does_change e reply changed same_frames none sound step = record {
-    stands = λ _. for_its_map d old a (λ s f m. Executed s f (sight_of d) new (sight_of e) m c reply made) (record {
+    stands = λ _. for_its_map d old a (λ s f m. Executed s f old (sight_of d) new (sight_of e) m c reply made) (record {
       left = after;
       stepped = step;
+      reached = changed.cuts;
       stands = still_stands e new d.log.shape (terms_of d) after (same_shape ∙ told) same_frames
           (limits_then (CrashFinds d.log.shape (change after) old.pages a.all) changed.cuts) (between e d.log.shape new.pages after changed.stands);
       bounded = λ is. absurd (other is);
       held_bounded = λ is. absurd (other is);
     });
-    found = record {
-      cuts = λ _. for_its_map d old a (λ s f m. Reaches s old new (CrashFinds s (command_on old c) old.pages m)) (
-        changed.cuts.0,
-        weaken changed.cuts.0 old new (CrashFinds d.log.shape (change after) old.pages a.all)
-            (CrashFinds d.log.shape (command_on old c) old.pages a.all) exec_cut changed.cuts.1,
-        changed.cuts.2,
-      );
-      cuts_stopped = λ is. absurd (yes_no is);
-    };
+    cuts_stopped = λ is. absurd (yes_no is);
     rest = rest;
     reads_are = counted;
     up = (let same = none.1 in omega (arith, same));
@@ -122,19 +115,16 @@ module _ (d : Parts) (old new : BoardState) (a : DriveOnFlash d old.shape old.pa
   pub does_keep : (e : Parts) → SameMap e d.log.shape a.all old new → frames_of e ≡ frames_of d → Unread old new
       → early (length (drive_limits d)) d.log.shape c ≡ None → Does old new (sight_of d) (sight_of e) c (refusal 0x88) (new.reads - old.reads) false
   does_keep e kept same_frames unread passes = record {
-    stands = λ _. for_its_map d old a (λ s f m. Executed s f (sight_of d) new (sight_of e) m c (refusal 0x88) made) (record {
+    stands = λ _. for_its_map d old a (λ s f m. Executed s f old (sight_of d) new (sight_of e) m c (refusal 0x88) made) (record {
       left = a.all;
       stepped = unread_step d.log.shape (terms_of d) a.all c passes;
+      reached = (kept.cuts.0, weaken kept.cuts.0 old new (CrashFinds d.log.shape commit old.pages a.all) (CrashFinds d.log.shape (change a.all) old.pages a.all) kept_cut kept.cuts.1, kept.cuts.2);
       stands = still_stands e new d.log.shape (terms_of d) a.all (same_shape ∙ told) same_frames
           (limits_then (CrashFinds d.log.shape commit old.pages a.all) kept.cuts) (between e d.log.shape new.pages a.all kept.stands);
       bounded = λ is. absurd (other is);
       held_bounded = λ is. absurd (other is);
     });
-    found = record {
-      cuts = λ _. for_its_map d old a (λ s f m. Reaches s old new (CrashFinds s (command_on old c) old.pages m))
-          (kept.cuts.0, weaken kept.cuts.0 old new (CrashFinds d.log.shape commit old.pages a.all) (CrashFinds d.log.shape (command_on old c) old.pages a.all) kept_cut kept.cuts.1, kept.cuts.2);
-      cuts_stopped = λ is. absurd (yes_no is);
-    };
+    cuts_stopped = λ is. absurd (yes_no is);
     rest = rest;
     reads_are = counted;
     up = unread.up;
@@ -151,11 +141,8 @@ module _ (d : Parts) (old new : BoardState) (a : DriveOnFlash d old.shape old.pa
       → Halts old new → Does old new (sight_of d) s c (refusal 0x88) (new.reads - old.reads) true
   does_stop s went halts = record {
     stands = λ is. absurd (no_yes is);
-    found = record {
-      cuts = λ is. absurd (no_yes is);
-      cuts_stopped = λ _. for_its_map d old a (λ s f m. Goes s old new (CrashFinds s (command_on old c) old.pages m))
-          (went.0, weaken_went went.0 old new (CrashFinds d.log.shape (change after) old.pages a.all) (CrashFinds d.log.shape (command_on old c) old.pages a.all) exec_cut went.1, went.2);
-    };
+    cuts_stopped = λ _. for_its_map d old a (λ s f m. Goes s old new (CrashFinds s (command_on old c) old.pages m))
+        (went.0, weaken_went went.0 old new (CrashFinds d.log.shape (change after) old.pages a.all) (CrashFinds d.log.shape (command_on old c) old.pages a.all) exec_cut went.1, went.2);
     rest = rest;
     reads_are = counted;
     up = (let same = halts.read in omega (arith, same));
@@ -510,15 +497,18 @@ does_behind d e f old mid new most c into o same made other count told_is does =
     record {
       stands = λ run shape frames m st.
           let y = x.stands run shape frames m (record { shape_is = st.shape_is; frames_is = st.frames_is; limits_is = st.limits_is; map_is = st.map_is }) in
-          record { left = y.left; stepped = y.stepped; stands = y.stands; bounded = λ k. absurd (other k); held_bounded = λ k. absurd (other k) };
-      found = record {
-        cuts = λ run shape frames m st.
-            let y = x.found.cuts run shape frames m (record { shape_is = st.shape_is; frames_is = st.frames_is; limits_is = st.limits_is; map_is = st.map_is }) in
-            (y.0, record { trail = y.1.trail; posted = y.1.posted; same_shape = y.1.same_shape; cuts = y.1.cuts; stands = y.1.stands }, y.2);
-        cuts_stopped = λ run shape frames m st.
-            let y = x.found.cuts_stopped run shape frames m (record { shape_is = st.shape_is; frames_is = st.frames_is; limits_is = st.limits_is; map_is = st.map_is }) in
-            (y.0, record { trail = y.1.trail; posted = y.1.posted; same_shape = y.1.same_shape; cuts = y.1.cuts; stands = y.1.stands }, y.2);
-      };
+          let z = y.reached in
+          record {
+            left = y.left;
+            stepped = y.stepped;
+            reached = (z.0, record { trail = z.1.trail; posted = z.1.posted; same_shape = z.1.same_shape; cuts = z.1.cuts; stands = z.1.stands }, z.2);
+            stands = y.stands;
+            bounded = λ k. absurd (other k);
+            held_bounded = λ k. absurd (other k);
+          };
+      cuts_stopped = λ run shape frames m st.
+          let y = x.cuts_stopped run shape frames m (record { shape_is = st.shape_is; frames_is = st.frames_is; limits_is = st.limits_is; map_is = st.map_is }) in
+          (y.0, record { trail = y.1.trail; posted = y.1.posted; same_shape = y.1.same_shape; cuts = y.1.cuts; stands = y.1.stands }, y.2);
       rest = x.rest;
       reads_are = omega (arith, told_is, more, last, up);
       up = x.up;

@@ -7,7 +7,7 @@ use Rattle.pk_nvme.{specs.declared.opcode.Opcode.Opcode, specs.declared.opcode.O
 use Rattle.pk_nand.{specs.BoardState.BoardState, specs.BoardState.shape_or_none, specs.Calls.Rose, specs.Calls.last_count, proofs.Reaching.Reached-start, proofs.Effects.only_then}
 use Rattle.pk_nand.specs.Effects.{NoFault, AtMostOneCall, made_no_call, made_read, made_program, made_erase}
 use Rattle.pk_model.{specs.Answer.early, specs.Answer.success, specs.Reading.reading, specs.Run.Step, proofs.Answering.serves, specs.Crashes.CrashFinds, specs.Crashes.background, specs.Spaces.Terms}
-use Rattle.pk_model.specs.Wear.{number_of, root_number, roots, is_worn}
+use Rattle.pk_model.{specs.Crashes.change, specs.Wear.number_of, specs.Wear.root_number, specs.Wear.roots, specs.Wear.is_worn}
 use Rattle.pk_model.proofs.Growing.{weaken, weaken_went, at_end, Reaches-then, Goes-then}
 use Rattle.pk_call.{specs.Sight.Sight, specs.Call.command_on, specs.Drive.HoldsMap, specs.Exec.most_installs, specs.Seen.stopped_by, specs.Seen.reply_of, specs.declared.types.Outcome.Outcome}
 use Rattle.pk_call.{specs.declared.types.Ticked.Ticked, specs.declared.types.Ticked.TheVariants.Worked, specs.declared.types.Ticked.TheVariants.Idle, specs.declared.types.Ticked.TheVariants.Fault}
@@ -167,29 +167,25 @@ module _ (old new : BoardState) (d d' : Parts) (r : Request) (v : List ℕ) (a :
       let few = w.few in
       let more = w.more_reads in
       record {
-        stands = λ runs shape frames m st. record {
+        stands = λ runs shape frames m st. let run = w.found.cuts runs shape frames m st in record {
           left = m;
           stepped = for_its_map d old a (λ s f x. Step s f x (command_of r v) reply x) step shape frames m st;
+          reached = (
+            run.0,
+            weaken run.0 old new (CrashFinds shape background old.pages m) (CrashFinds shape (change m) old.pages m) (λ f q cut. (cut.0, inr (inl cut.1))) run.1,
+            run.2,
+          );
           stands = w.stands runs shape frames m st;
           bounded = λ e. absurd (other_kind r.opcode op e);
           held_bounded = λ e. absurd (other_kind r.opcode op e);
         };
-        found = record {
-          cuts = λ runs shape frames m st.
-              let run = w.found.cuts runs shape frames m st in (
-                run.0,
-                weaken run.0 old new (CrashFinds shape background old.pages m)
-                    (CrashFinds shape (command_on old (command_of r v)) old.pages m) (λ f q cut. (cut.0, inr (inl cut.1))) run.1,
-                run.2,
-              );
-          cuts_stopped = λ stops shape frames m st.
-              let run = w.found.cuts_stopped stops shape frames m st in (
-                run.0,
-                weaken_went run.0 old new (CrashFinds shape background old.pages m)
-                    (CrashFinds shape (command_on old (command_of r v)) old.pages m) (λ f q cut. (cut.0, inr (inl cut.1))) run.1,
-                run.2,
-              );
-        };
+        cuts_stopped = λ stops shape frames m st.
+            let run = w.found.cuts_stopped stops shape frames m st in (
+              run.0,
+              weaken_went run.0 old new (CrashFinds shape background old.pages m)
+                  (CrashFinds shape (command_on old (command_of r v)) old.pages m) (λ f q cut. (cut.0, inr (inl cut.1))) run.1,
+              run.2,
+            );
         rest = w.rest;
         reads_are = omega (arith, is, few, more);
         up = w.up;

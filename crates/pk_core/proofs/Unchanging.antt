@@ -12,13 +12,13 @@ use Rattle.pk_seg.{specs.Stored.IsFront, specs.Counts.ReadsFailed}
 use Rattle.pk_nand.{specs.BoardState.BoardState, specs.Calls.last_count, specs.Counts.after_reads, proofs.Reaching.Reached-start}
 use Rattle.pk_model.{specs.Answer.early, specs.Answer.fault_of, specs.Answer.late_of, specs.Answer.success, specs.Answer.reply_of, specs.Answer.check, specs.Answer.effect, specs.Found.Found}
 use Rattle.pk_model.{specs.Bounds.most_reads, specs.Bounds.most_reads_of, specs.Run.Step, proofs.Answering.refuses_late, proofs.Answering.serves, proofs.SpaceLemmas.get_own, specs.Crashes.CrashFinds}
-use Rattle.pk_model.specs.Spaces.{Terms, limit_of, in_space}
-use Rattle.pk_call.{specs.Sight.Sight, specs.Sight.Counts, specs.Sight.InSpace, specs.Sight.levels_held, specs.Call.command_on, specs.Drive.HoldsMap, specs.Drive.CountsMap}
+use Rattle.pk_model.{specs.Crashes.change, specs.Spaces.Terms, specs.Spaces.limit_of, specs.Spaces.in_space}
+use Rattle.pk_call.{specs.Sight.Sight, specs.Sight.Counts, specs.Sight.InSpace, specs.Sight.levels_held, specs.Drive.HoldsMap, specs.Drive.CountsMap}
 use Rattle.pk_call.{specs.Seen.reply_of as shown, specs.declared.types.Outcome.Outcome, specs.Exec.most_reads_beyond, specs.Exec.most_unheld_reads, specs.Exec.report_of}
 use Rattle.pk_law_steps.specs.Under.{places}
 use Rattle.pk_parts.specs.Parts.{Parts, drive_limits, sight_of, frames_of, most_looks, settled_parts, terms_of}
-use Rattle.pk_parts.{specs.Agreeing.DriveOnFlashWith, specs.Agreeing.DriveOnFlash, specs.Finding.IsPlaceIn, specs.Quiet.ReadsOnly, specs.Quiet.ReadsFailing, specs.Quiet.Looks}
 use Rattle.pk_parts.proofs.Unchanging.{reads_more, reads_break, own, for_its_map, looked}
+use Rattle.pk_parts.{specs.Agreeing.DriveOnFlashWith, specs.Agreeing.DriveOnFlash, specs.Finding.IsPlaceIn, specs.Quiet.ReadsOnly, specs.Quiet.ReadsFailing, specs.Quiet.Looks}
 use Rattle.pk_core.{specs.Done.Does, specs.Quiet.ValueThere, specs.Quiet.eleven}
 
 -- ---- the clauses of a command that only reads
@@ -63,14 +63,12 @@ does_reads old new s c reply most reads few few' made is sound answers =
       stands = λ _ shape frames m st. let a = answers shape frames m st in record {
         left = m;
         stepped = a.0;
+        reached = ([], Reached-start old (record old { reads = n }) (CrashFinds shape (change m) old.pages m) refl refl refl refl (refl, inl refl), tt);
         stands = record { shape_is = st.shape_is; frames_is = st.frames_is; limits_is = st.limits_is; map_is = st.map_is };
         bounded = a.1.0;
         held_bounded = a.1.1;
       };
-      found = record {
-        cuts = λ _ shape frames m st. ([], Reached-start old (record old { reads = n }) (CrashFinds shape (command_on old c) old.pages m) refl refl refl refl (refl, inl refl), tt);
-        cuts_stopped = λ e. absurd (yes_no e);
-      };
+      cuts_stopped = λ e. absurd (yes_no e);
       rest = refl;
       reads_are = omega (arith, is, up, few');
       up = omega arith;
@@ -98,19 +96,17 @@ does_unread old new s c most reads few few' faults made is answers =
       stands = λ _ shape frames m st. let a = answers shape frames m st in record {
         left = m;
         stepped = a.0;
+        reached = (
+          [],
+          Reached-start old (record old { reads = n; flash_faults = all; read_faults = unread; failed_at = at })
+              (CrashFinds shape (change m) old.pages m) refl refl refl refl (refl, inl refl),
+          tt,
+        );
         stands = record { shape_is = st.shape_is; frames_is = st.frames_is; limits_is = st.limits_is; map_is = st.map_is };
         bounded = a.1.0;
         held_bounded = a.1.1;
       };
-      found = record {
-        cuts = λ _ shape frames m st. (
-          [],
-          Reached-start old (record old { reads = n; flash_faults = all; read_faults = unread; failed_at = at })
-              (CrashFinds shape (command_on old c) old.pages m) refl refl refl refl (refl, inl refl),
-          tt,
-        );
-        cuts_stopped = λ e. absurd (yes_no e);
-      };
+      cuts_stopped = λ e. absurd (yes_no e);
       rest = refl;
       reads_are = omega (arith, is, up, few');
       up = omega (arith, rose, faults);

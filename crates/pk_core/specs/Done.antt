@@ -2,8 +2,7 @@
 use Rattle.std.specs.Prelude.{◌≡◌, ◌≢◌, ℕ, ◌+◌, ◌≤◌, Bool, true, false, List}
 use Rattle.pk_nvme.{specs.declared.status.TheConstants.UNRECOVERED_ERROR, specs.Command.Command, specs.Reply.Reply}
 use Rattle.pk_nand.{specs.BoardState.BoardState, specs.Calls.Rose, specs.Calls.last_count, specs.Effects.OnlyFlash, specs.Effects.NoFault}
-use Rattle.pk_call.{specs.Sight.Sight, specs.Call.command_on, specs.Meter.reads_after, specs.Seen.reply_of, specs.declared.types.Outcome.Outcome, specs.Exec.ExecStands, specs.Exec.most_installs}
-use Rattle.pk_call.specs.Running.{FoundAfterCrash}
+use Rattle.pk_call.{specs.Sight.Sight, specs.Call.CallGoes, specs.Call.command_on, specs.Meter.reads_after, specs.Seen.reply_of, specs.declared.types.Outcome.Outcome, specs.Exec.ExecStands, specs.Exec.most_installs}
 use Rattle.pk_model.specs.Wear.{roots}
 use Rattle.pk_parts.specs.Parts.{Parts, sight_of}
 use Rattle.pk_core.specs.Agreeing.{DriveOnFlashBetween}
@@ -11,7 +10,7 @@ use Rattle.pk_core.specs.Agreeing.{DriveOnFlashBetween}
 -- A command gave this reply after this many reads, or stopped the drive; drive and board are then what the contract of a drive requires.
 pub record Does (old new : BoardState) (before after : Sight) (c : Command) (reply : Reply) (reads : ℕ) (stopped : Bool) : Type 0 where
   pub stands : stopped ≡ false → ExecStands old new before after c reply reads
-  pub found : FoundAfterCrash old new before (command_on old c) stopped
+  pub cuts_stopped : stopped ≡ true → CallGoes old new before (command_on old c)
   pub rest : OnlyFlash old new
   pub reads_are : new.reads ≡ reads_after old.reads reads
   pub up : old.read_faults ≤ new.read_faults

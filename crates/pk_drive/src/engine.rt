@@ -1,5 +1,5 @@
 //! The trait of a drive over the board that it is handed.
-ghost use Rattle.std.specs.Prelude.{◌≡◌, ◌≤◌, ℕ, [], length, min, false, nat_le, is_err, Some, Option, Ok};
+ghost use Rattle.std.specs.Prelude.{◌≡◌, ◌≤◌, ℕ, [], length, min, true, false, nat_le, is_err, Some, Option, Ok};
 ghost use Rattle.pk_base.specs.Shape.{Shape};
 ghost use Rattle.pk_base.specs.Page.{Flash};
 ghost use Rattle.pk_base.specs.Map.{Map, live};
@@ -11,7 +11,7 @@ ghost use Rattle.pk_model.specs.Spaces.{terms_at};
 ghost use Rattle.pk_model.specs.Wear.{root_number};
 ghost use Rattle.pk_model.specs.declared.wear.TheConstants.{WORN_FROM};
 ghost use Rattle.pk_call.specs.Answering.{AnswersCommand, CountsCalls, SettlesBackground, ShowsItself, WaitsForNothing};
-ghost use Rattle.pk_call.specs.Call.{command_on};
+ghost use Rattle.pk_call.specs.Call.{CallGoes, command_on};
 ghost use Rattle.pk_call.specs.Commit.{AnswersCommit, CountsPrograms, ShowsCommit};
 ghost use Rattle.pk_call.specs.Drive.{CountsMap};
 ghost use Rattle.pk_call.specs.Running.{DriveRuns, CanServe, CanExecute, PassesValue, HasRoomForData, LeavesDrive, FoundAfterCrash};
@@ -47,13 +47,15 @@ pub trait Engine {
             request.now.size value.now }
         requires room { HasRoomForData (shape_of (B.state board.old)) into.old }
 
-        // The drive and the board after it, what it answers, and what a crash within it finds.
+        // The drive and the board after it, what it answers, with what a crash within it finds, and
+        // what that is if it stopped the drive.
         ensures leaves { LeavesDrive (agrees self.new) (sight self.new) (B.state board.old)
             (B.state board.new) result.stopped }
         ensures answers { AnswersCommand (B.state board.old) (B.state board.new) (sight self.old)
             (sight self.new) request.now value.now result into.old into.new }
-        ensures found { FoundAfterCrash (B.state board.old) (B.state board.new) (sight self.old)
-            (command_on (B.state board.old) (command_of request.now value.now)) result.stopped }
+        ensures cuts_stopped { result.stopped ≡ true → CallGoes (B.state board.old)
+            (B.state board.new) (sight self.old) (command_on (B.state board.old)
+            (command_of request.now value.now)) }
 
         // What is counted, how the background settles, what is seen of the drive, and what waits
         // for nothing.

@@ -5,10 +5,10 @@ use Rattle.pk_base.{specs.Shape.Shape, specs.Page.Flash, specs.Mark.all_posted, 
 use Rattle.pk_nvme.specs.Command.{Command}
 use Rattle.pk_nand.{specs.BoardState.BoardState, specs.Operations.after_post, specs.Operations.PostFailed, proofs.Reaching.Reached-start, proofs.Reaching.Reached-post, proofs.Effects.only_then}
 use Rattle.pk_model.{specs.Answer.reply, specs.Answer.map_after, specs.Growth.Reaches, specs.Growth.Goes, specs.Kept.AtMost, specs.Kept.rise, specs.Reading.Holds}
-use Rattle.pk_model.{specs.Run.Exchange, specs.Run.commands, specs.Run.faults, specs.Run.records, specs.Spaces.Terms, specs.Spaces.limits_at}
+use Rattle.pk_model.{specs.Run.Step, specs.Run.Exchange, specs.Run.commands, specs.Run.faults, specs.Run.records, specs.Spaces.Terms, specs.Spaces.limits_at}
 use Rattle.pk_model.proofs.Growing.{weaken, weaken_went, at_end, Reaches-then, Goes-then, Goes-post_failed, GrowsAlong-post, Limited, Reaches-limited, Goes-limited, reached_limits}
 use Rattle.pk_call.specs.Meter.{Meter, meter, Metered}
-use Rattle.pk_serve.{specs.Port.StepCut, specs.Serving.StepWithin, proofs.Answering.reply_other, proofs.Answering.answers}
+use Rattle.pk_serve.{specs.Port.HoldsEither, specs.Port.StepCut, specs.Serving.StepWithin, proofs.Answering.reply_other, proofs.Answering.answers, proofs.Submitting.either_step}
 use Rattle.pk_serve.proofs.Counting.{at_most-zero, at_most-more, at_most-one, commands-push, faults-push, faults-one}
 use Rattle.pk_port.{specs.Asking.KeptSilently, specs.Asking.KeptWord, specs.Asking.Asked, specs.Asking.Ran, specs.Steps.Mounted, specs.Steps.Serves, specs.Steps.Stops}
 
@@ -157,6 +157,15 @@ module _ (shape : Shape) (start : Map) (a : BoardState) (cs : List Command) (old
   seen_cut map same up f q cut =
       let T : Map → Type 0 = λ m. Limited shape old.board (StepCut shape old.terms.limits m c) f q in cut_more shape old.terms start a old.board cs w c new.board.read_faults up f q (subst T same cut)
 
+  -- cuts of a command that was served, by its step
+  served_cut : (x : Exchange) (s : Serves shape old new c x) → Reaches shape old.board new.board (StepCut shape old.terms.limits s.map c)
+  served_cut x s = let C : Command → Type 0 = λ l. Step shape old.terms s.map l x.reply s.left in (
+    s.reached.0,
+    weaken s.reached.0 old.board new.board (HoldsEither shape s.map s.left) (StepCut shape old.terms.limits s.map c)
+        (either_step shape old.terms s.map c x.reply s.left (subst C s.is s.step.0)) s.reached.1,
+    s.reached.2,
+  )
+
   -- one more command was served
   pub asked-next : (x : Exchange) → Serves shape old new c x → Asked shape old.terms start a new.board (cs ++ c ∷ [])
   asked-next x s =
@@ -168,11 +177,11 @@ module _ (shape : Shape) (start : Map) (a : BoardState) (cs : List Command) (old
         left = s.left;
         answered = ran-next shape old.terms start cs (meter a) (meter old.board) w.left w.answered (meter new.board) c x s.left w.rose s.up s.is (subst W same s.step) s.metered;
         held = s.holds;
-        same_limits = reached_limits shape old.board new.board (StepCut shape old.terms.limits s.map c) on_board s.reached ∙ w.same_limits;
+        same_limits = reached_limits shape old.board new.board (HoldsEither shape s.map s.left) on_board s.reached ∙ w.same_limits;
         shape_is = w.shape_is;
         reached = Reaches-then shape more.0 a old.board (KeptSilently shape old.terms start (cs ++ c ∷ []) n) w.shape_is more.1 more.2 new.board
             (Limited shape old.board (StepCut shape old.terms.limits s.map c)) (seen_cut s.map same s.up)
-            (Reaches-limited shape old.board new.board (StepCut shape old.terms.limits s.map c) on_board s.reached);
+            (Reaches-limited shape old.board new.board (StepCut shape old.terms.limits s.map c) on_board (served_cut x s));
         rose = (let up = s.up in let rose = w.rose in omega (arith, up, rose));
         no_stop = s.no_stop ∙ w.no_stop;
         rest = only_then a old.board new.board w.rest s.rest;

@@ -7,7 +7,7 @@ use Rattle.pk_nand.{specs.BoardState.BoardState, specs.BoardState.shape_of, spec
 use Rattle.pk_model.{specs.Spaces.Terms, specs.Spaces.limits_at, specs.Spaces.terms_at, specs.Spaces.limit_of, specs.Spaces.in_space, specs.Growth.Reaches, specs.Growth.Goes, specs.Run.Exchange}
 use Rattle.pk_model.{specs.Reading.reading, specs.Reading.Holds, specs.Wear.is_worn}
 use Rattle.pk_call.{specs.Sight.Sight, specs.Calling.only_looks, specs.Meter.meter, specs.Meter.Metered, specs.Seen.reply_of, specs.declared.types.Outcome.Outcome}
-use Rattle.pk_serve.{specs.Port.StepCut, specs.Serving.StepWithin}
+use Rattle.pk_serve.{specs.Port.HoldsEither, specs.Port.StepCut, specs.Serving.StepWithin}
 use Rattle.pk_host.specs.Port.{PortState, Took}
 use Rattle.pk_port.{specs.declared.halt.Halt.Halt, specs.declared.halt.Halt.TheVariants.Stopped, specs.declared.halt.Halt.TheVariants.Worn}
 
@@ -60,7 +60,7 @@ pub record Serves (shape : Shape) (old new : Mounted) (c : Command) (x : Exchang
   pub left : Map
   pub step : StepWithin shape old.terms map x left
   pub holds : Holds shape new.board.pages left
-  pub reached : Reaches shape old.board new.board (StepCut shape old.terms.limits map c)
+  pub reached : Reaches shape old.board new.board (HoldsEither shape map left)
   pub metered : Metered (meter old.board) x (meter new.board)
   pub up : old.board.read_faults ≤ new.board.read_faults
   pub no_stop : new.board.stop_faults ≡ old.board.stop_faults

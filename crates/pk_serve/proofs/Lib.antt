@@ -11,6 +11,7 @@ pub mod Finishing
 pub mod Commanding
 pub mod Scripts
 pub mod Skipping
+pub mod Reaching
 pub mod Taking
 pub mod Entering
 pub mod Looping

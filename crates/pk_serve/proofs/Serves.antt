@@ -210,7 +210,7 @@ module _ (shape : Shape) (terms : Terms) (start : Map) (a b : BoardState) (drive
 
   -- a command was served
   pub Serving-exec : (c : BoardState) (e : Sight) (cmd : Command) (rep : Reply) (reads taken : ℕ) → taken ≡ length all
-      → Reaches shape b c (CrashFinds shape (command terms.limits cmd) b.pages m) → Executed shape terms drive c e m cmd rep reads → OnlyFlash b c
+      → Reaches shape b c (CrashFinds shape (command terms.limits cmd) b.pages m) → Executed shape terms b drive c e m cmd rep reads → OnlyFlash b c
       → b.read_faults ≤ c.read_faults → (rep.status ≡ 0x88 → Rose b.read_faults c.read_faults) → (rep.status ≢ 0x88 → c.read_faults ≡ b.read_faults)
       → c.stop_faults ≡ b.stop_faults → c.reads ≡ reads_after b.reads reads → roots b < 9223372036854775808 → roots c ≤ roots b + most_installs cmd.opcode cmd.size
       → calls_of c ≤ calls_of b + most_calls_of shape cmd.opcode cmd.size → Next shape terms start a c e (unposted ++ reply_record (suc taken) cmd.cid rep reads) all m cmd

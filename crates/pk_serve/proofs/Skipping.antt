@@ -6,9 +6,9 @@ use Rattle.pk_nvme.{specs.Command.Command, specs.Reply.Reply, specs.Reply.refusa
 use Rattle.pk_nvme.specs.declared.opcode.Opcode.TheVariants.{Store, Retrieve}
 use Rattle.pk_nand.specs.BoardState.{BoardState, shape_or_none}
 use Rattle.pk_model.specs.Answer.{check, is_namespace, is_key_length, fault_of, early, late_of, refused, reply, map_after}
-use Rattle.pk_model.{specs.Run.Step, specs.Growth.Reaches, specs.Growth.Goes, specs.Crashes.CrashFinds, specs.Crashes.command, proofs.Growing.weaken, proofs.Growing.weaken_went}
 use Rattle.pk_model.specs.Spaces.{Terms, limit_of, in_space}
-use Rattle.pk_call.{specs.Sight.Sight, specs.Call.CallReaches, specs.Call.CallGoes, specs.Exec.Executed, specs.Exec.ExecStands, specs.Exec.IsValue}
+use Rattle.pk_model.{specs.Run.Step, specs.Growth.Goes, specs.Crashes.CrashFinds, specs.Crashes.command, proofs.Growing.weaken_went}
+use Rattle.pk_call.{specs.Sight.Sight, specs.Call.CallGoes, specs.Exec.Executed, specs.Exec.ExecStands, specs.Exec.IsValue}
 
 abbrev store_early : ℕ → Shape → ℕ → ℕ → ℕ → Option ℕ
 store_early spaces shape namespace key_len size =
@@ -78,25 +78,15 @@ module _ (old new : BoardState) (before after : Sight) (c : Command) (v : List �
 
   pub stands_value : (rep : Reply) (reads : ℕ) → ExecStands old new before after c rep reads → ExecStands old new before after (record c { value = v }) rep reads
   stands_value rep reads h shape terms m s = elim is [
-    | inl same ↦ (let T : List ℕ → Type 0 = λ x. Executed shape terms before new after m (record c { value = x }) rep reads in subst T (sym same) (h shape terms m s))
+    | inl same ↦ (let T : List ℕ → Type 0 = λ x. Executed shape terms old before new after m (record c { value = x }) rep reads in subst T (sym same) (h shape terms m s))
     | inr large ↦ (let r = refused_both (length terms.limits) shape s.shape_is large in let x = h shape terms m s in record {
       left = x.left;
       stepped = step_too shape terms c (record c { value = v }) r.0 r.1 r.2 m rep x.left x.stepped;
+      reached = x.reached;
       stands = x.stands;
       bounded = λ k. absurd (no_retrieve c.opcode large.0 k);
       held_bounded = λ k. absurd (no_retrieve c.opcode large.0 k);
     })
-  ]
-
-  pub reaches_value : (limits : List ℕ) → CallReaches old new before (command limits c) → CallReaches old new before (command limits (record c { value = v }))
-  reaches_value limits h shape terms m s = elim is [
-    | inl same ↦ (let T : List ℕ → Type 0 = λ x. Reaches shape old new (CrashFinds shape (command limits (record c { value = x })) old.pages m) in subst T (sym same) (h shape terms m s))
-    | inr large ↦ (let r = refused_both (length limits) shape s.shape_is large in let x = h shape terms m s in (
-      x.0,
-      weaken x.0 old new (CrashFinds shape (command limits c) old.pages m) (CrashFinds shape (command limits (record c { value = v })) old.pages m)
-          (cut_too shape (record { frames = terms.frames; limits = limits }) c (record c { value = v }) r.0 r.1 r.2 old.pages m) x.1,
-      x.2,
-    ))
   ]
 
   pub went_value : (limits : List ℕ) → CallGoes old new before (command limits c) → CallGoes old new before (command limits (record c { value = v }))

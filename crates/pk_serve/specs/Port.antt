@@ -7,11 +7,15 @@ use Rattle.pk_nand.{specs.BoardState.BoardState, specs.Calls.Rose, specs.declare
 use Rattle.pk_model.{specs.Answer.map_after, specs.Run.Step, specs.Bounds.most_reads, specs.Reading.Holds, specs.Wear.roots, specs.Growth.Reaches, specs.Growth.Goes, specs.Spaces.Terms}
 use Rattle.pk_call.{specs.Sight.Sight, specs.Drive.HoldsMap, specs.Exec.most_installs, specs.Exec.most_unheld_reads, specs.Meter.reads_after, specs.declared.types.Outcome.Outcome}
 
--- wherever it is cut the flash holds the map before the command or the one after it within these limits
-abbrev pub StepCut : Shape → List ℕ → Map → Command → Flash → List ℕ → Type 0
-StepCut shape limits m c flash posted = (posted ≡ []) × (Holds shape flash m ⊎ Holds shape flash (map_after shape limits m c))
+-- wherever it is cut the flash holds one of these two maps
+abbrev pub HoldsEither : Shape → Map → Map → Flash → List ℕ → Type 0
+HoldsEither shape m left flash posted = (posted ≡ []) × (Holds shape flash m ⊎ Holds shape flash left)
 
--- a command that was answered, with this many pages read for it
+-- the map before the command or the one after it within these limits
+abbrev pub StepCut : Shape → List ℕ → Map → Command → Flash → List ℕ → Type 0
+StepCut shape limits m c flash posted = HoldsEither shape m (map_after shape limits m c) flash posted
+
+-- A command that was answered, with this many pages read for it. Wherever it is cut the flash holds the map before it or the one that its reply says.
 pub record Submitted (shape : Shape) (terms : Terms) (old new : BoardState) (before after : Sight) (m : Map) (c : Command) (reply : Reply) (reads : ℕ) : Type 0 where
   pub left : Map
   pub stepped : Step shape terms m c reply left
@@ -19,7 +23,7 @@ pub record Submitted (shape : Shape) (terms : Terms) (old new : BoardState) (bef
   pub held_bounded : op_of c.opcode ≡ Some Retrieve → reads ≤ most_unheld_reads shape terms before m c
   pub stands : HoldsMap shape terms new after left
   pub holds : Holds shape new.pages left
-  pub reached : Reaches shape old new (StepCut shape terms.limits m c)
+  pub reached : Reaches shape old new (HoldsEither shape m left)
 
 abbrev pub Submits : BoardState → BoardState → Sight → Sight → Command → Reply → ℕ → Type 0
 Submits old new before after c reply reads =

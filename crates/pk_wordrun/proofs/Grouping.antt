@@ -135,7 +135,7 @@ module _ (shape : Shape) (terms : Terms) (start : Map) (a b : BoardState) (drive
 
     -- one more command was served
     pub grouped_next : (e : Sight) (cmd : Command) (rep : Reply) (reads : ℕ)
-        → Reaches shape b c (CrashFinds shape (command terms.limits cmd) b.pages w.left) → Executed shape terms drive c e w.left cmd rep reads → OnlyFlash b c
+        → Reaches shape b c (CrashFinds shape (command terms.limits cmd) b.pages w.left) → Executed shape terms b drive c e w.left cmd rep reads → OnlyFlash b c
         → (rep.status ≡ 0x88 → Rose b.read_faults c.read_faults) → (rep.status ≢ 0x88 → c.read_faults ≡ b.read_faults) → c.stop_faults ≡ b.stop_faults → c.reads ≡ reads_after b.reads reads
         → roots b < 9223372036854775808 → roots c ≤ roots b + most_installs cmd.opcode cmd.size → Grouped shape terms start a c e (all ++ exchange cmd rep reads ∷ [])
     grouped_next e cmd rep reads reached done rest unread sound no_stop read unworn few_roots =

@@ -5,7 +5,7 @@ use Rattle.pk_nand.{specs.BoardState.shape_of, specs.BoardState.shape_or_none, p
 use Rattle.pk_queue.specs.Queue.{bytes_of}
 use Rattle.pk_call.specs.Exec.{IsValue}
 use Rattle.pk_serve.{proofs.Commanding.stops_before, proofs.Commanding.stops_in, proofs.Commanding.serves_all, proofs.Commanding.stops_behind, proofs.Blaming.quiet-then, proofs.Blaming.quiet-flash}
-use Rattle.pk_serve.{proofs.Skipping.stands_value, proofs.Skipping.reaches_value, proofs.Skipping.went_value, proofs.Finishing.keeps_record, proofs.Finishing.breaks_record, proofs.Counting.unworn_few}
+use Rattle.pk_serve.{proofs.Skipping.stands_value, proofs.Reaching.reaches_stands, proofs.Skipping.went_value, proofs.Finishing.keeps_record, proofs.Finishing.breaks_record, proofs.Counting.unworn_few}
 use Rattle.pk_serve.proofs.Parting.{faulted-then, runs_on-then}
 use Rattle.pk_serve.proofs.step.serve_one.Goals as goal
 
@@ -19,7 +19,7 @@ returns-then-outcome-clause-stops g c = λ v is.
     let same : c.args.shape.now ≡ shape_of (g.B.Nand.state c.prepare.new.board) = sym (ap shape_or_none (c.in-Ok.ensures.rest.takes.shape ∙ c.requires.has_room.shape_is)) in
     stops_in _ _ _ _ _ (bytes_of c.args.held.now.heads) _ c.args.entry.now.before _ c.in-Ok.ensures.keeps
     (went_value _ _ _ (g.D.Engine.sight c.exec-outcome.new.self) (command_of c.args.entry.now.request c.args.value.now) v
-    (subst T same is) _ (e.found.cuts_stopped c.if-outcome.true)) e.counts.up _ e.counts.reads (e.counts.stop c.if-outcome.true) e.counts.calls
+    (subst T same is) _ (e.cuts_stopped c.if-outcome.true)) e.counts.up _ e.counts.reads (e.counts.stop c.if-outcome.true) e.counts.calls
 
 pub returns-in-Ok-finish-clause-serves : goal.returns-in-Ok-finish-clause-serves
 returns-in-Ok-finish-clause-serves g c = λ v is.
@@ -28,7 +28,7 @@ returns-in-Ok-finish-clause-serves g c = λ v is.
     let same : c.args.shape.now ≡ shape_of (g.B.Nand.state c.prepare.new.board) = sym (ap shape_or_none (c.in-Ok.ensures.rest.takes.shape ∙ c.requires.has_room.shape_is)) in
     let has = subst T same is in
     serves_all _ _ _ _ _ (bytes_of c.args.held.now.heads) _ c.args.entry.now.before _ c.in-Ok.ensures.keeps _ _ _ (c.args.entry.now.before + 1) refl
-    (reaches_value _ _ _ (g.D.Engine.sight c.exec-outcome.new.self) (command_of c.args.entry.now.request c.args.value.now) v has _ (e.found.cuts c.if-outcome.false))
+    (reaches_stands _ _ _ _ _ _ _ (stands_value _ _ _ _ (command_of c.args.entry.now.request c.args.value.now) v has _ _ (e.answers.stands c.if-outcome.false)))
     (stands_value _ _ _ _ (command_of c.args.entry.now.request c.args.value.now) v has _ _ (e.answers.stands c.if-outcome.false))
     e.leaves.rest e.counts.up (λ h. e.counts.unread h c.if-outcome.false) (λ h. (e.counts.sound h).1) (e.counts.no_stop c.if-outcome.false) e.counts.reads
     (unworn_few (g.B.Nand.state c.args.board.now) (g.B.Nand.state c.prepare.new.board) c.requires.can_serve.unworn c.in-Ok.ensures.rest.installs) e.counts.installs e.counts.calls _ _ _
@@ -43,7 +43,7 @@ returns-in-Err-finish-clause-stops g c = λ v is.
     let same : c.args.shape.now ≡ shape_of (g.B.Nand.state c.prepare.new.board) = sym (ap shape_or_none (c.in-Ok.ensures.rest.takes.shape ∙ c.requires.has_room.shape_is)) in
     let has = subst T same is in
     stops_behind _ _ _ _ _ (bytes_of c.args.held.now.heads) _ c.args.entry.now.before _ c.in-Ok.ensures.keeps _ _ _ (c.args.entry.now.before + 1) refl
-    (reaches_value _ _ _ (g.D.Engine.sight c.exec-outcome.new.self) (command_of c.args.entry.now.request c.args.value.now) v has _ (e.found.cuts c.if-outcome.false))
+    (reaches_stands _ _ _ _ _ _ _ (stands_value _ _ _ _ (command_of c.args.entry.now.request c.args.value.now) v has _ _ (e.answers.stands c.if-outcome.false)))
     (stands_value _ _ _ _ (command_of c.args.entry.now.request c.args.value.now) v has _ _ (e.answers.stands c.if-outcome.false))
     e.leaves.rest e.counts.up (λ h. e.counts.unread h c.if-outcome.false) (λ h. (e.counts.sound h).1) (e.counts.no_stop c.if-outcome.false) e.counts.reads
     (unworn_few (g.B.Nand.state c.args.board.now) (g.B.Nand.state c.prepare.new.board) c.requires.can_serve.unworn c.in-Ok.ensures.rest.installs) e.counts.installs e.counts.calls _ _

@@ -30,8 +30,8 @@ pub returns-in-Some-clause-answers : goal.returns-in-Some-clause-answers
 returns-in-Some-clause-answers g c = rw (← c.self.view_is) (answers_command _ _ _ _ _ _ _ _ (refused g c) c.args.into.now
     (refused_answers c.self.inside.parts (g.B.Nand.state c.args.board.now) c.args.request.now c.args.value.now c.refusal.result c.args.into.now c.in-Some.status (is_refused g c) c.refusal.ensures))
 
-pub returns-in-Some-clause-found : goal.returns-in-Some-clause-found
-returns-in-Some-clause-found g c = rw (← c.self.view_is) (refused g c).executes.does.found
+pub returns-in-Some-clause-cuts_stopped : goal.returns-in-Some-clause-cuts_stopped
+returns-in-Some-clause-cuts_stopped g c = rw (← c.self.view_is) (refused g c).executes.does.cuts_stopped
 
 pub returns-in-Some-clause-counts : goal.returns-in-Some-clause-counts
 returns-in-Some-clause-counts g c = counts_calls _ _ _ _ _ _ _ _ (refused g c)
@@ -87,8 +87,8 @@ returns-in-None-clause-leaves g c = leaves_drive _ _ _ _ _ _ _ _ (ended g c)
 pub returns-in-None-clause-answers : goal.returns-in-None-clause-answers
 returns-in-None-clause-answers g c = rw (← c.self.view_is) (answers_command _ _ _ _ _ _ _ _ (ended g c) c.args.into.now (answered g c))
 
-pub returns-in-None-clause-found : goal.returns-in-None-clause-found
-returns-in-None-clause-found g c = rw (← c.self.view_is) c.perform-outcome.ensures.executes.does.found
+pub returns-in-None-clause-cuts_stopped : goal.returns-in-None-clause-cuts_stopped
+returns-in-None-clause-cuts_stopped g c = rw (← c.self.view_is) c.perform-outcome.ensures.executes.does.cuts_stopped
 
 pub returns-in-None-clause-counts : goal.returns-in-None-clause-counts
 returns-in-None-clause-counts g c = counts_calls _ _ _ _ _ _ _ _ (ended g c)
