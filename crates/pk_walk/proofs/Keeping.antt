@@ -101,8 +101,8 @@ top_stays : (found : Option Entry) (h : Head) → IsSettled h → entry_in (know
 top_stays found None settled = cc
 top_stays found (Some first) settled = refl
 
-module _ (rs : List Kept) (arena : Frames) (active frozen : List Entry) (shape : Shape) (old new : BoardState)
-    (w : Walk) (t : Tops) (ds : List Cursor) (at : Learned rs arena active frozen shape old new w t ds) where
+module _ {rs : List Kept} {arena : Frames} {active frozen : List Entry} {shape : Shape} {old new : BoardState}
+    {w : Walk} {t : Tops} {ds : List Cursor} (at : Learned rs arena active frozen shape old new w t ds) where
   -- all entries are known after it
   pub learned_settled : AllByRecursion IsSettled (heads_in t ds)
   learned_settled = (
@@ -111,9 +111,9 @@ module _ (rs : List Kept) (arena : Frames) (active frozen : List Entry) (shape :
   )
 
   -- and what was kept holds still
-  pub learned_kept : (k : RustKeptOrders) → length w.cursors ≡ length ds → (ess : List (List Entry))
-      → RunsOnFlash old.pages arena rs ess → FollowEach old.pages rs ess w.position w.cursors → AreKept w.tops w.cursors k → AreKept t ds k
-  learned_kept k same ess s f kept =
+  pub learned_kept : (k : RustKeptOrders) → length w.cursors ≡ length ds → (ess : List (List Entry)) × RunsOnFlash old.pages arena rs ess × FollowEach old.pages rs ess w.position w.cursors
+      → AreKept w.tops w.cursors k → AreKept t ds k
+  learned_kept k same (ess, s, f) kept =
       each_stays (w.tops.active ∷ []) (t.active ∷ []) (w.tops.frozen ∷ heads_of w.cursors) (t.frozen ∷ heads_of ds) (as_list k)
       (λ settled. ap (λ (x : Tops). entry_in x.active) at.known ∙ top_stays _ w.tops.active settled, tt) (
         λ settled. ap (λ (x : Tops). entry_in x.frozen) at.known ∙ top_stays _ w.tops.frozen settled,

@@ -2,13 +2,14 @@
 use Rattle.std.proofs.Common.{◌≡◌, ℕ, zero, suc, ◌+◌, ◌-◌, ◌<◌, refl, sym, ap, subst, ◌∙◌, arith, List, [], ◌∷◌, length, slice_get, slice_set, slice_index_or, Option, Some}
 use Rattle.std.specs.List.{AllByRecursion}
 use Rattle.pk_base.{specs.Shape.Shape, specs.Entry.Entry, specs.Page.Flash}
-use Rattle.pk_nand.{specs.BoardState.BoardState, specs.Calls.IsReady, specs.Operations.ReadFailed, specs.Counts.after_reads}
+use Rattle.pk_nand.{specs.declared.types.Fault.Fault, specs.BoardState.BoardState, specs.Calls.IsReady, specs.Operations.ReadFailed, specs.Counts.after_reads}
 use Rattle.pk_pin.specs.Frames.{Frames}
 use Rattle.pk_run.specs.Kept.{Kept, RunOnFlash, empty}
 use Rattle.pk_level.{specs.Levels.Levels, specs.Levels.IsLevels, specs.Levels.RunsOnFlash, specs.Levels.run_of, proofs.Looking.stands_at, proofs.Looking.of_level_at, proofs.Looking.reads_more}
-use Rattle.pk_walk.{specs.declared.position.Position.Position, specs.Steps.GoOn, specs.Steps.HasNone, specs.Steps.IsKnown, specs.Steps.ShowsEach}
+use Rattle.pk_walk.specs.declared.position.Position.{Position}
+use Rattle.pk_walk.specs.Steps.{FailsToSeek, GoOn, HasNone, IsKnown, MaySeek, SeeksOn, ShowsEach, ShowsIn}
 use Rattle.pk_walk.specs.Walking.{Cursor, AreOfShape, Follows, FollowEach, HasPassed, Reads, ReadsAll, ReadsFail, SkipsNoPage, read_of, pages_read, most_read}
-use Rattle.pk_walk.proofs.Seeking.{Reads-none, Reads-more, Reads-pages, ReadsAll-none, ReadsAll-more, one_list}
+use Rattle.pk_walk.proofs.Seeking.{Reads-none, Reads-more, Reads-pages, ReadsAll-none, ReadsAll-more, one_of_each}
 
 same_run : (x y : Kept) → ◌≡◌ {A = Option Kept} (Some x) (Some y) → x ≡ y
 same_run x y e = cc
@@ -77,10 +78,11 @@ index_is (x ∷ rs) zero r h = refl
 index_is (x ∷ rs) (suc i) r h = index_is rs i r (omega (arith, h))
 
 -- the run of a level
-pub level_is : (levels : Levels) (i : ℕ) → IsLevels levels → i < 4 → slice_get levels.runs i ≡ Some (run_of levels (suc i))
-level_is levels i is h =
+pub run_at : {levels : Levels} → IsLevels levels → (i : ℕ) → i < 4 → {r : Kept} → r ≡ run_of levels (suc i) → slice_get levels.runs i ≡ Some r
+run_at {levels} is i h {r} same =
     let here : i ≡ suc i - 1 = omega arith in
     index_is levels.runs i (empty levels.shape (suc i)) (omega (arith, h, is.four)) ∙ ap (λ (k : ℕ). Some (slice_index_or levels.runs k (empty levels.shape (suc i)))) here
+    ∙ ap (λ (x : Kept). Some x) (sym same)
 
 -- ---- the search
 
@@ -94,33 +96,24 @@ pub record Rows (levels : Levels) (arena : Frames) (position : Position) (old no
   pub reads : Reads (pages_read levels.runs first) (pages_read levels.runs cs) old now
   pub all : SkipsNoPage position → AllByRecursion HasPassed first → AllByRecursion HasPassed cs × ReadsAll (pages_read levels.runs first) (pages_read levels.runs cs) old now
 
-pub Rows-start : (levels : Levels) (arena : Frames) (position : Position) (old : BoardState) (cs : List Cursor) (ess : List (List Entry)) → IsReady old levels.shape → AreOfShape levels.shape cs
-    → RunsOnFlash old.pages arena levels.runs ess → FollowEach old.pages levels.runs ess position cs → Rows levels arena position old old cs cs
-Rows-start levels arena position old cs ess ready shape stand follow = record {
-  ess = ess;
-  stand = stand;
-  follow = follow;
+pub Rows-start : (levels : Levels) (arena : Frames) (position : Position) (old : BoardState) (cs : List Cursor) → IsReady old levels.shape → AreOfShape levels.shape cs
+    → (ess : List (List Entry)) × RunsOnFlash old.pages arena levels.runs ess × FollowEach old.pages levels.runs ess position cs → Rows levels arena position old old cs cs
+Rows-start levels arena position old cs ready shape follow = record {
+  ess = follow.0;
+  stand = follow.1;
+  follow = follow.2;
   shape = shape;
   ready = ready;
   reads = Reads-none (pages_read levels.runs cs) old;
   all = λ none before. (before, ReadsAll-none (pages_read levels.runs cs) old);
 }
 
-module _ (levels : Levels) (arena : Frames) (position : Position) (old now : BoardState) (first cs : List Cursor) (at : Rows levels arena position old now first cs) where
+module _ {levels : Levels} {arena : Frames} {position : Position} {old now : BoardState} {first cs : List Cursor} (at : Rows levels arena position old now first cs) where
   abbrev same_pages : now.pages ≡ old.pages
   same_pages = Reads-pages _ _ old now at.reads
 
-  -- the runs have one list each
-  pub one_each : (rs : List Kept) (flash : Flash) (xss yss : List (List Entry)) → RunsOnFlash flash arena rs xss → RunsOnFlash flash arena rs yss → xss ≡ yss
-  one_each [] flash [] [] s t = refl
-  one_each [] flash [] (ys ∷ yss) s t = absurd t
-  one_each [] flash (xs ∷ xss) yss s t = absurd s
-  one_each (r ∷ rs) flash [] yss s t = absurd s
-  one_each (r ∷ rs) flash (xs ∷ xss) [] s t = absurd t
-  one_each (r ∷ rs) flash (xs ∷ xss) (ys ∷ yss) s t = λ i. one_list r flash arena xs ys s.0 t.0 i ∷ one_each rs flash xss yss s.1 t.1 i
-
   follow_any : (ess : List (List Entry)) → RunsOnFlash old.pages arena levels.runs ess → FollowEach old.pages levels.runs ess position cs
-  follow_any ess s = subst (λ (xss : List (List Entry)). FollowEach old.pages levels.runs xss position cs) (one_each levels.runs old.pages at.ess ess at.stand s) at.follow
+  follow_any ess s = subst (λ (xss : List (List Entry)). FollowEach old.pages levels.runs xss position cs) (one_of_each old.pages arena levels.runs at.ess ess at.stand s) at.follow
 
   pub Rows-goes_on : GoOn old.pages arena levels.shape levels.runs position first cs
   Rows-goes_on = record { follow = follow_any; of_shape = at.shape; passed = λ none before. (at.all none before).0 }
@@ -129,78 +122,84 @@ module _ (levels : Levels) (arena : Frames) (position : Position) (old now : Boa
       → ShowsEach levels.runs position old now first cs
   Rows-shows known ended = record { known = known; reads = at.reads; all = λ none before. (at.all none before).1; ended = ended }
 
-  module _ (i : ℕ) (r : Kept) (c : Cursor) (run_is : slice_get levels.runs i ≡ Some r) (cursor_is : slice_get cs i ≡ Some c) where
-    -- what the search in one run asks
-    pub row_ready : IsLevels levels → IsReady now r.shape
-    row_ready is = subst (IsReady now) (sym (of_level_at levels.shape levels.pinned 1 levels.runs i r is.each run_is).same_shape) at.ready
+  -- the run of a level and its cursor
+  module _ (is : IsLevels levels) (i : ℕ) (less : i < 4) {r : Kept} {c : Cursor} (run_is : r ≡ run_of levels (suc i)) (cursor_is : slice_get cs i ≡ Some c) where
+    abbrev here : slice_get levels.runs i ≡ Some r
+    here = run_at is i less run_is
 
-    pub row_shape : IsLevels levels → c.shape ≡ r.shape
-    row_shape is = shape_at levels.shape cs i c at.shape cursor_is ∙ sym (of_level_at levels.shape levels.pinned 1 levels.runs i r is.each run_is).same_shape
+    same_shape : r.shape ≡ levels.shape
+    same_shape = (of_level_at levels.shape levels.pinned 1 levels.runs i r is.each here).same_shape
 
     own : (es : List Entry) × (slice_get at.ess i ≡ Some es) × RunOnFlash r old.pages arena es
-    own = stands_at old.pages arena levels.runs at.ess i r at.stand run_is
+    own = stands_at old.pages arena levels.runs at.ess i r at.stand here
 
-    pub row_follows : (es : List Entry) × RunOnFlash r now.pages arena es × Follows now.pages r es position c
-    row_follows =
-        let back = sym same_pages in (
-          own.0,
-          subst (λ (flash : Flash). RunOnFlash r flash arena own.0) back own.2,
-          subst (λ (flash : Flash). Follows flash r own.0 position c) back (follow_at old.pages position levels.runs at.ess cs i r own.0 c at.follow run_is own.1 cursor_is),
-        )
+    -- it may be searched
+    pub Rows-may : MaySeek r arena position now c
+    Rows-may = record {
+      ready = subst (IsReady now) (sym same_shape) at.ready;
+      shape_is = shape_at levels.shape cs i c at.shape cursor_is ∙ sym same_shape;
+      entries = own.0;
+      stands = subst (λ (flash : Flash). RunOnFlash r flash arena own.0) (sym same_pages) own.2;
+      follows = subst (λ (flash : Flash). Follows flash r own.0 position c) (sym same_pages)
+          (follow_at old.pages position levels.runs at.ess cs i r own.0 c at.follow here own.1 cursor_is);
+    }
 
-    -- what it leaves
-    module _ (next : BoardState) (d : Cursor) (moved : (es : List Entry) → RunOnFlash r now.pages arena es → Follows now.pages r es position d) (same : d.shape ≡ c.shape) where
+    -- if a read failed, the cursor is where it came to
+    pub Rows-failed : {next : BoardState} {d : Cursor} {fault : Fault} → FailsToSeek r now next c d fault
+        → ReadsFail (pages_read levels.runs first) (pages_read levels.runs (slice_set cs i d)) old next
+    Rows-failed {next} {d} fails =
+        let (k, page, few, failed) = fails.reads in
+        let e = read_set levels.runs cs i r c d here cursor_is in
+        let h = at.reads.1 in
+        let all = ap (λ (b : BoardState). after_reads k b) at.reads.2 ∙ reads_more k at.reads.0 old in
+        (k + at.reads.0, page, omega (arith, e, h, few), subst (λ (b : BoardState). ReadFailed b next page) all failed)
+
+    -- what the search leaves
+    module _ {next : BoardState} {d : Cursor} (on : SeeksOn r arena position now next c d) where
       follow_next : FollowEach old.pages levels.runs at.ess position (slice_set cs i d)
       follow_next =
-          let there = moved own.0 (subst (λ (flash : Flash). RunOnFlash r flash arena own.0) (sym same_pages) own.2) in
-          follow_set old.pages position levels.runs at.ess cs i r own.0 d at.follow run_is own.1 (subst (λ (flash : Flash). Follows flash r own.0 position d) same_pages there)
+          let there = on.goes_on.follows own.0 (subst (λ (flash : Flash). RunOnFlash r flash arena own.0) (sym same_pages) own.2) in
+          follow_set old.pages position levels.runs at.ess cs i r own.0 d at.follow here own.1 (subst (λ (flash : Flash). Follows flash r own.0 position d) same_pages there)
 
       shape_next : AreOfShape levels.shape (slice_set cs i d)
-      shape_next = shape_set levels.shape cs i d at.shape (same ∙ shape_at levels.shape cs i c at.shape cursor_is)
+      shape_next = shape_set levels.shape cs i d at.shape (on.goes_on.shape ∙ shape_at levels.shape cs i c at.shape cursor_is)
 
-      passed_next : (SkipsNoPage position → HasPassed c → HasPassed d) → SkipsNoPage position → AllByRecursion HasPassed first → AllByRecursion HasPassed (slice_set cs i d)
-      passed_next passed none before =
+      passed_next : SkipsNoPage position → AllByRecursion HasPassed first → AllByRecursion HasPassed (slice_set cs i d)
+      passed_next none before =
           let far = (at.all none before).0 in
-          passed_set cs i d far (passed none (passed_at cs i c far cursor_is))
+          passed_set cs i d far (on.goes_on.passed none (passed_at cs i c far cursor_is))
 
-      all_next : (SkipsNoPage position → HasPassed c → ReadsAll (read_of r.leases c.loaded) (read_of r.leases d.loaded) now next) → SkipsNoPage position → AllByRecursion HasPassed first
-          → ReadsAll (pages_read levels.runs first) (pages_read levels.runs (slice_set cs i d)) old next
-      all_next every none before =
-          let far = at.all none before in
-          let own = every none (passed_at cs i c far.0 cursor_is) in
-          let e = read_set levels.runs cs i r c d run_is cursor_is in
-          let more : ReadsAll (pages_read levels.runs cs) (pages_read levels.runs (slice_set cs i d)) now next = (own.0, (let h = own.1 in omega (arith, e, h)), own.2) in
-          ReadsAll-more _ _ _ old now next far.1 more
-
-      pub Rows-next : IsLevels levels → IsReady next r.shape → Reads (read_of r.leases c.loaded) (read_of r.leases d.loaded) now next → (SkipsNoPage position → HasPassed c → HasPassed d)
-          → (SkipsNoPage position → HasPassed c → ReadsAll (read_of r.leases c.loaded) (read_of r.leases d.loaded) now next) → Rows levels arena position old next first (slice_set cs i d)
-      Rows-next is ready reads passed every =
-          let e = read_set levels.runs cs i r c d run_is cursor_is in
-          let more : Reads (pages_read levels.runs cs) (pages_read levels.runs (slice_set cs i d)) now next = (reads.0, (let h = reads.1 in omega (arith, e, h)), reads.2) in
-          record {
-            ess = at.ess;
-            stand = at.stand;
-            follow = follow_next;
-            shape = shape_next;
-            ready = subst (IsReady next) (of_level_at levels.shape levels.pinned 1 levels.runs i r is.each run_is).same_shape ready;
-            reads = Reads-more _ _ _ old now next at.reads more;
-            all = λ none before. (passed_next passed none before, all_next every none before);
-          }
-
-      -- if a read failed, the cursors go on from where they are
-      pub Rows-stays : (SkipsNoPage position → HasPassed c → HasPassed d) → GoOn old.pages arena levels.shape levels.runs position first (slice_set cs i d)
-      Rows-stays passed = record {
-        follow = λ ess s. subst (λ (xss : List (List Entry)). FollowEach old.pages levels.runs xss position (slice_set cs i d)) (one_each levels.runs old.pages at.ess ess at.stand s) follow_next;
+      -- the cursors go on in any case
+      pub Rows-stays : GoOn old.pages arena levels.shape levels.runs position first (slice_set cs i d)
+      Rows-stays = record {
+        follow = λ ess s. subst (λ (xss : List (List Entry)). FollowEach old.pages levels.runs xss position (slice_set cs i d))
+            (one_of_each old.pages arena levels.runs at.ess ess at.stand s) follow_next;
         of_shape = shape_next;
-        passed = passed_next passed;
+        passed = passed_next;
       }
 
-      pub Rows-failed : ReadsFail (read_of r.leases c.loaded) (read_of r.leases d.loaded) now next → ReadsFail (pages_read levels.runs first) (pages_read levels.runs (slice_set cs i d)) old next
-      Rows-failed (k, page, few, failed) =
-          let e = read_set levels.runs cs i r c d run_is cursor_is in
-          let h = at.reads.1 in
-          let all = ap (λ (b : BoardState). after_reads k b) at.reads.2 ∙ reads_more k at.reads.0 old in
-          (k + at.reads.0, page, omega (arith, e, h, few), subst (λ (b : BoardState). ReadFailed b next page) all failed)
+      module _ (shows : ShowsIn r position now next c d) where
+        all_next : SkipsNoPage position → AllByRecursion HasPassed first → ReadsAll (pages_read levels.runs first) (pages_read levels.runs (slice_set cs i d)) old next
+        all_next none before =
+            let far = at.all none before in
+            let own = shows.all none (passed_at cs i c far.0 cursor_is) in
+            let e = read_set levels.runs cs i r c d here cursor_is in
+            let more : ReadsAll (pages_read levels.runs cs) (pages_read levels.runs (slice_set cs i d)) now next = (own.0, (let h = own.1 in omega (arith, e, h)), own.2) in
+            ReadsAll-more _ _ _ old now next far.1 more
+
+        pub Rows-next : Rows levels arena position old next first (slice_set cs i d)
+        Rows-next =
+            let e = read_set levels.runs cs i r c d here cursor_is in
+            let more : Reads (pages_read levels.runs cs) (pages_read levels.runs (slice_set cs i d)) now next = (shows.reads.0, (let h = shows.reads.1 in omega (arith, e, h)), shows.reads.2) in
+            record {
+              ess = at.ess;
+              stand = at.stand;
+              follow = follow_next;
+              shape = shape_next;
+              ready = subst (IsReady next) same_shape on.ready;
+              reads = Reads-more _ _ _ old now next at.reads more;
+              all = λ none before. (passed_next none before, all_next none before);
+            }
 
 -- ---- none remains
 

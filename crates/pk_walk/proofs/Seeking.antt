@@ -1,12 +1,12 @@
 -- A search in a run for the first wanted entry: what holds at each step of it, and what it finds.
-use Rattle.std.proofs.Common.{◌≡◌, ℕ, suc, ◌+◌, ◌/◌, ◌%◌, ◌<◌, ◌≤◌, refl, sym, ap, subst, ◌∙◌, arith, Bool, true, List, drop, length, slice_get, Some, None}
+use Rattle.std.proofs.Common.{◌≡◌, ℕ, suc, ◌+◌, ◌/◌, ◌%◌, ◌<◌, ◌≤◌, refl, sym, ap, subst, ◌∙◌, arith, Bool, true, List, [], ◌∷◌, drop, length, slice_get, Some, None}
 use Rattle.pk_base.{specs.Shape.IsShape, specs.Shape.page_entries, specs.Entry.Entry, specs.Seen.entry as seen, specs.declared.entry.Entry.Entry as RustEntry, proofs.Logic.ok_same}
 use Rattle.pk_base.specs.Page.{Flash, page_at, whole}
 use Rattle.pk_meta.specs.PageChecks.{IsMetaPage}
 use Rattle.pk_nand.{specs.BoardState.BoardState, specs.Operations.ReadFailed, specs.Counts.after_reads}
 use Rattle.pk_pin.specs.Frames.{Frames}
 use Rattle.pk_run.specs.Kept.{Kept, IsKept, RunOnFlash, page_of}
-use Rattle.pk_level.proofs.Looking.{reads_more}
+use Rattle.pk_level.{specs.Levels.RunsOnFlash, proofs.Looking.reads_more}
 use Rattle.pk_walk.{specs.declared.position.Position.Position, specs.Visible.is_wanted, specs.Visible.wanted, specs.Visible.first_of, proofs.Wanting.first_here, proofs.Wanting.none_here}
 use Rattle.pk_walk.specs.Walking.{Cursor, Follows, HasPassed, Reads, ReadsAll, ReadsFail, SkipsNoPage, read_of}
 use Rattle.pk_walk.specs.Steps.{FailsToShow, FindsIn, GoesOn, IsAt, CursorLooks, CursorMoves, StaysAt, bytes_in}
@@ -51,6 +51,15 @@ ReadsFail-rest a b old new (k, page, few, failed) =
 
 pub one_list : (r : Kept) (flash : Flash) (arena : Frames) (xs ys : List Entry) → RunOnFlash r flash arena xs → RunOnFlash r flash arena ys → xs ≡ ys
 one_list r flash arena xs ys s t = ok_same xs ys (sym s.read ∙ t.read)
+
+-- of several runs
+pub one_of_each : (flash : Flash) (arena : Frames) (rs : List Kept) (xss yss : List (List Entry)) → RunsOnFlash flash arena rs xss → RunsOnFlash flash arena rs yss → xss ≡ yss
+one_of_each flash arena [] [] [] s t = refl
+one_of_each flash arena [] [] (ys ∷ yss) s t = absurd t
+one_of_each flash arena [] (xs ∷ xss) yss s t = absurd s
+one_of_each flash arena (r ∷ rs) [] yss s t = absurd s
+one_of_each flash arena (r ∷ rs) (xs ∷ xss) [] s t = absurd t
+one_of_each flash arena (r ∷ rs) (xs ∷ xss) (ys ∷ yss) s t = λ i. one_list r flash arena xs ys s.0 t.0 i ∷ one_of_each flash arena rs xss yss s.1 t.1 i
 
 -- ---- the search
 

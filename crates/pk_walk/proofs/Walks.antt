@@ -1,8 +1,8 @@
 -- A walk over all lists: what a step leaves, and what remains after several.
 use Rattle.std.proofs.Common.{◌≡◌, ℕ, suc, ◌+◌, ◌<◌, ◌≤◌, refl, sym, ap, subst, ◌∙◌, arith, Bool, true, false, if◌then◌else◌, T, is_some, option_map, List, [], ◌∷◌, ◌++◌, length, drop, Option, Some}
 use Rattle.std.proofs.Common.{None, Result, Ok, Err}
-use Rattle.std.{specs.List.AllByRecursion, specs.List.flat_map, specs.Ordering.is_eq, specs.Ordering.is_gt, specs.FinMap.Entries.is_sorted}
 use Rattle.std.specs.declared.cmp.Ordering.TheVariants.{Less, Equal, Greater}
+use Rattle.std.{specs.List.AllByRecursion, specs.List.flat_map, specs.Ordering.is_eq, specs.Ordering.is_gt, specs.FinMap.Entries.is_sorted}
 use Rattle.pk_base.{specs.Key.Key, specs.Key.key_cmp, specs.Shape.Shape, specs.Entry.Entry, specs.Entry.Place, specs.Entry.key_of, specs.Seen.entry as seen, specs.Firsts.firsts, specs.Refusal.Refusal}
 use Rattle.pk_base.{specs.declared.entry.Entry.Entry as RustEntry, specs.Page.Flash, specs.Page.page_at, proofs.KeyLemmas.firsts_sorted, specs.declared.sizes.TheConstants.MOST_SPACES}
 use Rattle.pk_meta.specs.Run.{run}
@@ -17,10 +17,10 @@ use Rattle.pk_walk.specs.Heads.{Head, Shows, head_after, entry_in, held, known_a
 use Rattle.pk_walk.specs.Walking.{Cursor, Tops, Walk, IsWalk, AreOfShape, FollowEach, ShowBoth, cursors_behind, none_known, tops_behind, HasPassed, IsLeft, WalkGives, Passes, Reads, ReadsAll}
 use Rattle.pk_walk.specs.Walking.{ReadsFail, SkipsNoPage, SkipsNone, all_left, all_at_start, read_of, pages_read, most_read}
 use Rattle.pk_walk.specs.Steps.{AreKnown, Comes, GoBehind, GoOn, HasNone, IsKnown, ShowsEach, WalksOn, first_left, heads_in, heads_of}
-use Rattle.pk_walk.{proofs.Merging.EachSorted, proofs.Merging.first_of_lists, proofs.Leasts.NotBelow, proofs.Leasts.NoneBelow, proofs.Leasts.none_below}
 use Rattle.pk_walk.proofs.Wanting.{above_is_narrower, behind_first, first_wanted, narrowed, none_here, none_wanted, placed_wanted}
 use Rattle.pk_walk.proofs.Following.{Follows-above, Follows-start}
-use Rattle.pk_walk.proofs.Seeking.{Reads-none, Reads-more, Reads-pages, ReadsAll-none, ReadsAll-more, no_answer, one_list}
+use Rattle.pk_walk.proofs.Seeking.{Reads-none, Reads-more, Reads-pages, ReadsAll-none, ReadsAll-more, no_answer, one_of_each}
+use Rattle.pk_walk.{proofs.Merging.EachSorted, proofs.Merging.first_of_lists, proofs.Leasts.NotBelow, proofs.Leasts.NoneBelow, proofs.Leasts.none_below}
 
 -- ---- lists of runs that match the flash
 
@@ -29,14 +29,6 @@ each_rises flash arena [] [] s = tt
 each_rises flash arena [] (es ∷ ess) s = absurd s
 each_rises flash arena (r ∷ rs) [] s = absurd s
 each_rises flash arena (r ∷ rs) (es ∷ ess) s = (s.0.rising, each_rises flash arena rs ess s.1)
-
-pub one_of_each : (flash : Flash) (arena : Frames) (rs : List Kept) (xss yss : List (List Entry)) → RunsOnFlash flash arena rs xss → RunsOnFlash flash arena rs yss → xss ≡ yss
-one_of_each flash arena [] [] [] s t = refl
-one_of_each flash arena [] [] (ys ∷ yss) s t = absurd t
-one_of_each flash arena [] (xs ∷ xss) yss s t = absurd s
-one_of_each flash arena (r ∷ rs) [] yss s t = absurd s
-one_of_each flash arena (r ∷ rs) (xs ∷ xss) [] s t = absurd t
-one_of_each flash arena (r ∷ rs) (xs ∷ xss) (ys ∷ yss) s t = λ i. one_list r flash arena xs ys s.0 t.0 i ∷ one_of_each flash arena rs xss yss s.1 t.1 i
 
 abbrev pub read_entries : Result (List Entry) Refusal → List Entry
 read_entries (Ok es) = es
@@ -202,8 +194,8 @@ pub record Learned (rs : List Kept) (arena : Frames) (active frozen : List Entry
   pub down : T (is_sorted key_cmp frozen)
   pub many : length rs ≡ length ds
 
-module _ (rs : List Kept) (arena : Frames) (active frozen : List Entry) (shape : Shape) (old new : BoardState)
-    (w : Walk) (t : Tops) (ds : List Cursor) (at : Learned rs arena active frozen shape old new w t ds) where
+module _ {rs : List Kept} {arena : Frames} {active frozen : List Entry} {shape : Shape} {old new : BoardState}
+    {w : Walk} {t : Tops} {ds : List Cursor} (at : Learned rs arena active frozen shape old new w t ds) where
   tops_now : ShowBoth active frozen w.position t
   tops_now = subst (ShowBoth active frozen w.position) (sym at.known) (shows_known active w.position w.tops.active at.before.0, shows_known frozen w.position w.tops.frozen at.before.1)
 
@@ -386,7 +378,7 @@ pub record Walking (rs : List Kept) (arena : Frames) (active frozen : List Entry
   pub reads : Reads (pages_read rs first.cursors) (pages_read rs w.cursors) old now
   pub all : SkipsNone first → SkipsNone w × ReadsAll (pages_read rs first.cursors) (pages_read rs w.cursors) old now
 
-module _ (rs : List Kept) (arena : Frames) (active frozen : List Entry) (shape : Shape) (old : BoardState) (first : Walk) where
+module _ {rs : List Kept} {arena : Frames} {active frozen : List Entry} {shape : Shape} {old : BoardState} {first : Walk} where
   pub Walking-start : (rest : List (Key × Place)) → IsReady old shape → IsLeft first old.pages arena rs active frozen rest → Walking rs arena active frozen shape old old first first
   Walking-start rest ready left = record {
     ess = left.ess;
@@ -400,7 +392,7 @@ module _ (rs : List Kept) (arena : Frames) (active frozen : List Entry) (shape :
     all = λ none. (none, ReadsAll-none (pages_read rs first.cursors) old);
   }
 
-  module _ (now : BoardState) (w : Walk) (at : Walking rs arena active frozen shape old now first w) where
+  module _ {now : BoardState} {w : Walk} (at : Walking rs arena active frozen shape old now first w) where
     abbrev same_pages : now.pages ≡ old.pages
     same_pages = Reads-pages _ _ old now at.reads
 
@@ -414,28 +406,25 @@ module _ (rs : List Kept) (arena : Frames) (active frozen : List Entry) (shape :
     lists = active ∷ frozen ∷ at.ess
 
     -- if the step skips no page, neither do all of them
-    pub Walking-all : (next : BoardState) (v : Walk) → (SkipsNone w → SkipsNone v) → (SkipsNone w → ReadsAll (pages_read rs w.cursors) (pages_read rs v.cursors) now next)
+    pub Walking-all : {next : BoardState} {v : Walk} {a : Option RustEntry} → Comes rs arena active frozen now next w v a → WalksOn now.pages arena rs active frozen w v
         → SkipsNone first → SkipsNone v × ReadsAll (pages_read rs first.cursors) (pages_read rs v.cursors) old next
-    Walking-all next v skips every none =
+    Walking-all {next} comes on none =
         let far = at.all none in
-        (skips far.0, ReadsAll-more _ _ _ old now next far.1 (every far.0))
+        (on.skips_none far.0, ReadsAll-more _ _ _ old now next far.1 (comes.exact far.0))
 
     -- one more entry, of a deleted key
-    pub Walking-gone : (next : BoardState) (v : Walk) (e : RustEntry) → is_some (seen e).1 ≡ false → v.shape ≡ w.shape → IsReady next shape
-        → ((ess : List (List Entry)) → RunsOnFlash now.pages arena rs ess → Passes (Some e) (all_left w.position (active ∷ frozen ∷ ess)) (all_left v.position (active ∷ frozen ∷ ess)))
-        → ((ess : List (List Entry)) → RunsOnFlash now.pages arena rs ess → FollowEach now.pages rs ess v.position v.cursors × ShowBoth active frozen v.position v.tops)
-        → Reads (pages_read rs w.cursors) (pages_read rs v.cursors) now next → (SkipsNone w → SkipsNone v) → (SkipsNone w → ReadsAll (pages_read rs w.cursors) (pages_read rs v.cursors) now next)
-        → Walking rs arena active frozen shape old next first v
-    Walking-gone next v e gone same ready passes follow reads skips every = record {
+    pub Walking-gone : {next : BoardState} {v : Walk} {e : RustEntry} → Comes rs arena active frozen now next w v (Some e) → WalksOn now.pages arena rs active frozen w v
+        → is_some (seen e).1 ≡ false → IsReady next shape → Walking rs arena active frozen shape old next first v
+    Walking-gone {next} {v} {e} comes on gone ready = record {
       ess = at.ess;
       stand = at.stand;
-      follow = subst (λ (flash : Flash). FollowEach flash rs at.ess v.position v.cursors) same_pages (follow at.ess stand_now).0;
-      tops = (follow at.ess stand_now).1;
-      left = sym (passed_gone (all_left w.position lists) (all_left v.position lists) (passes at.ess stand_now)) ∙ at.left;
-      same_shape = same ∙ at.same_shape;
+      follow = subst (λ (flash : Flash). FollowEach flash rs at.ess v.position v.cursors) same_pages (on.follow at.ess stand_now).0;
+      tops = (on.follow at.ess stand_now).1;
+      left = sym (passed_gone (all_left w.position lists) (all_left v.position lists) (comes.passes at.ess stand_now)) ∙ at.left;
+      same_shape = on.same_shape ∙ at.same_shape;
       ready = ready;
-      reads = Reads-more _ _ _ old now next at.reads reads;
-      all = Walking-all next v skips every;
+      reads = Reads-more _ _ _ old now next at.reads comes.reads;
+      all = Walking-all comes on;
     }
       where
         no_place : (x : Entry) → is_some x.1 ≡ false → (xs : List Entry) → placed (x ∷ xs) ≡ placed xs
@@ -467,16 +456,14 @@ module _ (rs : List Kept) (arena : Frames) (active frozen : List Entry) (shape :
     }
 
     -- one more entry, of a key that exists
-    pub Walking-gives : (next : BoardState) (v : Walk) (e : RustEntry) → is_some (seen e).1 ≡ true → next.pages ≡ now.pages
-        → ((ess : List (List Entry)) → RunsOnFlash now.pages arena rs ess → Passes (Some e) (all_left w.position (active ∷ frozen ∷ ess)) (all_left v.position (active ∷ frozen ∷ ess)))
-        → ((ess : List (List Entry)) → RunsOnFlash now.pages arena rs ess → FollowEach now.pages rs ess v.position v.cursors × ShowBoth active frozen v.position v.tops)
-        → (rest : List (Key × Place)) → IsLeft first old.pages arena rs active frozen rest
+    pub Walking-gives : {next : BoardState} {v : Walk} {e : RustEntry} → Comes rs arena active frozen now next w v (Some e) → WalksOn now.pages arena rs active frozen w v
+        → is_some (seen e).1 ≡ true → next.pages ≡ now.pages → (rest : List (Key × Place)) → IsLeft first old.pages arena rs active frozen rest
         → (later : List (Key × Place)) × WalkGives (Some e) rest later × IsLeft v next.pages arena rs active frozen later
-    Walking-gives next v e there pages passes follow rest left = (
+    Walking-gives {next} {v} {e} comes on there pages rest left = (
       placed (all_left v.position lists),
       subst (λ (xs : List (Key × Place)). WalkGives (Some e) xs (placed (all_left v.position lists)))
-          (sym (rest_is rest left)) (given (all_left w.position lists) (all_left v.position lists) (passes at.ess stand_now)),
-      left_next next v pages (follow at.ess stand_now),
+          (sym (rest_is rest left)) (given (all_left w.position lists) (all_left v.position lists) (comes.passes at.ess stand_now)),
+      left_next next v pages (on.follow at.ess stand_now),
     )
       where
         given_one : (x : Entry) → is_some x.1 ≡ true → seen e ≡ x → (xs ys : List Entry) → ys ≡ xs → WalkGives (Some e) (placed (x ∷ xs)) (placed ys)
@@ -488,16 +475,14 @@ module _ (rs : List Kept) (arena : Frames) (active frozen : List Entry) (shape :
         given (x ∷ xs) ys p = given_one x (ap (λ (y : Entry). is_some y.1) (sym p.0) ∙ there) p.0 xs ys p.1
 
     -- no more entry
-    pub Walking-ends : (next : BoardState) (v : Walk) → next.pages ≡ now.pages
-        → ((ess : List (List Entry)) → RunsOnFlash now.pages arena rs ess → Passes None (all_left w.position (active ∷ frozen ∷ ess)) (all_left v.position (active ∷ frozen ∷ ess)))
-        → ((ess : List (List Entry)) → RunsOnFlash now.pages arena rs ess → FollowEach now.pages rs ess v.position v.cursors × ShowBoth active frozen v.position v.tops)
+    pub Walking-ends : {next : BoardState} {v : Walk} → Comes rs arena active frozen now next w v None → WalksOn now.pages arena rs active frozen w v → next.pages ≡ now.pages
         → (rest : List (Key × Place)) → IsLeft first old.pages arena rs active frozen rest
         → (later : List (Key × Place)) × WalkGives None rest later × IsLeft v next.pages arena rs active frozen later
-    Walking-ends next v pages passes follow rest left = (
+    Walking-ends {next} {v} comes on pages rest left = (
       placed (all_left v.position lists),
       subst (λ (xs : List (Key × Place)). WalkGives None xs (placed (all_left v.position lists)))
-          (sym (rest_is rest left)) (ended (all_left w.position lists) (all_left v.position lists) (passes at.ess stand_now)),
-      left_next next v pages (follow at.ess stand_now),
+          (sym (rest_is rest left)) (ended (all_left w.position lists) (all_left v.position lists) (comes.passes at.ess stand_now)),
+      left_next next v pages (on.follow at.ess stand_now),
     )
       where
         ended : (xs ys : List Entry) → Passes None xs ys → WalkGives None (placed xs) (placed ys)
@@ -505,11 +490,10 @@ module _ (rs : List Kept) (arena : Frames) (active frozen : List Entry) (shape :
         ended (x ∷ xs) ys p = absurd p
 
     -- a read failed
-    pub Walking-fails : (next : BoardState) (v : Walk) → next.pages ≡ now.pages → v.position ≡ w.position
-        → ((ess : List (List Entry)) → RunsOnFlash now.pages arena rs ess → FollowEach now.pages rs ess v.position v.cursors × ShowBoth active frozen v.position v.tops)
+    pub Walking-fails : {v : Walk} → WalksOn now.pages arena rs active frozen w v → (next : BoardState) → next.pages ≡ now.pages → v.position ≡ w.position
         → (rest : List (Key × Place)) → IsLeft first old.pages arena rs active frozen rest → IsLeft v next.pages arena rs active frozen rest
-    Walking-fails next v pages same follow rest left =
-        subst (IsLeft v next.pages arena rs active frozen) (ap (λ (p : Position). placed (all_left p lists)) same ∙ sym (rest_is rest left)) (left_next next v pages (follow at.ess stand_now))
+    Walking-fails {v} on next pages same rest left =
+        subst (IsLeft v next.pages arena rs active frozen) (ap (λ (p : Position). placed (all_left p lists)) same ∙ sym (rest_is rest left)) (left_next next v pages (on.follow at.ess stand_now))
 
     pub fails_behind : (next : BoardState) (v : Walk) → ReadsFail (pages_read rs w.cursors) (pages_read rs v.cursors) now next
         → ReadsFail (pages_read rs first.cursors) (pages_read rs v.cursors) old next
@@ -519,9 +503,8 @@ module _ (rs : List Kept) (arena : Frames) (active frozen : List Entry) (shape :
         (k + at.reads.0, page, omega (arith, h, few), subst (λ (b : BoardState). ReadFailed b next page) all failed)
 
     -- never more than all pages
-    pub few_read : (v : Walk) → ((ess : List (List Entry)) → RunsOnFlash now.pages arena rs ess → FollowEach now.pages rs ess v.position v.cursors × ShowBoth active frozen v.position v.tops)
-        → pages_read rs v.cursors ≤ most_read rs
-    few_read v follow = bound rs at.ess v.cursors stand_now (follow at.ess stand_now).0
+    pub few_read : {v : Walk} → WalksOn now.pages arena rs active frozen w v → pages_read rs v.cursors ≤ most_read rs
+    few_read {v} on = bound rs at.ess v.cursors stand_now (on.follow at.ess stand_now).0
       where
         few : (leases : List ℕ) (n m : ℕ) → n ≤ m → read_of leases n ≤ read_of leases m
         few leases n m h = omega (arith, h)
@@ -536,17 +519,16 @@ module _ (rs : List Kept) (arena : Frames) (active frozen : List Entry) (shape :
             omega (arith, one, others)
 
     -- with each step fewer remain
-    pub fewer_left : (next : BoardState) (v : Walk) (e : RustEntry) → next.pages ≡ now.pages
-        → ((ess : List (List Entry)) → RunsOnFlash now.pages arena rs ess → Passes (Some e) (all_left w.position (active ∷ frozen ∷ ess)) (all_left v.position (active ∷ frozen ∷ ess)))
+    pub fewer_left : {next : BoardState} {v : Walk} {e : RustEntry} → Comes rs arena active frozen now next w v (Some e) → next.pages ≡ now.pages
         → many_left next.pages rs active frozen v.position < many_left now.pages rs active frozen w.position
-    fewer_left next v e pages passes =
+    fewer_left {next} {v} {e} comes pages =
         let before = lists_are now.pages arena rs at.ess stand_now in
         let after = lists_are next.pages arena rs at.ess (subst (λ (flash : Flash). RunsOnFlash flash arena rs at.ess) (sym pages) stand_now) in
         let old_size : many_left now.pages rs active frozen w.position ≡ length (all_left w.position lists) = ap
         (λ (ess : List (List Entry)). length (all_left w.position (active ∷ frozen ∷ ess))) before in
         let new_size : many_left next.pages rs active frozen v.position ≡ length (all_left v.position lists) = ap
         (λ (ess : List (List Entry)). length (all_left v.position (active ∷ frozen ∷ ess))) after in
-        let less = shorter (all_left w.position lists) (all_left v.position lists) (passes at.ess stand_now) in
+        let less = shorter (all_left w.position lists) (all_left v.position lists) (comes.passes at.ess stand_now) in
         omega (arith, old_size, new_size, less)
       where
         shorter : (xs ys : List Entry) → Passes (Some e) xs ys → length ys < length xs

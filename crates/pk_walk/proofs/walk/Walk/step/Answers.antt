@@ -1,51 +1,34 @@
 use Rattle.std.proofs.Common.{sym, ap, subst, ◌∙◌}
 use Rattle.pk_base.specs.Shape.{Shape}
 use Rattle.pk_walk.{specs.Walking.Walk, specs.Walking.AreOfShape, specs.Walking.seen_tops, proofs.Keeping.learned_kept, proofs.Keeping.learned_settled, proofs.Keeping.none_kept}
-use Rattle.pk_walk.proofs.Walks.{Learned, comes_to_found, walks_to_found, walks_failed, is_walk_behind}
+use Rattle.pk_walk.{proofs.Walks.Learned, proofs.Walks.comes_to_found, proofs.Walks.walks_to_found, proofs.Walks.walks_failed, proofs.Walks.is_walk_behind, proofs.walk.Walk.step.Goals.In-Ok}
+use Rattle.pk_walk.proofs.walk.Walk.step.Given as given
 use Rattle.pk_walk.proofs.walk.Walk.step.Goals as goal
+
+-- the first wanted entries are known
+learned : (g : given.Over) (c : In-Ok g)
+    → Learned c.args.levels.now.runs c.args.arena.now c.args.active.now.entries c.args.frozen.now.entries c.args.levels.now.shape
+    (g.B.Nand.state c.args.board.now) (g.B.Nand.state c.know_all.new.board)
+    (record { shape = c.self.inside.shape; position = c.self.inside.position; tops = seen_tops c.self.inside.tops; cursors = c.self.inside.cursors })
+    (seen_tops c.know_all.new.tops) c.know_all.new.cursors
+learned g c = record {
+  on = c.in-Ok.ensures.go_on;
+  shows = c.in-Ok.ensures.learns.0;
+  before = rw (← c.self.view_is) at c.requires.tops;
+  known = c.in-Ok.ensures.learns.1;
+  up = c.len.ensures.rising;
+  down = c.len-2.ensures.rising;
+  many = c.known.ensures.levels.four ∙ sym c.in-Ok.ensures.four;
+}
 
 pub take_least-requires-clause-kept : goal.take_least-requires-clause-kept
 take_least-requires-clause-kept g c =
-    let tops = rw (← c.self.view_is) at c.requires.tops in
+    let at = goal.at.take_least-requires-clause-kept g c in
     let follow = rw (← c.self.view_is) at c.requires.follow in
-    let learned : Learned c.args.levels.now.runs c.args.arena.now c.args.active.now.entries c.args.frozen.now.entries c.args.levels.now.shape
-    (g.B.Nand.state c.args.board.now) (g.B.Nand.state c.know_all.new.board)
-    (record { shape = c.self.inside.shape; position = c.self.inside.position; tops = seen_tops c.self.inside.tops; cursors = c.self.inside.cursors })
-    (seen_tops c.know_all.new.tops) c.know_all.new.cursors = record {
-      on = c.in-Ok.ensures.go_on;
-      shows = c.in-Ok.ensures.learns.0;
-      before = tops;
-      known = c.in-Ok.ensures.learns.1;
-      up = c.len.ensures.rising;
-      down = c.len-2.ensures.rising;
-      many = c.known.ensures.levels.four ∙ sym c.in-Ok.ensures.four;
-    } in
-    learned_kept c.args.levels.now.runs c.args.arena.now c.args.active.now.entries c.args.frozen.now.entries c.args.levels.now.shape
-    (g.B.Nand.state c.args.board.now) (g.B.Nand.state c.know_all.new.board)
-    (record { shape = c.self.inside.shape; position = c.self.inside.position; tops = seen_tops c.self.inside.tops; cursors = c.self.inside.cursors })
-    (seen_tops c.know_all.new.tops) c.know_all.new.cursors
-    learned c.self.inside.orders (c.self.invariant.0.four ∙ sym c.in-Ok.ensures.four) follow.0 follow.1 follow.2 c.self.invariant.1
+    learned_kept (learned g at.In-Ok) c.self.inside.orders (c.self.invariant.0.four ∙ sym c.in-Ok.ensures.four) follow c.self.invariant.1
 
 pub take_least-requires-clause-settled : goal.take_least-requires-clause-settled
-take_least-requires-clause-settled g c =
-    let tops = rw (← c.self.view_is) at c.requires.tops in
-    let learned : Learned c.args.levels.now.runs c.args.arena.now c.args.active.now.entries c.args.frozen.now.entries c.args.levels.now.shape
-    (g.B.Nand.state c.args.board.now) (g.B.Nand.state c.know_all.new.board)
-    (record { shape = c.self.inside.shape; position = c.self.inside.position; tops = seen_tops c.self.inside.tops; cursors = c.self.inside.cursors })
-    (seen_tops c.know_all.new.tops) c.know_all.new.cursors = record {
-      on = c.in-Ok.ensures.go_on;
-      shows = c.in-Ok.ensures.learns.0;
-      before = tops;
-      known = c.in-Ok.ensures.learns.1;
-      up = c.len.ensures.rising;
-      down = c.len-2.ensures.rising;
-      many = c.known.ensures.levels.four ∙ sym c.in-Ok.ensures.four;
-    } in
-    learned_settled c.args.levels.now.runs c.args.arena.now c.args.active.now.entries c.args.frozen.now.entries c.args.levels.now.shape
-    (g.B.Nand.state c.args.board.now) (g.B.Nand.state c.know_all.new.board)
-    (record { shape = c.self.inside.shape; position = c.self.inside.position; tops = seen_tops c.self.inside.tops; cursors = c.self.inside.cursors })
-    (seen_tops c.know_all.new.tops) c.know_all.new.cursors
-    learned
+take_least-requires-clause-settled g c = learned_settled (learned g (goal.at.take_least-requires-clause-settled g c).In-Ok)
 
 pub invariant_of-self : goal.invariant_of-self
 invariant_of-self g c = (
@@ -64,45 +47,15 @@ invariant_of-self-in-Err g c =
 
 pub returns-in-Ok-clause-comes : goal.returns-in-Ok-clause-comes
 returns-in-Ok-clause-comes g c =
-    let tops = rw (← c.self.view_is) at c.requires.tops in
-    let learned : Learned c.args.levels.now.runs c.args.arena.now c.args.active.now.entries c.args.frozen.now.entries c.args.levels.now.shape
-    (g.B.Nand.state c.args.board.now) (g.B.Nand.state c.know_all.new.board)
-    (record { shape = c.self.inside.shape; position = c.self.inside.position; tops = seen_tops c.self.inside.tops; cursors = c.self.inside.cursors })
-    (seen_tops c.know_all.new.tops) c.know_all.new.cursors = record {
-      on = c.in-Ok.ensures.go_on;
-      shows = c.in-Ok.ensures.learns.0;
-      before = tops;
-      known = c.in-Ok.ensures.learns.1;
-      up = c.len.ensures.rising;
-      down = c.len-2.ensures.rising;
-      many = c.known.ensures.levels.four ∙ sym c.in-Ok.ensures.four;
-    } in
-    rw (← c.self.view_is) (comes_to_found c.args.levels.now.runs c.args.arena.now c.args.active.now.entries c.args.frozen.now.entries c.args.levels.now.shape
-    (g.B.Nand.state c.args.board.now) (g.B.Nand.state c.know_all.new.board)
-    (record { shape = c.self.inside.shape; position = c.self.inside.position; tops = seen_tops c.self.inside.tops; cursors = c.self.inside.cursors })
-    (seen_tops c.know_all.new.tops) c.know_all.new.cursors
-    learned c.take_least.result c.take_least.new.position c.take_least.ensures.passed c.take_least.ensures.least (seen_tops c.take_least.new.tops) c.take_least.new.self c.take_least.ensures.behind)
+    let at = goal.at.returns-in-Ok-clause-comes g c in
+    rw (← c.self.view_is) (comes_to_found (learned g at.In-Ok) c.take_least.result c.take_least.new.position c.take_least.ensures.passed
+    c.take_least.ensures.least (seen_tops c.take_least.new.tops) c.take_least.new.self c.take_least.ensures.behind)
 
 pub returns-in-Ok-clause-walks_on : goal.returns-in-Ok-clause-walks_on
 returns-in-Ok-clause-walks_on g c =
-    let tops = rw (← c.self.view_is) at c.requires.tops in
-    let learned : Learned c.args.levels.now.runs c.args.arena.now c.args.active.now.entries c.args.frozen.now.entries c.args.levels.now.shape
-    (g.B.Nand.state c.args.board.now) (g.B.Nand.state c.know_all.new.board)
-    (record { shape = c.self.inside.shape; position = c.self.inside.position; tops = seen_tops c.self.inside.tops; cursors = c.self.inside.cursors })
-    (seen_tops c.know_all.new.tops) c.know_all.new.cursors = record {
-      on = c.in-Ok.ensures.go_on;
-      shows = c.in-Ok.ensures.learns.0;
-      before = tops;
-      known = c.in-Ok.ensures.learns.1;
-      up = c.len.ensures.rising;
-      down = c.len-2.ensures.rising;
-      many = c.known.ensures.levels.four ∙ sym c.in-Ok.ensures.four;
-    } in
-    rw (← c.self.view_is) (walks_to_found c.args.levels.now.runs c.args.arena.now c.args.active.now.entries c.args.frozen.now.entries c.args.levels.now.shape
-    (g.B.Nand.state c.args.board.now) (g.B.Nand.state c.know_all.new.board)
-    (record { shape = c.self.inside.shape; position = c.self.inside.position; tops = seen_tops c.self.inside.tops; cursors = c.self.inside.cursors })
-    (seen_tops c.know_all.new.tops) c.know_all.new.cursors
-    learned c.take_least.result c.take_least.new.position c.take_least.ensures.passed c.take_least.ensures.least (seen_tops c.take_least.new.tops) c.take_least.new.self c.take_least.ensures.behind)
+    let at = goal.at.returns-in-Ok-clause-walks_on g c in
+    rw (← c.self.view_is) (walks_to_found (learned g at.In-Ok) c.take_least.result c.take_least.new.position c.take_least.ensures.passed
+    c.take_least.ensures.least (seen_tops c.take_least.new.tops) c.take_least.new.self c.take_least.ensures.behind)
 
 pub returns-in-Err-clause-walks_on : goal.returns-in-Err-clause-walks_on
 returns-in-Err-clause-walks_on g c =
