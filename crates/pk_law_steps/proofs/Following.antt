@@ -7,7 +7,7 @@ use Rattle.pk_jrnfmt.specs.Epoch.{epoch}
 use Rattle.pk_rootfmt.specs.Root.{Root, is_root, named}
 use Rattle.pk_model.{specs.RootLimits.root_limits, specs.RootLimits.root_spaces, specs.Found.Found, specs.Found.older_epoch, specs.Found.newest_epoch, specs.Found.found_under, specs.Tree.blocks_after}
 use Rattle.pk_model.{proofs.SamePages.any_front, proofs.SamePages.any_back, proofs.Roots.newest_sound, proofs.Commits.root_valid, proofs.Commits.values_apart, proofs.Commits.is_any_back}
-use Rattle.pk_law_steps.{specs.Under.IsUnder, specs.Under.IsNamed, specs.Under.IsValuePage, specs.Under.places, proofs.Untouched.Values, proofs.Untouched.values_under, proofs.Freezing.no_blocks}
+use Rattle.pk_law_steps.{specs.Under.IsUnder, specs.Under.IsNamed, specs.Under.IsValuePage, specs.Under.places, proofs.Untouched.Values, proofs.Untouched.values_under, proofs.FrozenNext.no_blocks}
 use Rattle.pk_law_steps.{proofs.Places.In, proofs.Places.in_append, specs.Merging.IsMerged, specs.Merging.Merged, specs.Merging.merged_root, specs.Merging.merged_found}
 use Rattle.pk_law_steps.proofs.FourRuns.{Runs, IsLevel, FourOf, Pieces, four_of_root, four_runs, next_is_level, pieces_of}
 use Rattle.pk_law_steps.proofs.Merging.{runs_after, same_places, in_after}

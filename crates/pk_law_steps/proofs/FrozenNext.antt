@@ -1,9 +1,10 @@
 -- The root after a freeze is a valid successor.
-use Rattle.std.proofs.Common.{◌≡◌, inl, inr, ℕ, suc, ◌+◌, ◌-◌, ◌*◌, ◌/◌, ◌%◌, ◌<◌, ◌≤◌, refl, sym, ap, subst, ◌∙◌, arith, true, false, T, List, [], ◌∷◌, ◌++◌, length, reverse, slice_index, ◌==◌}
-use Rattle.std.proofs.Common.{if◌then◌else◌, Ok, append-nil, mul-le-mul_right, div-add-mod', mod-lt, eqb→eq, leb→le, le_trans}
+use Rattle.std.proofs.Common.{◌≡◌, [], inl, inr, ℕ, suc, ◌+◌, ◌-◌, ◌*◌, ◌/◌, ◌%◌, ◌<◌, ◌≤◌, refl, sym, ap, subst, ◌∙◌, arith, true, false, T, List, ◌∷◌, ◌++◌, length, reverse, slice_index, ◌==◌, ◌||◌}
+use Rattle.std.proofs.Common.{nat_le, zero-mul, le→leb, if◌then◌else◌, Ok, append-nil, mul-le-mul_right, div-add-mod', mod-lt, eqb→eq, leb→le, le_trans}
 use Rattle.std.{proofs.lemmas.Nat.div-mul-add, proofs.lemmas.List.reverse-append, specs.List.concat, specs.List.flat_map}
 use Rattle.pk_base.{specs.Shape.Shape, specs.Shape.IsShape, specs.Shape.buffer, specs.Shape.epoch_pages, specs.Page.Flash, specs.Page.page_at, specs.Page.erased, specs.Page.page_in, specs.Entry.Entry}
 use Rattle.pk_base.{specs.Firsts.firsts, specs.Map.Map, proofs.ShapeLemmas.block_pages_positive, proofs.CommitPages.second as next_page, proofs.KeyLemmas.firsts_sorted}
+use Rattle.pk_base.{specs.Page.Page, specs.Refusal.ensure, specs.Refusal.◌>>=◌, proofs.Logic.is_true}
 use Rattle.pk_jrnfmt.specs.Epoch.{epoch}
 use Rattle.pk_rootfmt.specs.Root.{Root, is_root, named}
 use Rattle.pk_model.{specs.RootLimits.root_limits, specs.RootLimits.root_spaces, specs.Values.placed, proofs.SamePages.any_front, proofs.SamePages.any_back, proofs.Roots.newest_sound}
@@ -11,12 +12,31 @@ use Rattle.pk_model.specs.Found.{Found, older_epoch, newest_epoch, found_under, 
 use Rattle.pk_model.proofs.Commits.{blocks_of_root, root_valid, ends, not_read, erased_not, values_apart, is_any_back}
 use Rattle.pk_law_steps.{specs.Under.IsUnder, specs.Under.IsNamed, specs.Under.IsValuePage, specs.Under.places, specs.Roots.frozen_root, specs.Roots.frozen, proofs.Places.In, proofs.Places.in_append}
 use Rattle.pk_law_steps.{proofs.Untouched.Values, proofs.Untouched.values_under, proofs.Untouched.value_page_whole, proofs.Untouched.not_erased, specs.Freezing.IsFrozen, specs.Freezing.Frozen}
-use Rattle.pk_law_steps.{proofs.FourRuns.pieces_of, proofs.Keys.no_more_keys, proofs.Keys.has_firsts, proofs.Keys.firsts_has, proofs.Keys.has_behind, proofs.Freezing.older_is}
+use Rattle.pk_law_steps.{proofs.FourRuns.pieces_of, proofs.Keys.no_more_keys, proofs.Keys.has_firsts, proofs.Keys.firsts_has, proofs.Keys.has_behind}
 
 -- a list with an element is not empty
 not_empty : (n : ℕ) → (suc n == 0) ≡ false
 not_empty n = elim (suc n == 0) as (λ b. (suc n == 0) ≡ b
     → b ≡ false) [ true ↦ λ e. let same : suc n ≡ 0 = eqb→eq (suc n) 0 (subst T (sym e) tt) in absurd (omega (arith, same)) | false ↦ λ e. refl ] refl
+
+-- no blocks, no entries
+pub no_blocks : (shape : Shape) (spaces : ℕ) (at : ℕ → Page) (number : ℕ) → epoch shape spaces at number [] ≡ Ok []
+unfolding epoch
+no_blocks shape spaces at number = rw (zero-mul (shape.block_pages / 2)) refl
+
+-- the older epoch of a freeze is the newest one before, which has entries or is not named
+pub older_is : (shape : Shape) (spaces : ℕ) (at : ℕ → Page) (number : ℕ) (blocks : List ℕ) (es : List Entry) → length blocks ≡ 2 → epoch shape spaces at number blocks ≡ Ok es
+    → (do
+      found ← epoch shape spaces at (number + 1 - 1) (if length es == 0 then [] else blocks)
+      _ ← ensure (length (if length es == 0 then [] else blocks) == 0 || nat_le 1 (length found)) (page_in shape (if length es == 0 then [] else blocks) 0)
+      Ok found) ≡ Ok es
+older_is shape spaces at number blocks [] two is = let none = no_blocks shape spaces at (number + 1 - 1) in rw none refl
+older_is shape spaces at number blocks (e ∷ es) two is =
+    let some = not_empty (length es) in
+    let former : number + 1 - 1 ≡ number = omega arith in
+    let named_two : (length blocks == 0) ≡ false = ap (λ n. n == 0) two ∙ not_empty 1 in
+    let least : nat_le 1 (suc (length es)) ≡ true = is_true _ (le→leb 1 (suc (length es)) (omega arith)) in
+    rw (some, former, is, named_two, least) refl
 
 module _ (shape : Shape) (flash : Flash) (extra : List Entry) (top : ℕ × Root) (found : Found) (m : Map) (first second : ℕ) (is_shape : IsShape shape)
     (before : IsUnder shape flash extra top found m) (is : IsFrozen shape flash top found first second) where
@@ -41,7 +61,7 @@ module _ (shape : Shape) (flash : Flash) (extra : List Entry) (top : ℕ × Root
       (erased_not _ (is.are_erased 0 (omega (arith, least))))
       (erased_not _ (ap (page_at flash) (sym (next_page shape (first ∷ second ∷ []) is_shape 0)) ∙ is.are_erased 1 (omega (arith, least)))))
 
-  is_found : found_under shape (page_at flash) then_root ≡ Ok (frozen found)
+  pub is_found : found_under shape (page_at flash) then_root ≡ Ok (frozen found)
   unfolding found_under root_limits
   is_found =
       let pieces = pieces_of shape (page_at flash) root found before.is_found in
@@ -51,7 +71,7 @@ module _ (shape : Shape) (flash : Flash) (extra : List Entry) (top : ℕ × Root
       let runs = pieces.runs in
       rw (older, empty, runs) refl
 
-  same_entries : entries_in_order (frozen found) extra ≡ entries_in_order found extra
+  pub same_entries : entries_in_order (frozen found) extra ≡ entries_in_order found extra
   same_entries =
       let runs = flat_map (λ es. es) found.runs in
       let active = reverse (found.newest ++ extra) in
@@ -82,7 +102,7 @@ module _ (shape : Shape) (flash : Flash) (extra : List Entry) (top : ℕ × Root
   values = values_under shape flash extra root found m before.is_map
 
   -- no value is in a block that the root names
-  outside : (k : ℕ) → IsValuePage shape (places found extra) k → IsNamed shape then_root k → ⊥
+  pub outside : (k : ℕ) → IsValuePage shape (places found extra) k → IsNamed shape then_root k → ⊥
   outside k value among =
       let b = k / shape.block_pages in
       let former : In b (named root) → ⊥ = λ there. values_apart shape (page_at flash) (root_limits shape root) (named root) [] (places found extra) values.values values.read k value (is_any_back b (named root) there) in
