@@ -10,7 +10,7 @@ use Rattle.pk_pin.specs.Frames.{Frames}
 use Rattle.pk_run.specs.Kept.{Kept, IsKept, RunOnFlash, page_of}
 use Rattle.pk_walk.{specs.declared.position.Position.Position, specs.Visible.is_wanted, specs.Visible.wanted, specs.Visible.first_of, specs.Heads.Head, specs.Heads.IsNextWanted}
 use Rattle.pk_walk.{specs.Walking.Cursor, specs.Walking.Follows, specs.Walking.read_of, proofs.Moving.AtPage, proofs.Moving.entry_here}
-use Rattle.pk_walk.specs.Steps.{FindsIn, GoesOn, IsAt, ShowsIn, bytes_in, holding}
+use Rattle.pk_walk.specs.Steps.{FindsIn, GoesOn, IsAt, MaySeek, ShowsIn, bytes_in, holding}
 use Rattle.pk_walk.proofs.Wanting.{above_at, dropped, first_here, first_wanted, same_entry}
 use Rattle.pk_walk.proofs.Following.{all_come, page_exists, page_holds_place, page_seen, sought_left}
 use Rattle.pk_walk.proofs.Seeking.{Reads-none, ReadsAll-none, no_answer, one_list, same_answer}
@@ -59,20 +59,20 @@ holds_none r flash es position d f sought past = record {
   sure = λ has. ((f.sure has).0, λ i e le got. tt);
 }
 
-module _ (r : Kept) (arena : Frames) (position : Position) (old new : BoardState) (c d : Cursor) where
+module _ {r : Kept} {arena : Frames} {position : Position} {old new : BoardState} {c d : Cursor} where
   -- it was looked for
-  pub holding_shows : (answer : Option RustEntry) → FindsIn r arena position old new c d answer → ShowsIn r position old new c (holding (option_map seen answer) d)
-  holding_shows None f = record { known = refl; reads = f.reads; all = f.all; ended = λ is none before. f.ended refl none before }
-  holding_shows (Some e) f = record { known = refl; reads = f.reads; all = f.all; ended = λ is none before. absurd (not_none (seen e) is) }
+  shows_held : (answer : Option RustEntry) → FindsIn r arena position old new c d answer → ShowsIn r position old new c (holding (option_map seen answer) d)
+  shows_held None f = record { known = refl; reads = f.reads; all = f.all; ended = λ is none before. f.ended refl none before }
+  shows_held (Some e) f = record { known = refl; reads = f.reads; all = f.all; ended = λ is none before. absurd (not_none (seen e) is) }
 
-  pub holding_goes_on : (answer : Option RustEntry) → IsShape r.shape → c.shape ≡ r.shape → FindsIn r arena position old new c d answer → GoesOn old.pages arena r position c d
+  goes_on_held : (answer : Option RustEntry) → IsShape r.shape → c.shape ≡ r.shape → FindsIn r arena position old new c d answer → GoesOn old.pages arena r position c d
       → GoesOn old.pages arena r position c (holding (option_map seen answer) d)
-  holding_goes_on None is same f on = record {
+  goes_on_held None is same f on = record {
     follows = λ es s. holds_none r old.pages es position d (on.follows es s) f.sought (f.past refl);
     shape = on.shape;
     passed = on.passed;
   }
-  holding_goes_on (Some e) is same f on = record {
+  goes_on_held (Some e) is same f on = record {
     follows = λ es s. holds_entry r old.pages arena es position d (seen e) is s (on.follows es s) f.sought (f.at e refl) (f.found es s);
     shape = on.shape;
     passed = λ none before.
@@ -82,47 +82,53 @@ module _ (r : Kept) (arena : Frames) (position : Position) (old new : BoardState
         subst (λ (shape : Shape). suc d.place ≤ d.loaded * page_entries shape) (sym (on.shape ∙ same)) here;
   }
 
+  module _ {answer : Option RustEntry} (f : FindsIn r arena position old new c d answer) {e : Cursor} (held : e ≡ holding (option_map seen answer) d) where
+    pub holding_shows : ShowsIn r position old new c e
+    holding_shows = subst (ShowsIn r position old new c) (sym held) (shows_held answer f)
+
+    pub holding_goes_on : IsShape r.shape → c.shape ≡ r.shape → GoesOn old.pages arena r position c d → GoesOn old.pages arena r position c e
+    holding_goes_on is same on = subst (GoesOn old.pages arena r position c) (sym held) (goes_on_held answer is same f on)
+
 -- it was known
-module _ (r : Kept) (arena : Frames) (position : Position) (old : BoardState) (c : Cursor) (es : List Entry) (s : RunOnFlash r old.pages arena es) (f : Follows old.pages r es position c) where
-  pub known_shows : is_some c.head ≡ true → IsShape r.shape → c.shape ≡ r.shape → ShowsIn r position old old c c
-  known_shows known is same = record {
+module _ {r : Kept} {arena : Frames} {position : Position} {old : BoardState} {c : Cursor} (may : MaySeek r arena position old c) where
+  pub known_shows : is_some c.head ≡ true → IsShape r.shape → ShowsIn r position old old c c
+  known_shows known is = record {
     known = known;
     reads = Reads-none (read_of r.leases c.loaded) old;
     all = λ none before. ReadsAll-none (read_of r.leases c.loaded) old;
-    ended = λ ended none before. all_come r old.pages arena es position c is same s f (f.ended ended) before;
+    ended = λ ended none before. all_come r old.pages arena may.entries position c is may.shape_is may.stands may.follows (may.follows.ended ended) before;
   }
 
   pub known_goes_on : GoesOn old.pages arena r position c c
   known_goes_on = record {
-    follows = λ ys t. subst (λ (xs : List Entry). Follows old.pages r xs position c) (one_list r old.pages arena es ys s t) f;
+    follows = λ ys t. subst (λ (xs : List Entry). Follows old.pages r xs position c) (one_list r old.pages arena may.entries ys may.stands t) may.follows;
     shape = refl;
     passed = λ none before. before;
   }
 
 -- it is not, but the entry at the place is the next
-module _ (r : Kept) (arena : Frames) (position : Position) (old : BoardState) (c : Cursor) (es : List Entry)
-    (s : RunOnFlash r old.pages arena es) (f : Follows old.pages r es position c) (is : IsShape r.shape) (kept : IsKept r)
-    (same : c.shape ≡ r.shape) (sought : c.head ≡ None) (ready : (c.has_found ≡ true) × (c.place < r.count) × (c.place < c.loaded * page_entries c.shape)) where
+module _ {r : Kept} {arena : Frames} {position : Position} {old : BoardState} {c : Cursor} (may : MaySeek r arena position old c) (is : IsShape r.shape) (kept : IsKept r)
+    (sought : c.head ≡ None) (ready : (c.has_found ≡ true) × (c.place < r.count) × (c.place < c.loaded * page_entries c.shape)) where
   pub ready_loaded : c.loaded ≡ suc (c.place / page_entries r.shape)
   ready_loaded =
-      let room = subst (λ (shape : Shape). c.place < c.loaded * page_entries shape) same ready.2 in
+      let room = subst (λ (shape : Shape). c.place < c.loaded * page_entries shape) may.shape_is ready.2 in
       let low : c.place / page_entries r.shape < c.loaded = (div-lt_iff_lt-mul (entries_some r.shape is)).1 room in
-      let most = f.behind in
+      let most = may.follows.behind in
       omega (arith, low, most)
 
   pub ready_here : AtPage r old.pages arena c
   ready_here = record {
-    shape = same;
+    shape = may.shape_is;
     inside = ready.1;
-    page = page_seen r old.pages arena es c (c.place / page_entries r.shape) s (page_exists r c.place is kept ready.1) ready_loaded (λ none. f.holds none ready_loaded);
+    page = page_seen r old.pages arena may.entries c (c.place / page_entries r.shape) may.stands (page_exists r c.place is kept ready.1) ready_loaded (λ none. may.follows.holds none ready_loaded);
     loaded = ready_loaded;
   }
 
-  pub ready_finds : (e : RustEntry)
+  pub ready_finds : {e : RustEntry}
       → ((level index : ℕ) (entries : List Entry) → IsMetaPage c.shape (bytes_in r arena c) level index entries → slice_get entries (c.place % page_entries c.shape) ≡ Some (seen e))
       → FindsIn r arena position old old c c (Some e)
-  ready_finds e shows = record {
-    found = λ ys t. subst (λ (xs : List Entry). Some (seen e) ≡ first_of (wanted (is_wanted position) xs)) (one_list r old.pages arena es ys s t) first;
+  ready_finds {e} shows = record {
+    found = λ ys t. subst (λ (xs : List Entry). Some (seen e) ≡ first_of (wanted (is_wanted position) xs)) (one_list r old.pages arena may.entries ys may.stands t) first;
     at = λ x is_it. subst (λ (y : RustEntry). IsAt r old.pages arena c (seen y)) (same_answer e x is_it) (record { inside = ready.1; loaded = ready_loaded; is = there });
     past = λ none. absurd (no_answer e none);
     sought = sought;
@@ -132,13 +138,13 @@ module _ (r : Kept) (arena : Frames) (position : Position) (old : BoardState) (c
   }
     where
       there : (ys : List Entry) → RunOnFlash r old.pages arena ys → slice_get ys c.place ≡ Some (seen e)
-      there ys t = entry_here r old.pages arena ys is kept t c ready_here (seen e) shows
+      there ys t = entry_here is kept t ready_here (seen e) shows
 
-      first : Some (seen e) ≡ first_of (wanted (is_wanted position) es)
+      first : Some (seen e) ≡ first_of (wanted (is_wanted position) may.entries)
       first =
-          let next = (f.sure ready.0).1 c.place (seen e) (omega arith) (there es s) in
+          let next = (may.follows.sure ready.0).1 c.place (seen e) (omega arith) (there may.entries may.stands) in
           let one : T (is_wanted position (seen e).0) = subst (λ (h : Head). IsNextWanted position h (seen e)) sought next in
-          first_here (is_wanted position) es c.place (seen e) (there es s) (is_true _ one) (sought_left old.pages r es position c f sought)
+          first_here (is_wanted position) may.entries c.place (seen e) (there may.entries may.stands) (is_true _ one) (sought_left old.pages r may.entries position c may.follows sought)
 
 -- if it is not known it has to be looked for
 pub unknown : (h : Head) → is_some h ≡ false → h ≡ None
@@ -146,7 +152,7 @@ unknown None e = refl
 unknown (Some found) e = cc
 
 -- there is room after an entry
-pub place_fits : (r : Kept) (arena : Frames) (position : Position) (old new : BoardState) (c d : Cursor) (answer : Option RustEntry)
+pub place_fits : {r : Kept} {arena : Frames} {position : Position} {old new : BoardState} {c d : Cursor} (answer : Option RustEntry)
     → FindsIn r arena position old new c d answer → IsSome answer → d.place < r.count
-place_fits r arena position old new c d None f some = cc
-place_fits r arena position old new c d (Some e) f some = (f.at e refl).inside
+place_fits None f some = cc
+place_fits (Some e) f some = (f.at e refl).inside

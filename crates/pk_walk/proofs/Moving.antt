@@ -1,8 +1,8 @@
 -- A cursor that has the page of its place: what the page says of the run, and where the cursor goes in it.
 use Rattle.std.proofs.Common.{◌≡◌, ℕ, zero, suc, ◌+◌, ◌-◌, ◌*◌, ◌/◌, ◌%◌, ◌<◌, ◌≤◌, min, refl, sym, ap, subst, ◌∙◌, arith, Bool, true, false, List, [], ◌∷◌, length, take, drop, ◌++◌, slice_get}
 use Rattle.std.proofs.Common.{Option, Some, None, div-lt_iff_lt-mul}
-use Rattle.std.{specs.Prelude.nat_lt, proofs.lemmas.Nat.div-add-mod', proofs.lemmas.Nat.le-div, proofs.lemmas.Bool.ltb-true, proofs.lemmas.Bool.ltb-false}
 use Rattle.std.proofs.lemmas.List.{length-take, length-drop}
+use Rattle.std.{specs.Prelude.nat_lt, proofs.lemmas.Nat.div-add-mod', proofs.lemmas.Nat.le-div, proofs.lemmas.Bool.ltb-true, proofs.lemmas.Bool.ltb-false}
 use Rattle.pk_base.{specs.Key.Key, specs.Shape.Shape, specs.Shape.IsShape, specs.Shape.page_entries, specs.Entry.Entry, specs.Entry.key_of, specs.EntryBytes.entry_at, specs.EntryBytes.cell_at}
 use Rattle.pk_base.{specs.Fields.number_at, specs.Page.Flash, specs.Page.IsFlash, specs.Page.page_at, specs.Page.whole, proofs.EntryLemmas.key_of_at, proofs.ShapeLemmas.entries_some}
 use Rattle.pk_meta.{specs.PageChecks.Decodes, specs.PageChecks.IsMetaPage, proofs.PageLemmas.meta_again, proofs.FindLemmas.cell_entry, proofs.FindLemmas.place_key}
@@ -41,7 +41,7 @@ pub record AtPage (r : Kept) (flash : Flash) (arena : Frames) (c : Cursor) : Typ
 same_some : (x e : Entry) → ◌≡◌ {A = Option Entry} (Some x) (Some e) → x ≡ e
 same_some x e p = cc
 
-module _ (r : Kept) (flash : Flash) (arena : Frames) (es : List Entry) (is : IsShape r.shape) (kept : IsKept r) (s : RunOnFlash r flash arena es) (c : Cursor) (at : AtPage r flash arena c) where
+module _ {r : Kept} {flash : Flash} {arena : Frames} {es : List Entry} (is : IsShape r.shape) (kept : IsKept r) (s : RunOnFlash r flash arena es) {c : Cursor} (at : AtPage r flash arena c) where
   abbrev size : ℕ
   size = page_entries r.shape
 
@@ -107,7 +107,7 @@ module _ (r : Kept) (flash : Flash) (arena : Frames) (es : List Entry) (is : IsS
 
   -- ---- a move in the page
 
-  module _ (position : Position) (d : Cursor) (found : Bool) (m : CursorMoves position (bytes_in r arena c) c d found) where
+  module _ {position : Position} {d : Cursor} {found : Bool} (m : CursorMoves position (bytes_in r arena c) c d found) where
     -- as the run has it
     first : IsFirstWanted position (bytes_in r arena c) (c.place % size) m.to
     first = subst (λ (g : Shape). IsFirstWanted position (bytes_in r arena c) (c.place % page_entries g) m.to) at.shape m.first

@@ -78,11 +78,11 @@ pub record Seeking (r : Kept) (arena : Frames) (position : Position) (old now : 
   pub reads : Reads (read_of r.leases first.loaded) (read_of r.leases c.loaded) old now
   pub all : SkipsNoPage position → HasPassed first → HasPassed c × ReadsAll (read_of r.leases first.loaded) (read_of r.leases c.loaded) old now
 
-module _ (r : Kept) (arena : Frames) (position : Position) (old : BoardState) (first : Cursor) where
-  pub Seeking-start : (c : Cursor) (es : List Entry) → RunOnFlash r old.pages arena es → Follows old.pages r es position first
+module _ {r : Kept} {arena : Frames} {position : Position} {old : BoardState} {first : Cursor} where
+  pub Seeking-start : {c : Cursor} {es : List Entry} → RunOnFlash r old.pages arena es → Follows old.pages r es position first
       → ((flash : Flash) (arena : Frames) (es : List Entry) → RunOnFlash r flash arena es → Follows flash r es position first → Follows flash r es position c)
       → c ≡ record first { place = c.place } → (SkipsNoPage position → HasPassed first → HasPassed c) → first.head ≡ None → Seeking r arena position old old first c
-  Seeking-start c es s f begun same passed none = record {
+  Seeking-start {c} {es} s f begun same passed none = record {
     sought = ap (λ (x : Cursor). x.head) same ∙ none;
     es = es;
     stands = s;
@@ -92,7 +92,7 @@ module _ (r : Kept) (arena : Frames) (position : Position) (old : BoardState) (f
     all = λ none before. (passed none before, (0, (let e = ap (λ (x : Cursor). read_of r.leases x.loaded) same in omega (arith, e)), refl));
   }
 
-  module _ (now : BoardState) (c : Cursor) (at : Seeking r arena position old now first c) where
+  module _ {now : BoardState} {c : Cursor} (at : Seeking r arena position old now first c) where
     pub stands_now : RunOnFlash r now.pages arena at.es
     stands_now = subst (λ (flash : Flash). RunOnFlash r flash arena at.es) (sym (Reads-pages _ _ old now at.reads)) at.stands
 
@@ -111,8 +111,8 @@ module _ (r : Kept) (arena : Frames) (position : Position) (old : BoardState) (f
     Seeking-end es s past = none_here (is_wanted position) es c.place (omega (arith, s.many, past)) (any_left es s)
 
     -- a page was looked at, and the cursor has its bytes
-    pub Seeking-looked : (next : BoardState) (d : Cursor) → StaysAt now.pages r c d → CursorLooks r arena now next c d → Seeking r arena position old next first d
-    Seeking-looked next d stays looks = record {
+    pub Seeking-looked : {next : BoardState} {d : Cursor} → StaysAt now.pages r c d → CursorLooks r arena now next c d → Seeking r arena position old next first d
+    Seeking-looked {next} {d} stays looks = record {
       es = at.es;
       stands = at.stands;
       follows = subst (λ (flash : Flash). Follows flash r at.es position d) (Reads-pages _ _ old now at.reads) (stays.follows at.es position follows_now);
@@ -126,8 +126,8 @@ module _ (r : Kept) (arena : Frames) (position : Position) (old : BoardState) (f
     }
 
     -- it is the page of its place
-    pub looked_page : (next : BoardState) (d : Cursor) → first.shape ≡ r.shape → c.place < r.count → StaysAt now.pages r c d → CursorLooks r arena now next c d → AtPage r old.pages arena d
-    looked_page next d same inside stays looks =
+    pub looked_page : {next : BoardState} {d : Cursor} → first.shape ≡ r.shape → c.place < r.count → StaysAt now.pages r c d → CursorLooks r arena now next c d → AtPage r old.pages arena d
+    looked_page {next} {d} same inside stays looks =
         let place : c.place ≡ d.place = sym (ap (λ (x : Cursor). x.place) stays.place) in
         record {
           shape = ap (λ (x : Cursor). x.shape) stays.place ∙ at.shape ∙ same;
@@ -148,15 +148,15 @@ module _ (r : Kept) (arena : Frames) (position : Position) (old : BoardState) (f
         subst (λ (xs : List Entry). Follows old.pages r xs position d) (one_list r old.pages arena at.es es at.stands s)
         (subst (λ (flash : Flash). Follows flash r at.es position d) (Reads-pages _ _ old now at.reads) (moved at.es position follows_now))
 
-    pub Seeking-stays : (d : Cursor) → StaysAt now.pages r c d → d.loaded ≡ c.loaded → GoesOn old.pages arena r position first d
-    Seeking-stays d stays loaded = record {
+    pub Seeking-stays : {d : Cursor} → StaysAt now.pages r c d → d.loaded ≡ c.loaded → GoesOn old.pages arena r position first d
+    Seeking-stays {d} stays loaded = record {
       follows = follows_failed d stays.follows;
       shape = ap (λ (x : Cursor). x.shape) stays.place ∙ at.shape;
       passed = λ none before. HasPassed-kept c d stays.place loaded (at.all none before).0;
     }
 
-    pub Seeking-fails : (next : BoardState) (d : Cursor) → FailsToShow r now next c d → ReadsFail (read_of r.leases first.loaded) (read_of r.leases d.loaded) old next
-    Seeking-fails next d fails =
+    pub Seeking-fails : {next : BoardState} {d : Cursor} → FailsToShow r now next c d → ReadsFail (read_of r.leases first.loaded) (read_of r.leases d.loaded) old next
+    Seeking-fails {next} {d} fails =
         subst (λ (n : ℕ). ReadsFail (read_of r.leases first.loaded) (read_of r.leases n) old next) (sym fails.kept)
         (Reads-failed _ _ old now next (page_of r (c.place / page_entries r.shape)) at.reads fails.failed)
 
@@ -177,7 +177,7 @@ module _ (r : Kept) (arena : Frames) (position : Position) (old : BoardState) (f
     }
 
     -- the cursor has the page of its place, and goes on in it
-    module _ (is : IsShape r.shape) (kept : IsKept r) (here : AtPage r old.pages arena c) (d : Cursor) (found : Bool) (m : CursorMoves position (bytes_in r arena c) c d found) where
+    module _ (is : IsShape r.shape) (kept : IsKept r) (here : AtPage r old.pages arena c) {d : Cursor} {found : Bool} (m : CursorMoves position (bytes_in r arena c) c d found) where
       same_loaded : c.loaded ≡ d.loaded
       same_loaded = sym (ap (λ (x : Cursor). x.loaded) m.cursor)
 
@@ -185,25 +185,25 @@ module _ (r : Kept) (arena : Frames) (position : Position) (old : BoardState) (f
       Seeking-moved = record {
         es = at.es;
         stands = at.stands;
-        follows = moved_follows r old.pages arena at.es is kept at.stands c here position d found m at.sought at.follows;
-        sought = moved_sought r old.pages arena at.es is kept at.stands c here position d found m at.sought;
+        follows = moved_follows is kept at.stands here m at.sought at.follows;
+        sought = moved_sought is kept at.stands here m at.sought;
         shape = ap (λ (x : Cursor). x.shape) m.cursor ∙ at.shape;
         reads = subst (λ (n : ℕ). Reads (read_of r.leases first.loaded) (read_of r.leases n) old now) same_loaded at.reads;
         all = λ none before. (
-          moved_within r old.pages arena at.es is kept at.stands c here position d found m,
+          moved_within is kept at.stands here m,
           subst (λ (n : ℕ). ReadsAll (read_of r.leases first.loaded) (read_of r.leases n) old now) same_loaded (at.all none before).1,
         );
       }
 
       -- to the first wanted entry
-      pub Seeking-finds : (there : found ≡ true) (e : RustEntry)
+      pub Seeking-finds : (there : found ≡ true) {e : RustEntry}
           → ((level index : ℕ) (entries : List Entry) → IsMetaPage d.shape (bytes_in r arena d) level index entries → slice_get entries (d.place % page_entries d.shape) ≡ Some (seen e))
           → FindsIn r arena position old now first d (Some e)
-      Seeking-finds there e shows = record {
+      Seeking-finds there {e} shows = record {
         found = λ es s.
-            let left = moved_left r old.pages arena es is kept s c here position d found m (any_left es s) in
+            let left = moved_left is kept s here m (any_left es s) in
             let got = found_here es s in
-            first_here (is_wanted position) es d.place (seen e) got (found_wanted r old.pages arena es is kept s c here position d found m there (seen e) got) left;
+            first_here (is_wanted position) es d.place (seen e) got (found_wanted is kept s here m there (seen e) got) left;
         at = λ x same. subst (λ (y : RustEntry). IsAt r old.pages arena d (seen y)) (same_answer e x same) (record { inside = own.inside; loaded = own.loaded; is = found_here });
         past = λ is. absurd (no_answer e is);
         sought = Seeking-moved.sought;
@@ -213,7 +213,7 @@ module _ (r : Kept) (arena : Frames) (position : Position) (old : BoardState) (f
       }
         where
           own : AtPage r old.pages arena d
-          own = found_at r old.pages arena at.es is kept at.stands c here position d found m there
+          own = found_at is kept at.stands here m there
 
           found_here : (es : List Entry) → RunOnFlash r old.pages arena es → slice_get es d.place ≡ Some (seen e)
-          found_here es s = entry_here r old.pages arena es is kept s d (found_at r old.pages arena es is kept s c here position d found m there) (seen e) shows
+          found_here es s = entry_here is kept s (found_at is kept s here m there) (seen e) shows
