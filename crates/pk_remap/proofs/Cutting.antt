@@ -3,7 +3,7 @@ use Rattle.std.proofs.Common.{◌≡◌, ◌≢◌, ◌⊎◌, inl, inr, ℕ, ze
 use Rattle.std.proofs.Common.{length-append}
 use Rattle.std.{specs.Prelude.nat_eq, specs.Prelude.nat_lt, specs.Prelude.nat_le, specs.Prelude.◌||◌, specs.Prelude.◌&&◌, specs.Prelude.replicate, specs.List.list_all, proofs.Math.Nat.mod-lt}
 use Rattle.std.{proofs.lemmas.Bool.Decides.nat_tests, proofs.lemmas.List.length-replicate, proofs.lemmas.Nat.div-add-mod', proofs.lemmas.Option.same_Some}
-use Rattle.pk_base.{specs.Shape.Shape, specs.Shape.page_count, specs.Page.Flash, specs.Page.page_at, specs.Page.torn}
+use Rattle.pk_base.{specs.Shape.Shape, specs.Shape.page_count, specs.Page.Flash, specs.Page.page_at, specs.Page.torn, proofs.Logic.both_true}
 use Rattle.pk_base.specs.Mark.{Mark, program, erase, post, after}
 use Rattle.pk_nand.{specs.Cut.Interrupted, specs.Cut.touched_block, proofs.Leaving.same_pages, proofs.Leaving.length-after, proofs.Leaving.interrupted_done}
 use Rattle.pk_nand.proofs.Touching.{elsewhere, untouched_after, touches_one_block}
@@ -27,10 +27,6 @@ all_append : (shape : Shape) (front bs : List ℕ) → list_all (is_served shape
 all_append shape [] bs p q = q
 all_append shape (a ∷ front) bs p q = let tests = both_true (is_served shape a)
     (list_all (is_served shape) front) p in rw tests.0 (all_append shape front bs tests.1 q)
-  where
-    both_true : (a b : Bool) → (a && b) ≡ true → (a ≡ true) × (b ≡ true)
-    both_true true b e = (refl, e)
-    both_true false b e = cc
 
 failed_served : (shape : Shape) (n : ℕ) → list_all (is_served shape) (replicate n FAILED) ≡ true
 failed_served shape zero = refl

@@ -1,12 +1,9 @@
 -- The newest table: its search, and which changes of pages leave it the newest.
 use Rattle.std.proofs.Common.{◌≡◌, ◌≢◌, ◌⊎◌, inl, inr, ℕ, zero, suc, ◌+◌, ◌*◌, ◌<◌, ◌≤◌, Bool, true, false, refl, sym, ap, subst, ◌∙◌, arith, Option, Some, None}
-use Rattle.std.{specs.Prelude.nat_le, specs.Prelude.nat_eq, specs.Prelude.if◌then◌else◌, proofs.lemmas.Bool.Decides.nat_tests}
+use Rattle.std.{specs.Prelude.nat_le, specs.Prelude.nat_eq, specs.Prelude.if◌then◌else◌, proofs.lemmas.Bool.Decides.nat_tests, proofs.lemmas.Option.same_Some}
 use Rattle.pk_base.{specs.Shape.Shape, specs.Page.Page}
 use Rattle.pk_remap.specs.Table.{SpareTable}
 use Rattle.pk_remap.specs.Newest.{table_in, newer_table, newest_from, newest_table, first_table_page, IsTablePage, IsNewer, IsNewest, IsNewestBeside}
-
-pub same_table : (x y : SpareTable) → Some x ≡ Some y → x ≡ y
-same_table x y e = cc
 
 pub none_some : (x : SpareTable) → None ≡ Some x → ⊥
 none_some x e = cc
@@ -55,7 +52,7 @@ module _ (shape : Shape) (spares : ℕ) (at : ℕ → Page) where
         → table_in shape spares (at j) ≡ Some other → nat_eq j k ≡ t → IsNewer k table j other
     by true j from to other is t =
         let same : j ≡ k = grind (arith, nat_tests) in
-        let own : other ≡ table = same_table other table (sym is ∙ ap (λ (x : ℕ). table_in shape spares (at x)) same ∙ e) in
+        let own : other ≡ table = same_Some other table (sym is ∙ ap (λ (x : ℕ). table_in shape spares (at x)) same ∙ e) in
         inr (ap (λ (x : SpareTable). x.number) own, from)
     by false j from to other is t =
         let apart : j ≢ k = grind (arith, nat_tests) in
@@ -73,7 +70,7 @@ module _ (shape : Shape) (spares : ℕ) (at : ℕ → Page) where
             → table_in shape spares (at j) ≡ Some other → nat_eq j k ≡ b → IsNewer k table j other
         by true j from to other is b =
             let same : j ≡ k = grind (arith, nat_tests) in
-            let own : other ≡ table = same_table other table (sym is ∙ ap (λ (x : ℕ). table_in shape spares (at x)) same ∙ e) in
+            let own : other ≡ table = same_Some other table (sym is ∙ ap (λ (x : ℕ). table_in shape spares (at x)) same ∙ e) in
             inr (ap (λ (x : SpareTable). x.number) own, from)
         by false j from to other is b =
             let apart : j ≢ k = grind (arith, nat_tests) in
@@ -99,7 +96,7 @@ module _ (shape : Shape) (spares : ℕ) (at : ℕ → Page) where
             → table_in shape spares (at j) ≡ Some other → nat_eq j k ≡ b → IsNewer later.0 later.1 j other
         by true j from to other is b =
             let same : j ≡ k = grind (arith, nat_tests) in
-            let own : other ≡ table = same_table other table (sym is ∙ ap (λ (x : ℕ). table_in shape spares (at x)) same ∙ e) in
+            let own : other ≡ table = same_Some other table (sym is ∙ ap (λ (x : ℕ). table_in shape spares (at x)) same ∙ e) in
             let less : table.number < later.1.number = grind (arith, nat_tests) in
             let number : other.number ≡ table.number = ap (λ (x : SpareTable). x.number) own in
             inl (omega (arith, less, number))
@@ -124,7 +121,7 @@ module _ (shape : Shape) (spares : ℕ) (at : ℕ → Page) where
             | inl less ↦ elim other [ inl less' ↦ absurd (omega (arith, less, less')) | inr same ↦ absurd (omega (arith, less, same.0)) ]
             | inr same ↦ elim other [ inl less' ↦ absurd (omega (arith, same.0, less')) | inr same' ↦ omega (arith, same.1, same'.1) ]
           ] in
-          let table_is : top.1 ≡ table = same_table top.1 table (sym best.is ∙ ap (λ (x : ℕ). table_in shape spares (at x)) page_is ∙ is.is) in
+          let table_is : top.1 ≡ table = same_Some top.1 table (sym best.is ∙ ap (λ (x : ℕ). table_in shape spares (at x)) page_is ∙ is.is) in
           λ i. Some (page_is i, table_is i)
 
   -- and what is found is the newest
@@ -214,12 +211,12 @@ module _ (shape : Shape) (spares : ℕ) (at : ℕ → Page) (page : ℕ) (table 
     there = first;
     is = is;
     newest = λ k there other own. by_page k (IsNewer pair new k other)
-        (λ e. let same : other ≡ new = same_table other new (sym own ∙ ap (λ (x : ℕ). table_in shape spares (at x)) e ∙ is) in inr
+        (λ e. let same : other ≡ new = same_Some other new (sym own ∙ ap (λ (x : ℕ). table_in shape spares (at x)) e ∙ is) in inr
         (ap (λ (x : SpareTable). x.number) same, omega (arith, e)))
         (λ e. let here : table_in shape spares (at (suc pair)) ≡ Some other = ap (λ (x : ℕ). table_in shape spares (at x)) (sym e) ∙ own in
         elim or [
           | inl none ↦ absurd (none_some other (sym none ∙ here))
-          | inr too ↦ let same : other ≡ new = same_table other new (sym here ∙ too) in inr (ap (λ (x : SpareTable). x.number) same, omega (arith, e))
+          | inr too ↦ let same : other ≡ new = same_Some other new (sym here ∙ too) in inr (ap (λ (x : SpareTable). x.number) same, omega (arith, e))
         ])
         (λ one two. older pair k there one two other own);
   }
@@ -231,7 +228,7 @@ module _ (shape : Shape) (spares : ℕ) (at : ℕ → Page) (page : ℕ) (table 
     is = is;
     newest = λ k there other own. by_page k (IsNewer (suc pair) new k other)
         (λ e. absurd (none_some other (sym none ∙ ap (λ (x : ℕ). table_in shape spares (at x)) (sym e) ∙ own)))
-        (λ e. let same : other ≡ new = same_table other new (sym own ∙ ap (λ (x : ℕ). table_in shape spares (at x)) e ∙ is) in inr
+        (λ e. let same : other ≡ new = same_Some other new (sym own ∙ ap (λ (x : ℕ). table_in shape spares (at x)) e ∙ is) in inr
         (ap (λ (x : SpareTable). x.number) same, omega (arith, e)))
         (λ one two. older (suc pair) k there one two other own);
   }

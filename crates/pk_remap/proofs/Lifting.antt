@@ -1,6 +1,7 @@
 -- A mark of the inner flash, on the inner page or block, is the same mark of the outer flash.
 use Rattle.std.proofs.Common.{◌≡◌, ◌≢◌, inl, inr, ℕ, zero, suc, ◌+◌, ◌*◌, ◌/◌, ◌%◌, ◌<◌, ◌≤◌, Bool, true, false, List, [], length, refl, sym, ap, subst, ◌∙◌, arith, zero-add}
-use Rattle.std.{specs.Prelude.nat_eq, specs.Prelude.nat_lt, specs.Prelude.slice_set, proofs.Math.Nat.mod-lt, proofs.lemmas.Bool.Decides.nat_tests, proofs.lemmas.Nat.div-add-mod'}
+use Rattle.std.proofs.lemmas.Nat.{div-add-mod'}
+use Rattle.std.{specs.Prelude.nat_eq, specs.Prelude.nat_lt, specs.Prelude.slice_set, proofs.Math.Nat.mod-lt, proofs.Math.Nat.mul_comm, proofs.lemmas.Bool.Decides.nat_tests}
 use Rattle.pk_base.{specs.Shape.Shape, specs.Shape.page_count, specs.Page.Page, specs.Page.Flash, specs.Page.page_at, specs.Page.whole, specs.Page.torn}
 use Rattle.pk_base.specs.Mark.{Mark, program, erase, post, after, posted_by, erased_from}
 use Rattle.pk_nand.{specs.Cut.Interrupted, specs.Cut.MayLeave, specs.Cut.IsPartner, proofs.Touching.partner_block}
@@ -17,6 +18,9 @@ pub times_le : (q m n : ℕ) → q ≤ m → q * n ≤ m * n
 times_le zero m n h = omega arith
 times_le (suc q) zero n h = absurd (omega (arith, h))
 times_le (suc q) (suc m) n h = let more = times_le q m n (omega (arith, h)) in omega (arith, more)
+
+pub two_more : (m n : ℕ) → (m + 2) * n ≡ m * n + 2 * n
+two_more m n = omega arith
 
 pub leaves_same : (shape : Shape) (mark : Mark) (k : ℕ) (p : Page) → MayLeave shape mark k p p
 leaves_same shape (program at bytes) k p = inl refl
@@ -41,11 +45,7 @@ module _ (shape : Shape) (spares : ℕ) (table : SpareTable) (some : 0 < shape.b
       let b = placed_page-below k inside in
       let room : (shape.blocks + length table.serves) * n ≤ (shape.blocks + spares + 2) * n = times_le
       (shape.blocks + length table.serves) (shape.blocks + spares + 2) n (omega (arith, used)) in
-      let turned : n * (shape.blocks + spares + 2) ≡ (shape.blocks + spares + 2) * n = commute n (shape.blocks + spares + 2) in
-      omega (arith, b, room, turned)
-    where
-      commute : (a b : ℕ) → a * b ≡ b * a
-      commute a b = omega arith
+      omega (arith, b, room, mul_comm n (shape.blocks + spares + 2))
 
   -- the inner page of a partner is the partner of the inner page, and that of no other page is
   pub placed_page-partner : (at k : ℕ) → at < page_count shape → k < page_count shape
@@ -160,11 +160,7 @@ module _ (shape : Shape) (spares : ℕ) (table : SpareTable) (some : 0 < shape.b
             let P : ℕ → Type 0 = λ x. x * n + k % n ≡ k in
             let moved : block * n + k % n ≡ k = subst P e whole in
             let room : suc block * n ≤ shape.blocks * n = times_le (suc block) shape.blocks n within in
-            let turned : n * shape.blocks ≡ shape.blocks * n = commute n shape.blocks in
-            omega (arith, moved, room, turned, past, mod-lt k {m = n} some)
-          where
-            commute : (a b : ℕ) → a * b ≡ b * a
-            commute a b = omega arith
+            omega (arith, moved, room, mul_comm n shape.blocks, past, mod-lt k {m = n} some)
 
     -- a mark that is done on the inner flash is done on the outer flash
     pub lift-done : (mark : Mark) → IsMarkWithin shape mark

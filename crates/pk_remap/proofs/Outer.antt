@@ -1,14 +1,15 @@
 -- Calls of the outer flash over a relocation at rest.
 use Rattle.std.proofs.Common.{◌≡◌, ◌≢◌, ◌⊎◌, inl, inr, ℕ, zero, suc, ◌+◌, ◌-◌, ◌*◌, ◌/◌, ◌%◌, ◌<◌, ◌≤◌, Bool, true, false, List, [], length, take, refl, sym, ap, subst, ◌∙◌, arith, Some, None}
+use Rattle.std.proofs.Math.Nat.{mul_comm}
 use Rattle.std.{specs.Prelude.max, specs.Prelude.Result, specs.Prelude.Ok, specs.Prelude.Err, specs.Prelude.Vec, specs.Prelude.◌==◌, specs.Prelude.◌&&◌, proofs.Math.Nat.mod-lt}
 use Rattle.std.{proofs.lemmas.Bool.Decides.nat_tests, proofs.lemmas.Nat.div-add-mod', specs.declared.alloc.Global.Global, proofs.lemmas.List.length-take-le}
 use Rattle.pk_base.{specs.declared.sizes.TheConstants.MOST_PAGE_BYTES, specs.Shape.Shape, specs.Shape.page_count, specs.Mark.Mark, specs.Mark.program, specs.Mark.erase, specs.Mark.after}
-use Rattle.pk_base.specs.Page.{Page, Flash, page_at, erased, whole, torn, IsPage, IsFlash}
+use Rattle.pk_base.{proofs.Logic.both_true, specs.Page.Page, specs.Page.Flash, specs.Page.page_at, specs.Page.erased, specs.Page.whole, specs.Page.torn, specs.Page.IsPage, specs.Page.IsFlash}
 use Rattle.pk_nand.{specs.BoardState.BoardState, specs.Cut.Interrupted, proofs.Writing.shape_is, specs.Counts.after_reads, specs.Crash.Went, proofs.CutLemmas.interrupted_none, specs.Effects.OnlyFlash}
 use Rattle.pk_nand.proofs.Leaving.{interrupted_done, page_at-slice_set, IsFlash-interrupted, full_program, full_erase}
-use Rattle.pk_nand.{specs.Calls.Rose, specs.Calls.IsReady, specs.Calls.after_program, specs.Calls.ProgramFailed, specs.Calls.LeftBy, proofs.Reaching.Reached-start, proofs.Reaching.Went-reached}
 use Rattle.pk_nand.specs.Operations.{InOrder, after_read, after_erase, ReadFailed, EraseFailed}
 use Rattle.pk_nand.specs.declared.types.NandFault.{NandFault}
+use Rattle.pk_nand.{specs.Calls.Rose, specs.Calls.IsReady, specs.Calls.after_program, specs.Calls.ProgramFailed, specs.Calls.LeftBy, proofs.Reaching.Reached-start, proofs.Reaching.Went-reached}
 use Rattle.pk_remap.{proofs.Placing.place-below, proofs.Placing.block_of as page_block, proofs.Placing.page-through, proofs.Placing.div-of, proofs.Placing.mod-of, specs.declared.top.Top.Top}
 use Rattle.pk_remap.{proofs.Lifting.times_le, proofs.Lifting.placed_page-inside, proofs.Running.went, proofs.Running.none_pair, specs.declared.layout.TheConstants.MOST_SPARES}
 use Rattle.pk_remap.{specs.Table.SpareTable, specs.Table.table_of, specs.Table.is_table, specs.Newest.table_in, specs.Newest.newest_table, specs.Newest.IsNewest, proofs.TableLemmas.page_spells}
@@ -266,14 +267,10 @@ module _ (r : InMemory) (old : BoardState) (rest : IsAtRest r old) (page : ℕ) 
   row_page : (j : ℕ) → j < n → page_at old.pages (here * n + j) ≡ page_at (outer_of r old.pages) (b * n + j)
   row_page j less =
       let room : suc b * n ≤ r.shape.blocks * n = times_le (suc b) r.shape.blocks n b_inside in
-      let turned : n * r.shape.blocks ≡ r.shape.blocks * n = commute n r.shape.blocks in
-      let there : b * n + j < page_count r.shape = omega (arith, room, turned, less) in
+      let there : b * n + j < page_count r.shape = omega (arith, room, mul_comm n r.shape.blocks, less) in
       let same : placed_page r.shape (relocation_of r).table (b * n + j) ≡ here * n + j =
       (λ i. place r.shape (relocation_of r).table (div-of b n j less i) * n + mod-of b n j less i) in
       sym (page-through r.shape (relocation_of r).table (page_at old.pages) (b * n + j) there ∙ ap (page_at old.pages) same)
-    where
-      commute : (a b : ℕ) → a * b ≡ b * a
-      commute a b = omega arith
 
   -- a program in order is in order in the inner block
   pub inner_order : InOrder r.shape (outer_of r old.pages) page → InOrder (inner_shape r.shape r.spares) old.pages at_page
@@ -343,12 +340,8 @@ module _ (r : InMemory) (old : BoardState) (rest : IsAtRest r old) (page : ℕ) 
       pub program_begins : HasPartner r page (outer_of r old.pages) → RelocationRuns program_begun (outer_of r old.pages) new
       program_begins partner =
           begun_runs r old rest (program page bytes) program_call new (ap (λ s. s.shape) failed.rest) failed.left (Program page) r.kept buffer
-          (ap (program page) front) room large (λ k is. by k (both r.kept (suc k == page % n) is))
+          (ap (program page) front) room large (λ k is. by k (both_true r.kept (suc k == page % n) is))
         where
-          both : (a b : Bool) → (a && b) ≡ true → (a ≡ true) × (b ≡ true)
-          both true b e = (refl, e)
-          both false b e = cc
-
           by : (k : ℕ) → (r.kept ≡ true) × ((suc k == page % n) ≡ true)
               → page_at (after r.shape (program page bytes) (outer_of r old.pages)) (page / n * n + k) ≡ whole (take r.shape.page_bytes r.partner.items)
           by k is =
@@ -387,10 +380,7 @@ module _ (r : InMemory) (old : BoardState) (rest : IsAtRest r old) where
   }
 
   false_kept : {X : Type 0} → false ≡ true → X
-  false_kept e = absurd (apart e)
-    where
-      apart : false ≡ true → ⊥
-      apart e = cc
+  false_kept e = absurd cc
 
   -- nothing was read
   pub kept_none : (page : ℕ) (u : Unit) → PartnerOutcome r page old (Ok u) (record r { kept = false }) old
@@ -454,14 +444,8 @@ module _ (r : InMemory) (old : BoardState) (rest : IsAtRest r old) where
 
 grammar_of : (shape : Shape) (spares : ℕ) (table : SpareTable) (p : Page) → table_in shape spares p ≡ Some table → is_table shape spares table ≡ true
 grammar_of shape spares table (whole bytes) e = (page_spells shape spares bytes table e).is
-grammar_of shape spares table erased e = absurd (apart e)
-  where
-    apart : None ≡ Some table → ⊥
-    apart e = cc
-grammar_of shape spares table torn e = absurd (apart e)
-  where
-    apart : None ≡ Some table → ⊥
-    apart e = cc
+grammar_of shape spares table erased e = let none : None ≡ Some table = e in absurd cc
+grammar_of shape spares table torn e = let none : None ≡ Some table = e in absurd cc
 
 module _ (r : InMemory) (old : BoardState) (may : CanFind r old) (top : Top) (serves : List ℕ) (copy : Vec ℕ Global) where
   abbrev table : SpareTable

@@ -1,8 +1,8 @@
 -- Which inner blocks and pages have the outer ones: no inner block has two, and no unused spare and no table block has one.
 use Rattle.std.proofs.Common.{◌≡◌, ◌≢◌, ◌⊎◌, inl, inr, ℕ, zero, suc, ◌+◌, ◌*◌, ◌/◌, ◌%◌, ◌<◌, ◌≤◌, Bool, true, false, List, [], ◌∷◌, ◌++◌, length, refl, sym, ap, subst, ◌∙◌, arith, Some, zero-add}
 use Rattle.std.proofs.Common.{add-zero}
-use Rattle.std.{specs.Prelude.nat_eq, specs.Prelude.◌==◌, specs.Prelude.if◌then◌else◌, specs.Prelude.slice_get, specs.Prelude.replicate, proofs.Math.Nat.mod-lt, proofs.lemmas.Bool.Decides.nat_tests}
-use Rattle.std.proofs.lemmas.Nat.{div-mul-add, div-add-mod'}
+use Rattle.std.{proofs.lemmas.Nat.div-mul-add, proofs.lemmas.Nat.div-add-mod', proofs.lemmas.Option.same_Some, proofs.lemmas.Bool.Decides.nat_tests}
+use Rattle.std.{specs.Prelude.nat_eq, specs.Prelude.◌==◌, specs.Prelude.if◌then◌else◌, specs.Prelude.slice_get, specs.Prelude.replicate, proofs.Math.Nat.mod-lt, proofs.Math.Nat.mul_comm}
 use Rattle.pk_base.{specs.Shape.Shape, specs.Shape.page_count, specs.Page.Page, specs.Page.page_at, specs.Page.torn}
 use Rattle.pk_remap.{specs.declared.layout.TheConstants.FAILED, specs.Table.SpareTable}
 use Rattle.pk_remap.specs.Places.{serving, place, placed_page, pages_from, through_by, with_one_more}
@@ -70,9 +70,6 @@ module _ (shape : Shape) (table : SpareTable) where
     | inr s ↦ omega (arith, s.less, s.at)
   ]
 
-  same_some : (x y : ℕ) → Some x ≡ Some y → x ≡ y
-  same_some x y e = cc
-
   -- no two blocks are in one
   pub place-apart : (a b : ℕ) → a < shape.blocks → b < shape.blocks → place shape table a ≡ place shape table b → a ≡ b
   place-apart a b in_a in_b same = elim (place-cases a) [
@@ -85,7 +82,7 @@ module _ (shape : Shape) (table : SpareTable) where
       | inr s' ↦
           let i : s.i ≡ s'.i = omega (arith, same, s.at, s'.at) in
           let P : ℕ → Type 0 = λ k. slice_get table.serves k ≡ Some a in
-          same_some a b (sym (subst P i s.is) ∙ s'.is)
+          same_Some a b (sym (subst P i s.is) ∙ s'.is)
     ]
   ]
 
@@ -116,11 +113,8 @@ module _ (shape : Shape) (table : SpareTable) (some : 0 < shape.block_pages) whe
   block_of k inside = by (k / n) (div-add-mod' k n) (mod-lt k some)
     where
       by : (q : ℕ) → q * n + k % n ≡ k → k % n < n → q < shape.blocks
-      by q whole less = below (shape.blocks) q (omega (arith, whole, inside, commute n shape.blocks))
+      by q whole less = below (shape.blocks) q (omega (arith, whole, inside, mul_comm n shape.blocks))
         where
-          commute : (a b : ℕ) → a * b ≡ b * a
-          commute a b = omega arith
-
           below : (m q : ℕ) → q * n < m * n → q < m
           below zero q h = absurd (omega (arith, h))
           below (suc m) zero h = omega arith

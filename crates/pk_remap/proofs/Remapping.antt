@@ -9,22 +9,19 @@ use Rattle.pk_nand.{specs.Operations.after_read, specs.Operations.after_erase, s
 use Rattle.pk_nand.proofs.Reaching.{Reached-start, Went-reached}
 use Rattle.pk_remap.{specs.declared.layout.TheConstants.MOST_SPARES, specs.declared.counts.BoardCounts.BoardCounts, specs.declared.image.Image.Image, specs.declared.mark_log.MarkLog.MarkLog}
 use Rattle.pk_remap.specs.declared.image.Image.TheVariants.{Unknown, Missing, Unsure, Sure}
+use Rattle.pk_remap.specs.Serving.{PassesCount, PassesCalls, ServingStops, read_failed, table_failed, spares_failed, page_is_torn, for_mark, outer_of, OuterOutcome, SameSpares}
+use Rattle.pk_remap.specs.Remapped.{outer_pages, is_open, is_missing, is_sure, open_spares_left, spares_left, with_stop, remap_board, RemapHolds, HasLog, SameTaken, TableIsFound, TableNotFound}
+use Rattle.pk_remap.specs.Causes.{SparesFallBy, IsRefused, StopCause, read_fault, table_fault, no_spare_left, torn_page, MarkMade}
 use Rattle.pk_remap.{specs.declared.relocation.Relocation.Relocation as InMemory, specs.Table.SpareTable, specs.Newest.newest_table, specs.Newest.IsNewest, specs.Stepping.IsTableBlock}
 use Rattle.pk_remap.{specs.Places.inner_shape, specs.Places.placed_page, specs.Places.through_by, specs.Through.through, specs.Through.MayShow, specs.Relocating.block_of, specs.Relocating.copies_of}
 use Rattle.pk_remap.{specs.Running.relocation_of, specs.Running.HasPageBuffers, specs.Running.IsAtRest, specs.Counting.SparesCounted, specs.Counting.HasTable, specs.Counting.OuterCounts}
-use Rattle.pk_remap.specs.Serving.{PassesCount, PassesCalls, ServingStops, read_failed, table_failed, spares_failed, page_is_torn, for_mark, outer_of, OuterOutcome, SameSpares}
 use Rattle.pk_remap.{specs.Logged.told, proofs.Placing.length-through, proofs.Finding.newest-found, proofs.Finding.found-newest, proofs.Standing.shows, proofs.Standing.may_show}
-use Rattle.pk_remap.specs.Remapped.{outer_pages, is_open, is_missing, is_sure, open_spares_left, spares_left, with_stop, remap_board, RemapHolds, HasLog, SameTaken, TableIsFound, TableNotFound}
-use Rattle.pk_remap.specs.Causes.{SparesFallBy, IsRefused, StopCause, read_fault, table_fault, no_spare_left, torn_page, MarkMade}
 use Rattle.pk_remap.{proofs.Outer.passes_before, proofs.Counting.newest_is, proofs.Counting.has_table}
 
 -- ---- what is known between calls
 
 pub no_bool : {X : Type 0} → false ≡ true → X
-no_bool e = absurd (apart e)
-  where
-    apart : false ≡ true → ⊥
-    apart e = cc
+no_bool e = absurd cc
 
 sure_open : (image : Image) → is_sure image ≡ true → is_open image ≡ true
 sure_open Unknown e = e
