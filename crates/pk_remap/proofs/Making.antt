@@ -7,14 +7,14 @@ use Rattle.pk_base.{specs.Shape.Shape, specs.Shape.IsShape, specs.Shape.page_cou
 use Rattle.pk_base.specs.Page.{Flash, page_at, erased, whole, torn, IsPage, IsFlash}
 use Rattle.pk_nand.{specs.BoardState.BoardState, specs.Calls.IsReady, specs.Calls.Rose, specs.Calls.after_program, specs.Calls.ProgramFailed, specs.Operations.InOrder, specs.Effects.OnlyFlash}
 use Rattle.pk_nand.{specs.declared.types.NandFault.NandFault, proofs.Effects.works_program, proofs.Effects.stops_program, proofs.Effects.only_then}
-use Rattle.pk_nand.proofs.Leaving.{same_pages, page_at-slice_set, page_at-slice_set_same, IsFlash-after, full_program}
+use Rattle.pk_nand.proofs.Leaving.{page_at-slice_set, page_at-slice_set_same, IsFlash-after, full_program}
 use Rattle.pk_remap.{specs.declared.layout.TheConstants.MOST_SPARES, specs.declared.relocation.Relocation.Relocation as InMemory, specs.Table.SpareTable, specs.Table.is_table, proofs.Lifting.times_le}
 use Rattle.pk_remap.proofs.Lifting.{two_more}
 use Rattle.pk_remap.specs.FirstTable.{first_table, first_table_bytes, IsMade, FirstTableWritten, FirstTableFailed, FirstTableOutcome}
-use Rattle.pk_remap.{specs.Newest.table_in, specs.Newest.first_table_page, specs.Newest.IsTablePage, specs.Newest.IsNewer, specs.Newest.IsNewest, specs.Places.inner_shape, specs.Places.through_by}
+use Rattle.pk_remap.{specs.Newest.table_in, specs.Newest.first_table_page, specs.Newest.IsTablePage, specs.Newest.IsNewer, specs.Newest.IsNewest, specs.Places.inner_shape, specs.Places.placed_page}
 use Rattle.pk_remap.{specs.Relocating.IsNextPair, specs.Running.HasPageBuffers, specs.Running.IsAtRest, specs.Remapped.outer_pages, proofs.TableLemmas.table_parts, proofs.TableLemmas.page_again}
-use Rattle.pk_remap.{proofs.Placing.mod-of, proofs.Placing.length-through, proofs.Placing.page-through, proofs.Placing.past-through, proofs.Finding.none_some}
-use Rattle.pk_remap.{proofs.Cutting.page-past_end, proofs.Standing.shows, proofs.Turning.second_order, proofs.Turning.following_pair}
+use Rattle.pk_remap.{proofs.Placing.mod-of, proofs.Placing.is_through, proofs.Placing.page-past_end, proofs.Finding.none_some}
+use Rattle.pk_remap.{proofs.Standing.shows, proofs.Turning.second_order, proofs.Turning.following_pair}
 
 erased_at : (n k : ℕ) → k < n → page_at (replicate n erased) k ≡ erased
 erased_at zero k small = absurd (omega (arith, small))
@@ -182,23 +182,17 @@ module _ (r : InMemory) (made : BoardState) (is : IsMade r.shape r.spares made) 
       pub shown : outer_pages shape r.spares new.pages ≡ replicate (page_count shape) erased
       shown =
           ap (λ (f : Option Flash). unwrap_or f []) (shows shape r.spares new.pages page first_table top)
-          ∙ same_pages (replicate (page_count shape) erased) (through_by shape first_table (page_at new.pages))
-          (length-through shape first_table (page_at new.pages) ∙ sym (length-replicate (page_count shape) erased)) (λ k. by k (nat_lt k (page_count shape)) refl)
+          ∙ is_through shape first_table (page_at new.pages) (replicate (page_count shape) erased) (length-replicate (page_count shape) erased) each
         where
           before_tables : page_count shape ≤ page
           before_tables = let own = times_le shape.blocks (shape.blocks + r.spares) n (omega arith) in omega (arith, own, mul_comm n shape.blocks)
 
-          by : (k : ℕ) (t : Bool) → nat_lt k (page_count shape) ≡ t → page_at (through_by shape first_table (page_at new.pages)) k ≡ page_at (replicate (page_count shape) erased) k
-          by k true t =
-              let inside : k < page_count shape = grind (arith, nat_tests) in
+          each : (k : ℕ) → k < page_count shape → page_at new.pages (placed_page shape first_table k) ≡ page_at (replicate (page_count shape) erased) k
+          each k inside =
               let early = before_tables in
-              page-through shape first_table (page_at new.pages) k inside ∙ ap (page_at new.pages) (div-add-mod' k n)
+              ap (page_at new.pages) (div-add-mod' k n)
               ∙ at_other k (λ e. omega (arith, e, inside, early)) (λ e. omega (arith, e, inside, early)) (omega (arith, inside, early))
               ∙ sym (erased_at (page_count shape) k inside)
-          by k false t =
-              let past : page_count shape ≤ k = grind (arith, nat_tests) in
-              past-through shape first_table (page_at new.pages) k past
-              ∙ sym (page-past_end (replicate (page_count shape) erased) k (let size = length-replicate (page_count shape) erased in omega (arith, past, size)))
 
       next_pair : IsNextPair shape r.spares page new.pages (page + 2)
       next_pair =

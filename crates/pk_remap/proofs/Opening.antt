@@ -1,20 +1,20 @@
 -- How a flash with spare blocks opens its image, and makes one.
-use Rattle.std.proofs.Common.{◌≡◌, ◌≢◌, ℕ, ◌+◌, ◌-◌, ◌<◌, ◌≤◌, Bool, true, false, List, [], replicate, refl, sym, ap, subst, ◌∙◌, arith, Option, Some, None}
-use Rattle.std.specs.Prelude.{Result, Ok, Err, IsOk, IsErr, OnOk, OnErr, IfOk, IsSome, if◌then◌else◌, nat_lt, unwrap_or}
-use Rattle.std.proofs.lemmas.{Bool.Decides.nat_tests, Option.same_Some}
-use Rattle.pk_base.{specs.declared.shape.ShapeError.ShapeError, specs.Page.Flash, specs.Page.page_at, specs.Page.erased, specs.Page.whole, specs.Page.IsPage, specs.Page.IsFlash, specs.Mark.Mark}
+use Rattle.std.proofs.Common.{◌≡◌, ◌≢◌, ℕ, ◌+◌, ◌-◌, Bool, true, false, List, [], replicate, refl, sym, ap, subst, ◌∙◌, arith, Option, Some, None}
+use Rattle.std.specs.Prelude.{Result, Ok, Err, IsOk, IsErr, OnOk, OnErr, IfOk, IsSome, if◌then◌else◌, unwrap_or}
+use Rattle.std.proofs.lemmas.Option.{same_Some}
+use Rattle.pk_base.{specs.declared.shape.ShapeError.ShapeError, specs.Page.Flash, specs.Page.page_at, specs.Page.erased, specs.Page.IsFlash, specs.Mark.Mark}
 use Rattle.pk_base.specs.declared.shape.ShapeError.TheVariants.{BadPage, BadBlock, TooLarge, TooSmall}
 use Rattle.pk_base.specs.Shape.{Shape, IsShape, page_count, checked, deepest, meta_blocks, has_bad_page, has_bad_block, is_too_large, is_too_small}
 use Rattle.pk_nand.{specs.BoardState.BoardState, specs.Calls.IsReady, specs.Calls.Rose, specs.Calls.Loaded, specs.Calls.LoadFailed, specs.Calls.Made, specs.Calls.MakeFailed}
 use Rattle.pk_nand.specs.declared.types.LoadFault.{LoadFault}
 use Rattle.pk_nand.specs.declared.types.LoadFault.TheVariants.{Fault, BadImage, Memory}
-use Rattle.pk_remap.{specs.declared.counts.BoardCounts.BoardCounts, specs.declared.relocation.Relocation.Relocation as InMemory, specs.Table.SpareTable, specs.Counting.HasTable, specs.Logged.told}
-use Rattle.pk_remap.{specs.Places.inner_shape, specs.Places.placed_page, specs.Places.through_by, specs.declared.image.Image.Image, specs.declared.mark_log.MarkLog.MarkLog, proofs.Standing.shows}
+use Rattle.pk_remap.{specs.declared.counts.BoardCounts.BoardCounts, specs.declared.relocation.Relocation.Relocation as InMemory, specs.Counting.HasTable, specs.Logged.told}
+use Rattle.pk_remap.{specs.Places.inner_shape, specs.Places.through_by, specs.declared.image.Image.Image, specs.declared.mark_log.MarkLog.MarkLog, proofs.Standing.shows}
 use Rattle.pk_remap.{specs.Causes.LoadCause, specs.Causes.inner_is_bad, specs.Causes.MakeCause, specs.Causes.inner_fault, specs.Causes.not_allowed, proofs.Counting.newest_is}
 use Rattle.pk_remap.specs.declared.image.Image.TheVariants.{Unknown, Missing, Unsure, Sure}
 use Rattle.pk_remap.specs.Remapped.{outer_pages, with_refusal, without_spares, remap_board, is_open, open_shape}
-use Rattle.pk_remap.proofs.Remapping.{opened, board_is, no_bool}
-use Rattle.pk_remap.{specs.Answers.LoadAnswers, specs.Answers.MakeAnswers, proofs.Placing.length-through, proofs.Placing.page-through, proofs.Placing.past-through}
+use Rattle.pk_remap.proofs.Remapping.{board_with, opened, board_is, no_bool}
+use Rattle.pk_remap.{specs.Answers.LoadAnswers, specs.Answers.MakeAnswers, proofs.Placing.whole_through}
 
 -- ---- shapes
 
@@ -53,24 +53,7 @@ small_is = refl
 -- ---- the board without a table
 
 abbrev pub closed : Bool → Option (List Mark) → BoardCounts → Option (List ℕ) → Option (List ℕ) → BoardState
-closed bare trail counts input posted = record {
-  shape = None;
-  bare = bare;
-  pages = [];
-  trail = trail;
-  reads = counts.reads;
-  programs = counts.programs;
-  erases = counts.erases;
-  flash_faults = counts.flash_faults;
-  read_faults = counts.read_faults;
-  stop_faults = counts.stop_faults;
-  failed_at = counts.failed_at;
-  bad = counts.bad;
-  input = input;
-  posted = posted;
-  in_faults = counts.in_faults;
-  out_faults = counts.out_faults;
-}
+closed bare trail counts input posted = board_with None bare [] trail counts input posted
 
 no_shape_is : {X : Type 0} (shape : Shape) → None ≡ Some shape → X
 no_shape_is shape e = absurd cc
@@ -181,20 +164,7 @@ whole_table work inner table =
     let own = newest_is work.shape work.spares inner.pages table.some in
     let shown : outer_pages work.shape work.spares inner.pages ≡ through_by work.shape own.1 (page_at inner.pages) =
     ap (λ (f : Option Flash). unwrap_or f []) (shows work.shape work.spares inner.pages own.0 own.1 own.2) in
-    subst (λ (f : Flash). IsFlash work.shape f) (sym shown) (record {
-      size = length-through work.shape own.1 (page_at inner.pages);
-      full = λ k bytes is. by own.1 k bytes is (nat_lt k (page_count work.shape)) refl;
-    })
-  where
-    by : (top : SpareTable) (k : ℕ) (bytes : List ℕ) → page_at (through_by work.shape top (page_at inner.pages)) k ≡ whole bytes → (t : Bool) → nat_lt k (page_count work.shape) ≡ t
-        → IsPage work.shape bytes
-    by top k bytes is true t =
-        let inside : k < page_count work.shape = grind (arith, nat_tests) in
-        table.ready.flash.full (placed_page work.shape top k) bytes (sym (page-through work.shape top (page_at inner.pages) k inside) ∙ is)
-    by top k bytes is false t =
-        let past : page_count work.shape ≤ k = grind (arith, nat_tests) in
-        let none = sym (past-through work.shape top (page_at inner.pages) k past) ∙ is in
-        cc
+    subst (λ (f : Flash). IsFlash work.shape f) (sym shown) (whole_through work.shape own.1 (page_at inner.pages) table.ready.flash.full)
 
 -- ---- from the board before to the one on the way
 

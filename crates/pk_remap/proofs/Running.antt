@@ -174,45 +174,25 @@ module _ (r : InMemory) (before : Flash) (old : BoardState) (runs : RelocationRu
   with_copy : (copy : Vec ℕ Global) → MOST_PAGE_BYTES ≤ length copy.items → HasPageBuffers (record r { copy = copy })
   with_copy copy room = record { fits = runs.room.fits; all = runs.room.all; kept_page = runs.room.kept_page; new_page = runs.room.new_page; read_page = room }
 
-  -- the same call, whatever the step did to the phase, the copy and the next pair
+  -- the same call, whatever the step did to the phase, the copy, the next pair and the spares
+  same_as : (copy : Vec ℕ Global) → MOST_PAGE_BYTES ≤ length copy.items → (phase : Phase) (next : Option ℕ) (taken : ℕ) → r.taken ≤ taken → taken ≤ r.spares
+      → SameCall r (record r { copy = copy; phase = phase; next = next; taken = taken })
+  same_as copy room phase next taken least most = record { shape = refl; spares = refl; call = refl; bytes = refl; taken = least; most = most; room = with_copy copy room }
+
   same_call : (copy : Vec ℕ Global) → MOST_PAGE_BYTES ≤ length copy.items → (phase : Phase) (next : Option ℕ)
       → SameCall r (record r { copy = copy; phase = phase; next = next })
-  same_call copy room phase next = record {
-    shape = refl;
-    spares = refl;
-    call = refl;
-    bytes = refl;
-    taken = omega arith;
-    most = let left = runs.goes_on.serving.left in omega (arith, left);
-    room = with_copy copy room;
-  }
+  same_call copy room phase next = same_as copy room phase next r.taken (omega arith) (let left = runs.goes_on.serving.left in omega (arith, left))
 
   pub same_phase : (phase : Phase) (next : Option ℕ) → SameCall r (record r { phase = phase; next = next })
   same_phase phase next = same_call r.copy runs.room.read_page phase next
 
   same_next : SameCall r (record r { taken = r.taken + 1; phase = EraseSpare })
-  same_next = record {
-    shape = refl;
-    spares = refl;
-    call = refl;
-    bytes = refl;
-    taken = omega arith;
-    most = let left = runs.goes_on.serving.left in omega (arith, left);
-    room = runs.room;
-  }
+  same_next = same_as r.copy runs.room.read_page EraseSpare r.next (r.taken + 1) (omega arith) (let left = runs.goes_on.serving.left in omega (arith, left))
 
   -- the spare is taken although its table could not be written
   same_failed : (copy : Vec ℕ Global) → MOST_PAGE_BYTES ≤ length copy.items → (next : Option ℕ)
       → SameCall r (record r { copy = copy; next = next; taken = r.taken + 1 })
-  same_failed copy room next = record {
-    shape = refl;
-    spares = refl;
-    call = refl;
-    bytes = refl;
-    taken = omega arith;
-    most = let left = runs.goes_on.serving.left in omega (arith, left);
-    room = with_copy copy room;
-  }
+  same_failed copy room next = same_as copy room r.phase next (r.taken + 1) (omega arith) (let left = runs.goes_on.serving.left in omega (arith, left))
 
   -- a step that fails
   pub stopped_as : (result : Result Bool NandFault) (r' : InMemory) (new : BoardState) → IsErr result → Stopped r' new → StepOutcome r before old result r' new

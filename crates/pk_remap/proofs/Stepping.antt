@@ -1,13 +1,13 @@
 -- The steps of a relocation, call by call.
 use Rattle.std.proofs.Common.{◌≡◌, ◌≢◌, ◌⊎◌, inl, inr, ℕ, suc, ◌+◌, ◌-◌, ◌*◌, ◌/◌, ◌%◌, ◌<◌, ◌≤◌, Bool, true, false, List, [], length, refl, sym, ap, subst, ◌∙◌, arith, Some, zero-add}
-use Rattle.std.{specs.Prelude.nat_eq, specs.Prelude.nat_lt, proofs.Math.Nat.mod-lt, proofs.Math.Nat.mul_comm, proofs.lemmas.Bool.Decides.nat_tests, proofs.lemmas.Nat.div-add-mod'}
+use Rattle.std.{specs.Prelude.nat_lt, proofs.Math.Nat.mod-lt, proofs.Math.Nat.mul_comm, proofs.lemmas.Bool.Decides.nat_tests, proofs.lemmas.Nat.div-add-mod'}
 use Rattle.pk_base.{specs.Shape.Shape, specs.Shape.page_count, specs.Mark.Mark, specs.Mark.program, specs.Mark.erase, specs.Mark.post, specs.Mark.after}
 use Rattle.pk_base.specs.Page.{Page, Flash, page_at, erased, whole, torn, IsPage, IsFlash}
 use Rattle.pk_nand.{specs.BoardState.BoardState, specs.BoardState.shape_of, specs.Cut.Interrupted, specs.Cut.MayLeave, specs.Cut.touched_block, proofs.Writing.shape_is}
 use Rattle.pk_nand.{specs.Calls.IsReady, specs.Calls.after_program, specs.Calls.ProgramFailed, specs.Calls.LeftBy, specs.Calls.Rose, specs.Operations.after_erase, specs.Operations.EraseFailed}
 use Rattle.pk_nand.proofs.Leaving.{IsFlash-interrupted, IsFlash-after, full_program, full_erase, page_at-slice_set, page_at-slice_set_same, page_at-erased_from, page-erased_in}
 use Rattle.pk_remap.{specs.Table.table_bytes, specs.Places.inner_shape, specs.Places.placed_page, specs.Places.through_by, specs.Through.MayShow, specs.Through.IsMarkWithin, proofs.Finding.pair-first}
-use Rattle.pk_remap.{specs.Newest.table_in, specs.Newest.IsTablePage, specs.Newest.IsNewest, specs.Newest.IsNewestBeside, proofs.Placing.page-through, proofs.Placing.div-of, proofs.Placing.mod-of}
+use Rattle.pk_remap.proofs.Finding.{by_equal}
 use Rattle.pk_remap.specs.Relocating.{Relocation, block_of, block, copies_of, fill_of, spare_block, spare_page, next_table, IsSpareFilled, IsSpareFull, IsCall, IsRelocating, IsTop, IsTablePair}
 use Rattle.pk_remap.specs.Stepping.{with_next_spare, ReachedSafely, WentSafely, RelocationGoesOn, SpareErased, PageWritten, SpareFailed, TableErased, FirstWritten, SecondWritten, IsOtherTable}
 use Rattle.pk_remap.specs.Stepping.{IsSource, ErasesSpare, FailsToEraseSpare, ReadsSource, WritesInOrder, WritesSpare, FailsToWriteSpare, Fills, ErasesTable, FailsToEraseTable, WritesFirst}
@@ -15,6 +15,7 @@ use Rattle.pk_remap.specs.Stepping.{FailsToWriteFirst, WritesSecond, FailsToWrit
 use Rattle.pk_remap.proofs.Cutting.{some, spare_before_tables, spare_top, spare_tables, spare_above, spare_cut, turn_top, turn_above, turn_cut, next_again, pair_table, OneOfTables, exchange}
 use Rattle.pk_remap.proofs.Cutting.{spare_page_before, pair_full, pair_above, pair_beside, pair_cut}
 use Rattle.pk_remap.proofs.Calls.{program_reached, program_went, erase_reached, erase_went, left_interrupted, done_interrupted}
+use Rattle.pk_remap.{specs.Newest.table_in, specs.Newest.IsTablePage, specs.Newest.IsNewest, specs.Newest.IsNewestBeside, proofs.Placing.page-through, proofs.Placing.div-of, proofs.Placing.mod-of}
 use Rattle.pk_remap.{proofs.Lifting.times_le, proofs.Lifting.two_more, proofs.Standing.shows, proofs.Standing.NoneOr}
 
 -- ---- what is unchanged
@@ -58,6 +59,10 @@ ready_again old new shape mark ready same full i = record {
   shape_is = same ∙ ready.shape_is;
   flash = IsFlash-interrupted shape mark old.pages new.pages [] full ready.flash i;
 }
+
+-- and after reads alone
+pub ready_same : (old new : BoardState) (shape : Shape) → IsReady old shape → new.shape ≡ old.shape → new.pages ≡ old.pages → IsReady new shape
+ready_same old new shape ready same pages = record { shape_is = same ∙ ready.shape_is; flash = subst (IsFlash shape) (sym pages) ready.flash }
 
 -- the pages of the spare exist
 spare_inside : (r : Relocation) (before flash : Flash) → IsRelocating r before flash → (i : ℕ) → i < r.shape.block_pages → spare_page r i < length flash
@@ -189,7 +194,7 @@ module _ (r : Relocation) (before : Flash) (old : BoardState) (on : RelocationGo
             };
             top = spare_top r before old.pages serving (program (spare_page r k) bytes) new.pages [] in_block i top;
             filled = record {
-              copied = λ j below. ap (λ (f : Flash). page_at f (spare_page r j)) pages ∙ copied j below (nat_eq j k) refl;
+              copied = λ j below. ap (λ (f : Flash). page_at f (spare_page r j)) pages ∙ copied j below;
               rest = λ j from inside. ap (λ (f : Flash). page_at f (spare_page r j)) pages
                   ∙ page_at-slice_set old.pages (spare_page r k) (spare_page r j) (whole bytes) (λ e. omega (arith, e, from))
                   ∙ filled.rest j (omega (arith, from)) inside;
@@ -197,18 +202,15 @@ module _ (r : Relocation) (before : Flash) (old : BoardState) (on : RelocationGo
             tables = spare_tables r before old.pages serving (program (spare_page r k) bytes) new.pages [] in_block i;
           }
         where
-          copied : (j : ℕ) → j < suc k → (t : Bool) → nat_eq j k ≡ t
-              → page_at (after (shape_of old) (program (spare_page r k) bytes) old.pages)
-              (spare_page r j) ≡ page_at (after shape r.mark before) (block r * n + j)
-          copied j below true t =
-              let same : j ≡ k = grind (arith, nat_tests) in
+          copied : (j : ℕ) → j < suc k → page_at (after (shape_of old) (program (spare_page r k) bytes) old.pages) (spare_page r j)
+              ≡ page_at (after shape r.mark before) (block r * n + j)
+          copied j below =
               let P : ℕ → Type 0 = λ x. page_at (after (shape_of old) (program (spare_page r k) bytes) old.pages)
               (spare_page r x) ≡ page_at (after shape r.mark before) (block r * n + x) in
-              subst P (sym same) (page_at-slice_set_same old.pages (spare_page r k) (whole bytes) (spare_inside r before old.pages serving k less) ∙ sym source)
-          copied j below false t =
-              let other : j ≢ k = grind (arith, nat_tests) in
-              page_at-slice_set old.pages (spare_page r k) (spare_page r j) (whole bytes) (λ e. other (omega (arith, e)))
-              ∙ filled.copied j (omega (arith, below, other))
+              by_equal j k (P j)
+              (λ same. subst P (sym same) (page_at-slice_set_same old.pages (spare_page r k) (whole bytes) (spare_inside r before old.pages serving k less) ∙ sym source))
+              (λ other. page_at-slice_set old.pages (spare_page r k) (spare_page r j) (whole bytes) (λ e. other (omega (arith, e)))
+              ∙ filled.copied j (omega (arith, below, other)))
 
       pub write_failed : (new : BoardState) → ProgramFailed old new (spare_page r k) bytes → SpareFailed r before old new
       write_failed new failed =
