@@ -1,14 +1,13 @@
 -- A call of the outer flash, as it is made on the inner flash.
-use Rattle.std.proofs.Common.{◌≡◌, inl, ℕ, ◌+◌, ◌/◌, ◌<◌, ◌≤◌, List, [], length, refl, sym, ap, ◌∙◌, arith, Some}
-use Rattle.std.{specs.Prelude.nat_lt, specs.Prelude.Bool, specs.Prelude.true, specs.Prelude.false, proofs.lemmas.Bool.Decides.nat_tests}
-use Rattle.pk_base.{specs.Shape.Shape, specs.Shape.page_count, specs.Page.Flash, specs.Page.page_at, specs.Page.whole, specs.Page.IsPage, specs.Page.IsFlash}
+use Rattle.std.proofs.Common.{◌≡◌, inl, ℕ, ◌+◌, ◌/◌, ◌<◌, ◌≤◌, List, [], length, refl, ap, ◌∙◌, arith, Some}
+use Rattle.pk_base.{specs.Shape.Shape, specs.Page.Flash, specs.Page.page_at, specs.Page.IsPage, specs.Page.IsFlash}
 use Rattle.pk_base.specs.Mark.{Mark, program, erase, post, after}
 use Rattle.pk_nand.{specs.BoardState.BoardState, specs.Cut.Interrupted, specs.Cut.touched_block, specs.Calls.IsReady, proofs.Touching.elsewhere}
 use Rattle.pk_nand.proofs.Leaving.{IsFlash-interrupted, full_program, full_erase, interrupted_done}
 use Rattle.pk_remap.{specs.Places.inner_shape, specs.Places.place, specs.Places.placed_page, specs.Newest.IsTablePage, specs.Through.MayShow, specs.Through.mark_below, specs.Through.IsMarkWithin}
 use Rattle.pk_remap.{specs.Relocating.Relocation, specs.Relocating.IsCall, specs.Relocating.IsTop, proofs.Finding.newest-kept, proofs.Lifting.lifts, proofs.Lifting.lift-done}
 use Rattle.pk_remap.{specs.Beginning.above_of, specs.Beginning.CanRelocate, specs.Beginning.CallsBelow, specs.Beginning.DoneBelow, specs.Beginning.FailsBelow, proofs.Calls.left_interrupted}
-use Rattle.pk_remap.proofs.Placing.{placed_page-div, place-below, block_of as page_block, length-through, page-through, past-through}
+use Rattle.pk_remap.proofs.Placing.{placed_page-div, place-below, block_of as page_block, whole_through}
 use Rattle.pk_remap.proofs.Standing.{shows, may_show, table_block}
 
 module _ (r : Relocation) (old : BoardState) (can : CanRelocate r old) where
@@ -63,18 +62,7 @@ module _ (r : Relocation) (old : BoardState) (can : CanRelocate r old) where
 
   -- the outer flash is one of its shape
   pub whole_above : IsFlash shape (above_of r old.pages)
-  whole_above = record {
-    size = length-through shape r.table (page_at old.pages);
-    full = λ k bytes is. by k bytes is (nat_lt k (page_count shape)) refl;
-  } where
-    by : (k : ℕ) (bytes : List ℕ) → page_at (above_of r old.pages) k ≡ whole bytes → (t : Bool) → nat_lt k (page_count shape) ≡ t → IsPage shape bytes
-    by k bytes is true t =
-        let inside : k < page_count shape = grind (arith, nat_tests) in
-        can.ready.flash.full (placed_page shape r.table k) bytes (sym (page-through shape r.table (page_at old.pages) k inside) ∙ is)
-    by k bytes is false t =
-        let past : page_count shape ≤ k = grind (arith, nat_tests) in
-        let none = sym (past-through shape r.table (page_at old.pages) k past) ∙ is in
-        cc
+  whole_above = whole_through shape r.table (page_at old.pages) can.ready.flash.full
 
   full_mark : (mark : Mark) → IsCall shape mark (above_of r old.pages)
       → (at : ℕ) (bs : List ℕ) → mark_below shape r.table mark ≡ program at bs → IsPage inner bs

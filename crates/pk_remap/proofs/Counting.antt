@@ -1,6 +1,6 @@
 -- What the calls of a relocation do besides: only the flash differs, and spares are taken only for faults.
 use Rattle.std.proofs.Common.{◌≡◌, ◌≢◌, ◌⊎◌, inl, inr, ℕ, ◌+◌, ◌<◌, ◌≤◌, Bool, true, false, length, refl, sym, ap, subst, ◌∙◌, arith, Option, Some, None}
-use Rattle.std.{specs.Prelude.nat_lt, specs.Prelude.Result, specs.Prelude.Ok, specs.Prelude.Err, proofs.lemmas.Bool.Decides.nat_tests}
+use Rattle.std.{specs.Prelude.nat_lt, specs.Prelude.Result, specs.Prelude.Ok, specs.Prelude.Err, proofs.lemmas.Bool.Decides.nat_tests, proofs.lemmas.Option.same_Some}
 use Rattle.pk_base.{specs.Shape.Shape, specs.Page.Flash, specs.Page.page_at}
 use Rattle.pk_nand.{specs.BoardState.BoardState, specs.Calls.IsReady, specs.Calls.Rose, specs.Calls.last_count, specs.Operations.after_read, specs.Operations.ReadFailed, specs.Effects.OnlyFlash}
 use Rattle.pk_nand.{proofs.Effects.only_then, specs.declared.types.NandFault.NandFault}
@@ -97,13 +97,8 @@ newest_is shape spares flash some = by (newest_table shape spares (page_at flash
 pub one_newest : (shape : Shape) (spares : ℕ) (flash : Flash) (page page' : ℕ) (table table' : SpareTable) → IsNewest shape spares (page_at flash) page table
     → IsNewest shape spares (page_at flash) page' table' → table' ≡ table
 one_newest shape spares flash page page' table table' is is' =
-    same_top (page, table) (page', table') (sym (newest-found shape spares (page_at flash) page table is) ∙ newest-found shape spares (page_at flash) page' table' is')
-  where
-    same_top : (x y : ℕ × SpareTable) → Some x ≡ Some y → y.1 ≡ x.1
-    same_top x y e = ap (λ (p : ℕ × SpareTable). p.1) (sym (same x y e))
-      where
-        same : (x y : ℕ × SpareTable) → Some x ≡ Some y → x ≡ y
-        same x y e = cc
+    ap (λ (p : ℕ × SpareTable). p.1) (sym (same_Some (page, table) (page', table')
+    (sym (newest-found shape spares (page_at flash) page table is) ∙ newest-found shape spares (page_at flash) page' table' is')))
 
 -- a board with this newest table
 pub has_table : (r : InMemory) (board : BoardState) (page : ℕ) (table : SpareTable) → IsReady board (inner_shape r.shape r.spares)

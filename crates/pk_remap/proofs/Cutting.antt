@@ -1,36 +1,25 @@
 -- Wherever a step of a relocation is cut, the outer flash is what the call that it serves may leave.
 use Rattle.std.proofs.Common.{◌≡◌, ◌≢◌, ◌⊎◌, inl, inr, ℕ, zero, suc, ◌+◌, ◌-◌, ◌*◌, ◌/◌, ◌%◌, ◌<◌, ◌≤◌, Bool, true, false, List, [], ◌∷◌, ◌++◌, length, refl, sym, ap, subst, ◌∙◌, arith, Some}
 use Rattle.std.proofs.Common.{length-append}
-use Rattle.std.{specs.Prelude.nat_eq, specs.Prelude.nat_lt, specs.Prelude.nat_le, specs.Prelude.◌||◌, specs.Prelude.◌&&◌, specs.Prelude.replicate, specs.List.list_all, proofs.Math.Nat.mod-lt}
+use Rattle.std.{specs.Prelude.nat_lt, specs.Prelude.nat_le, specs.Prelude.◌||◌, specs.Prelude.◌&&◌, specs.Prelude.replicate, specs.List.list_all, proofs.Math.Nat.mod-lt}
 use Rattle.std.{proofs.lemmas.Bool.Decides.nat_tests, proofs.lemmas.List.length-replicate, proofs.lemmas.Nat.div-add-mod', proofs.lemmas.Option.same_Some}
-use Rattle.pk_base.{specs.Shape.Shape, specs.Shape.page_count, specs.Page.Flash, specs.Page.page_at, specs.Page.torn}
+use Rattle.pk_base.{specs.Shape.Shape, specs.Shape.page_count, specs.Page.Flash, specs.Page.page_at, proofs.Logic.both_true}
 use Rattle.pk_base.specs.Mark.{Mark, program, erase, post, after}
-use Rattle.pk_nand.{specs.Cut.Interrupted, specs.Cut.touched_block, proofs.Leaving.same_pages, proofs.Leaving.length-after, proofs.Leaving.interrupted_done}
+use Rattle.pk_nand.{specs.Cut.Interrupted, specs.Cut.touched_block, proofs.Leaving.length-after, proofs.Leaving.interrupted_done}
 use Rattle.pk_nand.proofs.Touching.{elsewhere, untouched_after, touches_one_block}
 use Rattle.pk_remap.{specs.declared.layout.TheConstants.FAILED, specs.Table.SpareTable, specs.Table.table_bytes, specs.Table.table_page, specs.Table.is_table, specs.Table.is_served}
 use Rattle.pk_remap.{specs.Places.inner_shape, specs.Places.place, specs.Places.placed_page, specs.Places.through_by, specs.Through.MayShow, specs.Through.IsMarkWithin, proofs.Lifting.times_le}
-use Rattle.pk_remap.{specs.Newest.first_table_page, specs.Newest.IsTablePage, specs.Newest.IsNewest, specs.Newest.IsNewestBeside, proofs.Finding.beside-kept, proofs.Finding.pair-newest}
+use Rattle.pk_remap.{specs.Newest.first_table_page, specs.Newest.IsTablePage, specs.Newest.IsNewest, specs.Newest.IsNewestBeside, proofs.Finding.by_equal, proofs.Finding.beside-kept}
+use Rattle.pk_remap.{proofs.Finding.pair-newest, proofs.TableLemmas.table_parts, proofs.TableLemmas.parts_table, proofs.TableLemmas.page_again}
 use Rattle.pk_remap.specs.Relocating.{Relocation, block_of, block, spare_block, spare_page, next_table, IsSpareFull, IsRelocating, IsTop, SameTables, IsTablePair}
-use Rattle.pk_remap.proofs.TableLemmas.{table_parts, parts_table, page_again}
-use Rattle.pk_remap.proofs.Placing.{block_of as page_block, length-through, page-through, past-through, more_here, more_other}
+use Rattle.pk_remap.proofs.Placing.{block_of as page_block, is_through, page-through, more_here, more_other}
 use Rattle.pk_remap.proofs.Standing.{may_show, apart_through, table_page_kept, spare-newest, spare-through, turn-newest, turn-through, table_block, NoneOr, pair-none_or, pair-others}
-
--- a page after the last is Torn
-pub page-past_end : (flash : Flash) (k : ℕ) → length flash ≤ k → page_at flash k ≡ torn
-page-past_end [] zero past = refl
-page-past_end [] (suc k) past = refl
-page-past_end (p ∷ ps) zero past = absurd (omega (arith, past))
-page-past_end (p ∷ ps) (suc k) past = page-past_end ps k (omega (arith, past))
 
 all_append : (shape : Shape) (front bs : List ℕ) → list_all (is_served shape) front ≡ true
     → list_all (is_served shape) bs ≡ true → list_all (is_served shape) (front ++ bs) ≡ true
 all_append shape [] bs p q = q
 all_append shape (a ∷ front) bs p q = let tests = both_true (is_served shape a)
     (list_all (is_served shape) front) p in rw tests.0 (all_append shape front bs tests.1 q)
-  where
-    both_true : (a b : Bool) → (a && b) ≡ true → (a ≡ true) × (b ≡ true)
-    both_true true b e = (refl, e)
-    both_true false b e = cc
 
 failed_served : (shape : Shape) (n : ℕ) → list_all (is_served shape) (replicate n FAILED) ≡ true
 failed_served shape zero = refl
@@ -180,9 +169,8 @@ module _ (r : Relocation) (before flash : Flash) (serving : IsRelocating r befor
   -- by the next table the outer flash is what the call leaves once it is done
   pub exchange : (cut : Flash) → IsSpareFull r before cut → Interrupted shape r.mark before (through_by shape r.table (page_at cut)) []
       → through_by shape (next_table r) (page_at cut) ≡ after shape r.mark before
-  exchange cut full above = same_pages (after shape r.mark before) (through_by shape (next_table r) (page_at cut))
-      (length-through shape (next_table r) (page_at cut) ∙ sym (length-after shape r.mark before ∙ serving.whole_above.size))
-      (λ k. by_bound k (nat_lt k (page_count shape)) refl)
+  exchange cut full above = is_through shape (next_table r) (page_at cut) (after shape r.mark before) (length-after shape r.mark before ∙ serving.whole_above.size)
+      (λ k inside. by_equal (k / n) (block r) (page_at cut (placed_page shape (next_table r) k) ≡ page_at (after shape r.mark before) k) (here k inside) (there k inside))
     where
       few : shape.blocks ≤ FAILED
       few = let most = serving.shape_is.blocks_most in omega (arith, most)
@@ -200,21 +188,6 @@ module _ (r : Relocation) (before flash : Flash) (serving : IsRelocating r befor
           more_other shape r.table (r.taken - length r.table.serves) (block r) few block_inside (k / n) (page_block shape r.table some k inside) other in
           ap (λ (b : ℕ). page_at cut (b * n + k % n)) place_is ∙ sym (page-through shape r.table (page_at cut) k inside)
           ∙ other_before (through_by shape r.table (page_at cut)) k above other ∙ sym (other_after k other)
-
-      by_block : (k : ℕ) (t : Bool) → k < page_count shape → nat_eq (k / n) (block r) ≡ t
-          → page_at cut (placed_page shape (next_table r) k) ≡ page_at (after shape r.mark before) k
-      by_block k true inside t = let same : k / n ≡ block r = grind (arith, nat_tests) in here k inside same
-      by_block k false inside t = let other : k / n ≢ block r = grind (arith, nat_tests) in there k inside other
-
-      by_bound : (k : ℕ) (t : Bool) → nat_lt k (page_count shape) ≡ t
-          → page_at (through_by shape (next_table r) (page_at cut)) k ≡ page_at (after shape r.mark before) k
-      by_bound k true t =
-          let inside : k < page_count shape = grind (arith, nat_tests) in
-          page-through shape (next_table r) (page_at cut) k inside ∙ by_block k (nat_eq (k / n) (block r)) inside refl
-      by_bound k false t =
-          let past : page_count shape ≤ k = grind (arith, nat_tests) in
-          past-through shape (next_table r) (page_at cut) k past
-          ∙ sym (page-past_end (after shape r.mark before) k (omega (arith, past, length-after shape r.mark before, serving.whole_above.size)))
 
   -- pages of the spare are no table pages
   pub spare_page_before : (i : ℕ) → i < n → spare_page r i < first_table_page shape r.spares

@@ -1,15 +1,20 @@
 -- The newest table: its search, and which changes of pages leave it the newest.
 use Rattle.std.proofs.Common.{◌≡◌, ◌≢◌, ◌⊎◌, inl, inr, ℕ, zero, suc, ◌+◌, ◌*◌, ◌<◌, ◌≤◌, Bool, true, false, refl, sym, ap, subst, ◌∙◌, arith, Option, Some, None}
-use Rattle.std.{specs.Prelude.nat_le, specs.Prelude.nat_eq, specs.Prelude.if◌then◌else◌, proofs.lemmas.Bool.Decides.nat_tests}
+use Rattle.std.{specs.Prelude.nat_le, specs.Prelude.nat_eq, specs.Prelude.if◌then◌else◌, proofs.lemmas.Bool.Decides.nat_tests, proofs.lemmas.Option.same_Some}
 use Rattle.pk_base.{specs.Shape.Shape, specs.Page.Page}
 use Rattle.pk_remap.specs.Table.{SpareTable}
 use Rattle.pk_remap.specs.Newest.{table_in, newer_table, newest_from, newest_table, first_table_page, IsTablePage, IsNewer, IsNewest, IsNewestBeside}
 
-pub same_table : (x y : SpareTable) → Some x ≡ Some y → x ≡ y
-same_table x y e = cc
-
 pub none_some : (x : SpareTable) → None ≡ Some x → ⊥
 none_some x e = cc
+
+-- two numbers are the same or differ
+pub by_equal : (a b : ℕ) (P : Type 0) → (a ≡ b → P) → (a ≢ b → P) → P
+by_equal a b P same other = by (nat_eq a b) refl
+  where
+    by : (t : Bool) → nat_eq a b ≡ t → P
+    by true t = same (grind (arith, nat_tests))
+    by false t = other (grind (arith, nat_tests))
 
 module _ (shape : Shape) (spares : ℕ) (at : ℕ → Page) where
   -- the newest table of n pages from page k on
@@ -27,83 +32,62 @@ module _ (shape : Shape) (spares : ℕ) (at : ℕ → Page) where
   Found from count None = NoneIn from count
   Found from count (Some top) = Best from count top.0 top.1
 
+  -- a page has one table
+  own_number : (k : ℕ) (table : SpareTable) → table_in shape spares (at k) ≡ Some table → (j : ℕ) (other : SpareTable) → j ≡ k
+      → table_in shape spares (at j) ≡ Some other → other.number ≡ table.number
+  own_number k table e j other same is =
+      ap (λ (x : SpareTable). x.number) (same_Some other table (sym is ∙ ap (λ (x : ℕ). table_in shape spares (at x)) same ∙ e))
+
   found-step : (k n : ℕ) (own : Option SpareTable) (later : Option (ℕ × SpareTable))
       → table_in shape spares (at k) ≡ own → Found (suc k) n later → Found k (suc n) (newer_table k own later)
-  found-step k n None None e more = λ j from to. by (nat_eq j k) j from to refl
-    where
-      by : (t : Bool) (j : ℕ) → k ≤ j → j < k + suc n → nat_eq j k ≡ t → table_in shape spares (at j) ≡ None
-      by true j from to t = let same : j ≡ k = grind (arith, nat_tests) in ap (λ (x : ℕ). table_in shape spares (at x)) same ∙ e
-      by false j from to t = let other : j ≢ k = grind (arith, nat_tests) in more j (omega (arith, from, other)) (omega (arith, to))
+  found-step k n None None e more = λ j from to. by_equal j k (table_in shape spares (at j) ≡ None)
+      (λ same. ap (λ (x : ℕ). table_in shape spares (at x)) same ∙ e)
+      (λ other. more j (omega (arith, from, other)) (omega (arith, to)))
   found-step k n None (Some later) e more = record {
     above = omega (arith, more.above);
     below = omega (arith, more.below);
     is = more.is;
-    newest = λ j from to other is. by (nat_eq j k) j from to other is refl;
-  } where
-    by : (t : Bool) (j : ℕ) → k ≤ j → j < k + suc n → (other : SpareTable)
-        → table_in shape spares (at j) ≡ Some other → nat_eq j k ≡ t → IsNewer later.0 later.1 j other
-    by true j from to other is t = let same : j ≡ k = grind (arith, nat_tests) in absurd
-        (none_some other (sym e ∙ ap (λ (x : ℕ). table_in shape spares (at x)) (sym same) ∙ is))
-    by false j from to other is t = let apart : j ≢ k = grind (arith, nat_tests) in more.newest j (omega (arith, from, apart)) (omega (arith, to)) other is
+    newest = λ j from to other is. by_equal j k (IsNewer later.0 later.1 j other)
+        (λ same. absurd (none_some other (sym e ∙ ap (λ (x : ℕ). table_in shape spares (at x)) (sym same) ∙ is)))
+        (λ apart. more.newest j (omega (arith, from, apart)) (omega (arith, to)) other is);
+  }
   found-step k n (Some table) None e more = record {
     above = omega arith;
     below = omega arith;
     is = e;
-    newest = λ j from to other is. by (nat_eq j k) j from to other is refl;
-  } where
-    by : (t : Bool) (j : ℕ) → k ≤ j → j < k + suc n → (other : SpareTable)
-        → table_in shape spares (at j) ≡ Some other → nat_eq j k ≡ t → IsNewer k table j other
-    by true j from to other is t =
-        let same : j ≡ k = grind (arith, nat_tests) in
-        let own : other ≡ table = same_table other table (sym is ∙ ap (λ (x : ℕ). table_in shape spares (at x)) same ∙ e) in
-        inr (ap (λ (x : SpareTable). x.number) own, from)
-    by false j from to other is t =
-        let apart : j ≢ k = grind (arith, nat_tests) in
-        absurd (none_some other (sym (more j (omega (arith, from, apart)) (omega (arith, to))) ∙ is))
+    newest = λ j from to other is. by_equal j k (IsNewer k table j other)
+        (λ same. inr (own_number k table e j other same is, from))
+        (λ apart. absurd (none_some other (sym (more j (omega (arith, from, apart)) (omega (arith, to))) ∙ is)));
+  }
   found-step k n (Some table) (Some later) e more = by_number (nat_le later.1.number table.number) refl
     where
+      if_less : (a b j : ℕ) → a ≤ b → k ≤ j → (a < b) ⊎ ((a ≡ b) × (k ≤ j))
+      if_less a b j most from = by_equal a b ((a < b) ⊎ ((a ≡ b) × (k ≤ j))) (λ same. inr (same, from)) (λ apart. inl (omega (arith, most, apart)))
+
       by_number : (t : Bool) → nat_le later.1.number table.number ≡ t → Found k (suc n) (if t then Some (k, table) else Some later)
-      by_number true t = record {
-        above = omega arith;
-        below = omega arith;
-        is = e;
-        newest = λ j from to other is. by (nat_eq j k) j from to other is refl;
-      } where
-        by : (b : Bool) (j : ℕ) → k ≤ j → j < k + suc n → (other : SpareTable)
-            → table_in shape spares (at j) ≡ Some other → nat_eq j k ≡ b → IsNewer k table j other
-        by true j from to other is b =
-            let same : j ≡ k = grind (arith, nat_tests) in
-            let own : other ≡ table = same_table other table (sym is ∙ ap (λ (x : ℕ). table_in shape spares (at x)) same ∙ e) in
-            inr (ap (λ (x : SpareTable). x.number) own, from)
-        by false j from to other is b =
-            let apart : j ≢ k = grind (arith, nat_tests) in
-            let most : later.1.number ≤ table.number = grind (arith, nat_tests) in
-            elim (more.newest j (omega (arith, from, apart)) (omega (arith, to)) other is) [
-              | inl less ↦ inl (omega (arith, less, most))
-              | inr same ↦ if_less other.number table.number (omega (arith, same.0, most)) from
-            ]
-          where
-            if_less : (a b : ℕ) → a ≤ b → k ≤ j → (a < b) ⊎ ((a ≡ b) × (k ≤ j))
-            if_less a b most from = by_eq (nat_eq a b) refl
-              where
-                by_eq : (t : Bool) → nat_eq a b ≡ t → (a < b) ⊎ ((a ≡ b) × (k ≤ j))
-                by_eq true t = let same : a ≡ b = grind (arith, nat_tests) in inr (same, from)
-                by_eq false t = let apart : a ≢ b = grind (arith, nat_tests) in inl (omega (arith, most, apart))
-      by_number false t = record {
-        above = omega (arith, more.above);
-        below = omega (arith, more.below);
-        is = more.is;
-        newest = λ j from to other is. by (nat_eq j k) j from to other is refl;
-      } where
-        by : (b : Bool) (j : ℕ) → k ≤ j → j < k + suc n → (other : SpareTable)
-            → table_in shape spares (at j) ≡ Some other → nat_eq j k ≡ b → IsNewer later.0 later.1 j other
-        by true j from to other is b =
-            let same : j ≡ k = grind (arith, nat_tests) in
-            let own : other ≡ table = same_table other table (sym is ∙ ap (λ (x : ℕ). table_in shape spares (at x)) same ∙ e) in
-            let less : table.number < later.1.number = grind (arith, nat_tests) in
-            let number : other.number ≡ table.number = ap (λ (x : SpareTable). x.number) own in
-            inl (omega (arith, less, number))
-        by false j from to other is b = let apart : j ≢ k = grind (arith, nat_tests) in more.newest j (omega (arith, from, apart)) (omega (arith, to)) other is
+      by_number true t =
+          let most : later.1.number ≤ table.number = grind (arith, nat_tests) in
+          record {
+            above = omega arith;
+            below = omega arith;
+            is = e;
+            newest = λ j from to other is. by_equal j k (IsNewer k table j other)
+                (λ same. inr (own_number k table e j other same is, from))
+                (λ apart. elim (more.newest j (omega (arith, from, apart)) (omega (arith, to)) other is) [
+                  | inl less ↦ inl (omega (arith, less, most))
+                  | inr same ↦ if_less other.number table.number j (omega (arith, same.0, most)) from
+                ]);
+          }
+      by_number false t =
+          let less : table.number < later.1.number = grind (arith, nat_tests) in
+          record {
+            above = omega (arith, more.above);
+            below = omega (arith, more.below);
+            is = more.is;
+            newest = λ j from to other is. by_equal j k (IsNewer later.0 later.1 j other)
+                (λ same. inl (omega (arith, less, own_number k table e j other same is)))
+                (λ apart. more.newest j (omega (arith, from, apart)) (omega (arith, to)) other is);
+          }
 
   found : (k n : ℕ) → Found k n (newest_from shape spares at k n)
   found k zero = λ j from to. absurd (omega (arith, from, to))
@@ -124,7 +108,7 @@ module _ (shape : Shape) (spares : ℕ) (at : ℕ → Page) where
             | inl less ↦ elim other [ inl less' ↦ absurd (omega (arith, less, less')) | inr same ↦ absurd (omega (arith, less, same.0)) ]
             | inr same ↦ elim other [ inl less' ↦ absurd (omega (arith, same.0, less')) | inr same' ↦ omega (arith, same.1, same'.1) ]
           ] in
-          let table_is : top.1 ≡ table = same_table top.1 table (sym best.is ∙ ap (λ (x : ℕ). table_in shape spares (at x)) page_is ∙ is.is) in
+          let table_is : top.1 ≡ table = same_Some top.1 table (sym best.is ∙ ap (λ (x : ℕ). table_in shape spares (at x)) page_is ∙ is.is) in
           λ i. Some (page_is i, table_is i)
 
   -- and what is found is the newest
@@ -181,12 +165,7 @@ module _ (shape : Shape) (spares : ℕ) (at : ℕ → Page) (page : ℕ) (table 
   NewestOf = IsNewest shape spares at page table ⊎ ((q : ℕ) × IsNewest shape spares at q new)
 
   by_page : (k : ℕ) (P : Type 0) → (k ≡ pair → P) → (k ≡ suc pair → P) → (k ≢ pair → k ≢ suc pair → P) → P
-  by_page k P one two rest = by (nat_eq k pair) (nat_eq k (suc pair)) refl refl
-    where
-      by : (s t : Bool) → nat_eq k pair ≡ s → nat_eq k (suc pair) ≡ t → P
-      by true t p q = one (grind (arith, nat_tests))
-      by false true p q = two (grind (arith, nat_tests))
-      by false false p q = rest (grind (arith, nat_tests)) (grind (arith, nat_tests))
+  by_page k P one two rest = by_equal k pair P one (λ first. by_equal k (suc pair) P two (λ second. rest first second))
 
   older : (q k : ℕ) → IsTablePage shape spares k → k ≢ pair → k ≢ suc pair
       → (other : SpareTable) → table_in shape spares (at k) ≡ Some other → IsNewer q new k other
@@ -214,12 +193,12 @@ module _ (shape : Shape) (spares : ℕ) (at : ℕ → Page) (page : ℕ) (table 
     there = first;
     is = is;
     newest = λ k there other own. by_page k (IsNewer pair new k other)
-        (λ e. let same : other ≡ new = same_table other new (sym own ∙ ap (λ (x : ℕ). table_in shape spares (at x)) e ∙ is) in inr
+        (λ e. let same : other ≡ new = same_Some other new (sym own ∙ ap (λ (x : ℕ). table_in shape spares (at x)) e ∙ is) in inr
         (ap (λ (x : SpareTable). x.number) same, omega (arith, e)))
         (λ e. let here : table_in shape spares (at (suc pair)) ≡ Some other = ap (λ (x : ℕ). table_in shape spares (at x)) (sym e) ∙ own in
         elim or [
           | inl none ↦ absurd (none_some other (sym none ∙ here))
-          | inr too ↦ let same : other ≡ new = same_table other new (sym here ∙ too) in inr (ap (λ (x : SpareTable). x.number) same, omega (arith, e))
+          | inr too ↦ let same : other ≡ new = same_Some other new (sym here ∙ too) in inr (ap (λ (x : SpareTable). x.number) same, omega (arith, e))
         ])
         (λ one two. older pair k there one two other own);
   }
@@ -231,7 +210,7 @@ module _ (shape : Shape) (spares : ℕ) (at : ℕ → Page) (page : ℕ) (table 
     is = is;
     newest = λ k there other own. by_page k (IsNewer (suc pair) new k other)
         (λ e. absurd (none_some other (sym none ∙ ap (λ (x : ℕ). table_in shape spares (at x)) (sym e) ∙ own)))
-        (λ e. let same : other ≡ new = same_table other new (sym own ∙ ap (λ (x : ℕ). table_in shape spares (at x)) e ∙ is) in inr
+        (λ e. let same : other ≡ new = same_Some other new (sym own ∙ ap (λ (x : ℕ). table_in shape spares (at x)) e ∙ is) in inr
         (ap (λ (x : SpareTable). x.number) same, omega (arith, e)))
         (λ one two. older (suc pair) k there one two other own);
   }

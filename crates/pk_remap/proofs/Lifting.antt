@@ -1,12 +1,14 @@
 -- A mark of the inner flash, on the inner page or block, is the same mark of the outer flash.
-use Rattle.std.proofs.Common.{◌≡◌, ◌≢◌, inl, inr, ℕ, zero, suc, ◌+◌, ◌*◌, ◌/◌, ◌%◌, ◌<◌, ◌≤◌, Bool, true, false, List, [], length, refl, sym, ap, subst, ◌∙◌, arith, zero-add}
-use Rattle.std.{specs.Prelude.nat_eq, specs.Prelude.nat_lt, specs.Prelude.slice_set, proofs.Math.Nat.mod-lt, proofs.lemmas.Bool.Decides.nat_tests, proofs.lemmas.Nat.div-add-mod'}
+use Rattle.std.proofs.Common.{◌≡◌, inl, inr, ℕ, zero, suc, ◌+◌, ◌*◌, ◌/◌, ◌%◌, ◌<◌, ◌≤◌, Bool, true, false, List, [], length, refl, sym, ap, subst, ◌∙◌, arith, zero-add}
+use Rattle.std.proofs.lemmas.Nat.{div-add-mod'}
+use Rattle.std.{specs.Prelude.nat_lt, specs.Prelude.slice_set, proofs.Math.Nat.mod-lt, proofs.Math.Nat.mul_comm, proofs.lemmas.Bool.Decides.nat_tests}
 use Rattle.pk_base.{specs.Shape.Shape, specs.Shape.page_count, specs.Page.Page, specs.Page.Flash, specs.Page.page_at, specs.Page.whole, specs.Page.torn}
 use Rattle.pk_base.specs.Mark.{Mark, program, erase, post, after, posted_by, erased_from}
 use Rattle.pk_nand.{specs.Cut.Interrupted, specs.Cut.MayLeave, specs.Cut.IsPartner, proofs.Touching.partner_block}
-use Rattle.pk_nand.proofs.Leaving.{same_pages, length-after, page_at-slice_set, page_at-slice_set_same, page_at-erased_from, page-erased_in}
+use Rattle.pk_nand.proofs.Leaving.{length-after, page_at-slice_set, page_at-slice_set_same, page_at-erased_from, page-erased_in}
 use Rattle.pk_remap.{specs.Table.SpareTable, specs.Places.inner_shape, specs.Places.place, specs.Places.placed_page, specs.Places.through_by, specs.Through.mark_below, specs.Through.IsMarkWithin}
-use Rattle.pk_remap.proofs.Placing.{place-below, place-apart, placed_page-div, placed_page-mod, placed_page-apart, block_of, length-through, page-through, past-through}
+use Rattle.pk_remap.proofs.Placing.{place-below, place-apart, placed_page-div, placed_page-mod, placed_page-apart, block_of, length-through, page-through, past-through, is_through}
+use Rattle.pk_remap.proofs.Finding.{by_equal}
 
 pub less_times : (m q n : ℕ) → q * n < m * n → q < m
 less_times zero q n h = absurd (omega (arith, h))
@@ -17,6 +19,9 @@ pub times_le : (q m n : ℕ) → q ≤ m → q * n ≤ m * n
 times_le zero m n h = omega arith
 times_le (suc q) zero n h = absurd (omega (arith, h))
 times_le (suc q) (suc m) n h = let more = times_le q m n (omega (arith, h)) in omega (arith, more)
+
+pub two_more : (m n : ℕ) → (m + 2) * n ≡ m * n + 2 * n
+two_more m n = omega arith
 
 pub leaves_same : (shape : Shape) (mark : Mark) (k : ℕ) (p : Page) → MayLeave shape mark k p p
 leaves_same shape (program at bytes) k p = inl refl
@@ -41,11 +46,7 @@ module _ (shape : Shape) (spares : ℕ) (table : SpareTable) (some : 0 < shape.b
       let b = placed_page-below k inside in
       let room : (shape.blocks + length table.serves) * n ≤ (shape.blocks + spares + 2) * n = times_le
       (shape.blocks + length table.serves) (shape.blocks + spares + 2) n (omega (arith, used)) in
-      let turned : n * (shape.blocks + spares + 2) ≡ (shape.blocks + spares + 2) * n = commute n (shape.blocks + spares + 2) in
-      omega (arith, b, room, turned)
-    where
-      commute : (a b : ℕ) → a * b ≡ b * a
-      commute a b = omega arith
+      omega (arith, b, room, mul_comm n (shape.blocks + spares + 2))
 
   -- the inner page of a partner is the partner of the inner page, and that of no other page is
   pub placed_page-partner : (at k : ℕ) → at < page_count shape → k < page_count shape
@@ -97,28 +98,9 @@ module _ (shape : Shape) (spares : ℕ) (table : SpareTable) (some : 0 < shape.b
     abbrev above : Flash
     above = through_by shape table (page_at flash)
 
-    by_bound : (k : ℕ) (P : Type 0) → (k < page_count shape → P) → (page_count shape ≤ k → P) → P
-    by_bound k P inside past = by (nat_lt k (page_count shape)) refl
-      where
-        by : (t : Bool) → nat_lt k (page_count shape) ≡ t → P
-        by true t = inside (grind (arith, nat_tests))
-        by false t = past (grind (arith, nat_tests))
-
-    by_equal : (a b : ℕ) (P : Type 0) → (a ≡ b → P) → (a ≢ b → P) → P
-    by_equal a b P same other = by (nat_eq a b) refl
-      where
-        by : (t : Bool) → nat_eq a b ≡ t → P
-        by true t = same (grind (arith, nat_tests))
-        by false t = other (grind (arith, nat_tests))
-
-    program_page : (at : ℕ) (bytes : List ℕ) (k : ℕ) → at < page_count shape
-        → page_at (through_by shape table (page_at (slice_set flash (placed_page shape table at) (whole bytes)))) k
-        ≡ page_at (slice_set above at (whole bytes)) k
-    program_page at bytes k within = by_bound k
-        (page_at (through_by shape table (page_at (slice_set flash (placed_page shape table at) (whole bytes)))) k
-        ≡ page_at (slice_set above at (whole bytes)) k)
-        (λ inside. page-through shape table (page_at (slice_set flash (placed_page shape table at) (whole bytes))) k inside
-        ∙ by_equal k at (page_at (slice_set flash (placed_page shape table at) (whole bytes))
+    program_page : (at : ℕ) (bytes : List ℕ) (k : ℕ) → at < page_count shape → k < page_count shape
+        → page_at (slice_set flash (placed_page shape table at) (whole bytes)) (placed_page shape table k) ≡ page_at (slice_set above at (whole bytes)) k
+    program_page at bytes k within inside = by_equal k at (page_at (slice_set flash (placed_page shape table at) (whole bytes))
         (placed_page shape table k) ≡ page_at (slice_set above at (whole bytes)) k)
         (λ same. ap (λ (x : ℕ). page_at (slice_set flash (placed_page shape table at) (whole bytes)) (placed_page shape table x)) same
         ∙ page_at-slice_set_same flash (placed_page shape table at) (whole bytes) (omega (arith, placed_page-inside at within, size))
@@ -126,19 +108,11 @@ module _ (shape : Shape) (spares : ℕ) (table : SpareTable) (some : 0 < shape.b
         ∙ ap (λ (x : ℕ). page_at (slice_set above at (whole bytes)) x) (sym same))
         (λ other. page_at-slice_set flash (placed_page shape table at) (placed_page shape table k)
         (whole bytes) (λ e. other (placed_page-apart shape table some k at inside within e))
-        ∙ sym (page-through shape table (page_at flash) k inside) ∙ sym (page_at-slice_set above at k (whole bytes) other)))
-        (λ past. past-through shape table (page_at (slice_set flash (placed_page shape table at) (whole bytes))) k past
-        ∙ sym (past-through shape table (page_at flash) k past)
-        ∙ sym (page_at-slice_set above at k (whole bytes) (λ e. omega (arith, e, within, past))))
+        ∙ sym (page-through shape table (page_at flash) k inside) ∙ sym (page_at-slice_set above at k (whole bytes) other))
 
-    erase_page : (block k : ℕ) → block < shape.blocks
-        → page_at (through_by shape table (page_at (erased_from (inner_shape shape spares) (place shape table block) 0 flash))) k
-        ≡ page_at (erased_from shape block 0 above) k
-    erase_page block k within = by_bound k
-        (page_at (through_by shape table (page_at (erased_from (inner_shape shape spares) (place shape table block) 0 flash))) k
-        ≡ page_at (erased_from shape block 0 above) k)
-        (λ inside. page-through shape table (page_at (erased_from (inner_shape shape spares) (place shape table block) 0 flash)) k inside
-        ∙ by_equal (k / n) block (page_at (erased_from (inner_shape shape spares) (place shape table block) 0 flash)
+    erase_page : (block k : ℕ) → block < shape.blocks → k < page_count shape
+        → page_at (erased_from (inner_shape shape spares) (place shape table block) 0 flash) (placed_page shape table k) ≡ page_at (erased_from shape block 0 above) k
+    erase_page block k within inside = by_equal (k / n) block (page_at (erased_from (inner_shape shape spares) (place shape table block) 0 flash)
         (placed_page shape table k) ≡ page_at (erased_from shape block 0 above) k)
         (λ same. page-erased_in (inner_shape shape spares) (place shape table block) 0 flash
         (placed_page shape table k) (omega (arith, placed_page-inside k inside, size))
@@ -149,35 +123,16 @@ module _ (shape : Shape) (spares : ℕ) (table : SpareTable) (some : 0 < shape.b
         (λ e. other (place-apart shape table (k / n) block (block_of shape table some k inside) within
         (sym (placed_page-div shape table some k) ∙ ap (λ (x : ℕ). x / n) (sym (zero-add (placed_page shape table k))) ∙ e)))
         ∙ sym (page-through shape table (page_at flash) k inside)
-        ∙ sym (page_at-erased_from shape block 0 above k (λ e. other (ap (λ (x : ℕ). x / n) (sym (zero-add k)) ∙ e)))))
-        (λ past. past-through shape table (page_at (erased_from (inner_shape shape spares) (place shape table block) 0 flash)) k past
-        ∙ sym (past-through shape table (page_at flash) k past)
-        ∙ sym (page_at-erased_from shape block 0 above k (λ e. not_past (ap (λ (x : ℕ). x / n) (sym (zero-add k)) ∙ e) past)))
-      where
-        not_past : k / n ≡ block → page_count shape ≤ k → ⊥
-        not_past e past =
-            let whole : k / n * n + k % n ≡ k = div-add-mod' k n in
-            let P : ℕ → Type 0 = λ x. x * n + k % n ≡ k in
-            let moved : block * n + k % n ≡ k = subst P e whole in
-            let room : suc block * n ≤ shape.blocks * n = times_le (suc block) shape.blocks n within in
-            let turned : n * shape.blocks ≡ shape.blocks * n = commute n shape.blocks in
-            omega (arith, moved, room, turned, past, mod-lt k {m = n} some)
-          where
-            commute : (a b : ℕ) → a * b ≡ b * a
-            commute a b = omega arith
+        ∙ sym (page_at-erased_from shape block 0 above k (λ e. other (ap (λ (x : ℕ). x / n) (sym (zero-add k)) ∙ e))))
 
     -- a mark that is done on the inner flash is done on the outer flash
     pub lift-done : (mark : Mark) → IsMarkWithin shape mark
         → through_by shape table (page_at (after (inner_shape shape spares) (mark_below shape table mark) flash)) ≡ after shape mark above
-    lift-done mark within = same_pages (after shape mark above)
-        (through_by shape table (page_at (after (inner_shape shape spares) (mark_below shape table mark) flash)))
-        (length-through shape table (page_at (after (inner_shape shape spares) (mark_below shape table mark) flash))
-        ∙ sym (length-after shape mark above ∙ length-through shape table (page_at flash)))
-        (λ k. pages mark k within)
+    lift-done mark within = is_through shape table (page_at (after (inner_shape shape spares) (mark_below shape table mark) flash)) (after shape mark above)
+        (length-after shape mark above ∙ length-through shape table (page_at flash)) (λ k inside. pages mark k within inside)
       where
-        pages : (mark : Mark) (k : ℕ) → IsMarkWithin shape mark
-            → page_at (through_by shape table (page_at (after (inner_shape shape spares) (mark_below shape table mark) flash))) k
-            ≡ page_at (after shape mark above) k
-        pages (program at bytes) k within = program_page at bytes k within
-        pages (erase block) k within = erase_page block k within
-        pages (post bytes) k within = absurd within
+        pages : (mark : Mark) (k : ℕ) → IsMarkWithin shape mark → k < page_count shape
+            → page_at (after (inner_shape shape spares) (mark_below shape table mark) flash) (placed_page shape table k) ≡ page_at (after shape mark above) k
+        pages (program at bytes) k within inside = program_page at bytes k within inside
+        pages (erase block) k within inside = erase_page block k within inside
+        pages (post bytes) k within inside = absurd within

@@ -1,18 +1,20 @@
 -- The first table of a flash that was just made.
 use Rattle.std.proofs.Common.{◌≡◌, ◌≢◌, inr, ℕ, zero, suc, ◌+◌, ◌*◌, ◌%◌, ◌<◌, ◌≤◌, Bool, true, false, List, [], length, replicate, refl, sym, ap, subst, ◌∙◌, arith, Option, Some}
 use Rattle.std.specs.Prelude.{nat_le, nat_lt, nat_eq, slice_set, unwrap_or, Vec, Result, Ok, Err}
-use Rattle.std.{specs.declared.alloc.Global.Global, proofs.lemmas.Bool.Decides.nat_tests, proofs.lemmas.List.length-replicate, proofs.lemmas.Nat.div-add-mod'}
+use Rattle.std.proofs.lemmas.Option.{same_Some}
+use Rattle.std.{specs.declared.alloc.Global.Global, proofs.lemmas.Bool.Decides.nat_tests, proofs.lemmas.List.length-replicate, proofs.lemmas.Nat.div-add-mod', proofs.Math.Nat.mul_comm}
 use Rattle.pk_base.{specs.Shape.Shape, specs.Shape.IsShape, specs.Shape.page_count, specs.Mark.program}
 use Rattle.pk_base.specs.Page.{Flash, page_at, erased, whole, torn, IsPage, IsFlash}
 use Rattle.pk_nand.{specs.BoardState.BoardState, specs.Calls.IsReady, specs.Calls.Rose, specs.Calls.after_program, specs.Calls.ProgramFailed, specs.Operations.InOrder, specs.Effects.OnlyFlash}
 use Rattle.pk_nand.{specs.declared.types.NandFault.NandFault, proofs.Effects.works_program, proofs.Effects.stops_program, proofs.Effects.only_then}
-use Rattle.pk_nand.proofs.Leaving.{same_pages, page_at-slice_set, page_at-slice_set_same, IsFlash-after, full_program}
+use Rattle.pk_nand.proofs.Leaving.{page_at-slice_set, page_at-slice_set_same, IsFlash-after, full_program}
 use Rattle.pk_remap.{specs.declared.layout.TheConstants.MOST_SPARES, specs.declared.relocation.Relocation.Relocation as InMemory, specs.Table.SpareTable, specs.Table.is_table, proofs.Lifting.times_le}
-use Rattle.pk_remap.{specs.Newest.table_in, specs.Newest.first_table_page, specs.Newest.IsTablePage, specs.Newest.IsNewer, specs.Newest.IsNewest, specs.Places.inner_shape, specs.Places.through_by}
-use Rattle.pk_remap.{specs.Relocating.IsNextPair, specs.Running.HasPageBuffers, specs.Running.IsAtRest, specs.Remapped.outer_pages, proofs.TableLemmas.table_parts, proofs.TableLemmas.page_again}
+use Rattle.pk_remap.proofs.Lifting.{two_more}
 use Rattle.pk_remap.specs.FirstTable.{first_table, first_table_bytes, IsMade, FirstTableWritten, FirstTableFailed, FirstTableOutcome}
-use Rattle.pk_remap.{proofs.Placing.mod-of, proofs.Placing.length-through, proofs.Placing.page-through, proofs.Placing.past-through, proofs.Finding.same_table, proofs.Finding.none_some}
-use Rattle.pk_remap.{proofs.Cutting.page-past_end, proofs.Standing.shows, proofs.Turning.second_order, proofs.Turning.following_pair}
+use Rattle.pk_remap.{specs.Newest.table_in, specs.Newest.first_table_page, specs.Newest.IsTablePage, specs.Newest.IsNewer, specs.Newest.IsNewest, specs.Places.inner_shape, specs.Places.placed_page}
+use Rattle.pk_remap.{specs.Relocating.IsNextPair, specs.Running.HasPageBuffers, specs.Running.IsAtRest, specs.Remapped.outer_pages, proofs.TableLemmas.table_parts, proofs.TableLemmas.page_again}
+use Rattle.pk_remap.{proofs.Placing.mod-of, proofs.Placing.is_through, proofs.Placing.page-past_end, proofs.Finding.none_some}
+use Rattle.pk_remap.{proofs.Standing.shows, proofs.Turning.second_order, proofs.Turning.following_pair}
 
 erased_at : (n k : ℕ) → k < n → page_at (replicate n erased) k ≡ erased
 erased_at zero k small = absurd (omega (arith, small))
@@ -20,16 +22,10 @@ erased_at (suc n) zero small = refl
 erased_at (suc n) (suc k) small = erased_at n k (omega (arith, small))
 
 not_whole : {X : Type 0} (bytes : List ℕ) → erased ≡ whole bytes → X
-not_whole bytes e = absurd (apart e)
-  where
-    apart : erased ≡ whole bytes → ⊥
-    apart e = cc
+not_whole bytes e = absurd cc
 
 torn_whole : {X : Type 0} (bytes : List ℕ) → torn ≡ whole bytes → X
-torn_whole bytes e = absurd (apart e)
-  where
-    apart : torn ≡ whole bytes → ⊥
-    apart e = cc
+torn_whole bytes e = absurd cc
 
 module _ (r : InMemory) (made : BoardState) (is : IsMade r.shape r.spares made) (shape_is : IsShape r.shape) (few : r.spares ≤ MOST_SPARES) where
   abbrev shape : Shape
@@ -51,10 +47,7 @@ module _ (r : InMemory) (made : BoardState) (is : IsMade r.shape r.spares made) 
   some = let least = shape_is.block_least in omega (arith, least)
 
   all_pages : page_count inner ≡ page + 2 * n
-  all_pages = turned n (shape.blocks + r.spares)
-    where
-      turned : (a b : ℕ) → a * (b + 2) ≡ b * a + 2 * a
-      turned a b = omega arith
+  all_pages = mul_comm n (shape.blocks + r.spares + 2) ∙ two_more (shape.blocks + r.spares) n
 
   size : length made.pages ≡ page + 2 * n
   size = ap length is.all_erased ∙ length-replicate (page_count inner) erased ∙ all_pages
@@ -168,7 +161,7 @@ module _ (r : InMemory) (made : BoardState) (is : IsMade r.shape r.spares made) 
         newest = λ k there other e. newer k there other e (nat_eq k page) refl (nat_eq k (suc page)) refl;
       } where
         same_newer : (k : ℕ) (other : SpareTable) → page ≤ k → Some first_table ≡ Some other → IsNewer page first_table k other
-        same_newer k other past e = inr (ap (λ (t : SpareTable). t.number) (sym (same_table first_table other e)), past)
+        same_newer k other past e = inr (ap (λ (t : SpareTable). t.number) (sym (same_Some first_table other e)), past)
 
         newer : (k : ℕ) → IsTablePage shape r.spares k → (other : SpareTable) → table_in shape r.spares (page_at new.pages k) ≡ Some other
             → (t : Bool) → nat_eq k page ≡ t → (u : Bool) → nat_eq k (suc page) ≡ u → IsNewer page first_table k other
@@ -189,26 +182,17 @@ module _ (r : InMemory) (made : BoardState) (is : IsMade r.shape r.spares made) 
       pub shown : outer_pages shape r.spares new.pages ≡ replicate (page_count shape) erased
       shown =
           ap (λ (f : Option Flash). unwrap_or f []) (shows shape r.spares new.pages page first_table top)
-          ∙ same_pages (replicate (page_count shape) erased) (through_by shape first_table (page_at new.pages))
-          (length-through shape first_table (page_at new.pages) ∙ sym (length-replicate (page_count shape) erased)) (λ k. by k (nat_lt k (page_count shape)) refl)
+          ∙ is_through shape first_table (page_at new.pages) (replicate (page_count shape) erased) (length-replicate (page_count shape) erased) each
         where
           before_tables : page_count shape ≤ page
-          before_tables = let own = times_le shape.blocks (shape.blocks + r.spares) n (omega arith) in omega (arith, own, turned n shape.blocks)
-            where
-              turned : (a b : ℕ) → a * b ≡ b * a
-              turned a b = omega arith
+          before_tables = let own = times_le shape.blocks (shape.blocks + r.spares) n (omega arith) in omega (arith, own, mul_comm n shape.blocks)
 
-          by : (k : ℕ) (t : Bool) → nat_lt k (page_count shape) ≡ t → page_at (through_by shape first_table (page_at new.pages)) k ≡ page_at (replicate (page_count shape) erased) k
-          by k true t =
-              let inside : k < page_count shape = grind (arith, nat_tests) in
+          each : (k : ℕ) → k < page_count shape → page_at new.pages (placed_page shape first_table k) ≡ page_at (replicate (page_count shape) erased) k
+          each k inside =
               let early = before_tables in
-              page-through shape first_table (page_at new.pages) k inside ∙ ap (page_at new.pages) (div-add-mod' k n)
+              ap (page_at new.pages) (div-add-mod' k n)
               ∙ at_other k (λ e. omega (arith, e, inside, early)) (λ e. omega (arith, e, inside, early)) (omega (arith, inside, early))
               ∙ sym (erased_at (page_count shape) k inside)
-          by k false t =
-              let past : page_count shape ≤ k = grind (arith, nat_tests) in
-              past-through shape first_table (page_at new.pages) k past
-              ∙ sym (page-past_end (replicate (page_count shape) erased) k (let size = length-replicate (page_count shape) erased in omega (arith, past, size)))
 
       next_pair : IsNextPair shape r.spares page new.pages (page + 2)
       next_pair =
@@ -235,11 +219,9 @@ module _ (r : InMemory) (made : BoardState) (is : IsMade r.shape r.spares made) 
         used = omega arith;
         taken = omega (arith, none);
         top = top;
-        turn = λ pair e. subst (λ (k : ℕ). IsNextPair shape r.spares page new.pages k) (same_pair (page + 2) pair e) next_pair;
+        turn = λ pair e. subst (λ (k : ℕ). IsNextPair shape r.spares page new.pages k) (same_Some (page + 2) pair e) next_pair;
         room = record { fits = omega arith; all = room.all; kept_page = room.kept_page; new_page = room.new_page; read_page = room.read_page };
-      } where
-        same_pair : (x y : ℕ) → Some x ≡ Some y → x ≡ y
-        same_pair x y e = cc
+      }
 
       first_rest : OnlyFlash made new
       first_rest = only_then made half new (works_program made half page bytes board).rest (works_program half new (page + 1) bytes last).rest

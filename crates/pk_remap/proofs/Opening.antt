@@ -1,20 +1,20 @@
 -- How a flash with spare blocks opens its image, and makes one.
-use Rattle.std.proofs.Common.{◌≡◌, ◌≢◌, ℕ, ◌+◌, ◌-◌, ◌<◌, ◌≤◌, Bool, true, false, List, [], replicate, refl, sym, ap, subst, ◌∙◌, arith, Option, Some, None}
-use Rattle.std.specs.Prelude.{Result, Ok, Err, IsOk, IsErr, OnOk, OnErr, IfOk, IsSome, if◌then◌else◌, nat_lt, unwrap_or}
-use Rattle.std.proofs.lemmas.Bool.Decides.{nat_tests}
-use Rattle.pk_base.{specs.declared.shape.ShapeError.ShapeError, specs.Page.Flash, specs.Page.page_at, specs.Page.erased, specs.Page.whole, specs.Page.IsPage, specs.Page.IsFlash, specs.Mark.Mark}
+use Rattle.std.proofs.Common.{◌≡◌, ◌≢◌, ℕ, ◌+◌, ◌-◌, Bool, true, false, List, [], replicate, refl, sym, ap, subst, ◌∙◌, arith, Option, Some, None}
+use Rattle.std.specs.Prelude.{Result, Ok, Err, IsOk, IsErr, OnOk, OnErr, IfOk, IsSome, if◌then◌else◌, unwrap_or}
+use Rattle.std.proofs.lemmas.Option.{same_Some}
+use Rattle.pk_base.{specs.declared.shape.ShapeError.ShapeError, specs.Page.Flash, specs.Page.page_at, specs.Page.erased, specs.Page.IsFlash, specs.Mark.Mark}
 use Rattle.pk_base.specs.declared.shape.ShapeError.TheVariants.{BadPage, BadBlock, TooLarge, TooSmall}
 use Rattle.pk_base.specs.Shape.{Shape, IsShape, page_count, checked, deepest, meta_blocks, has_bad_page, has_bad_block, is_too_large, is_too_small}
 use Rattle.pk_nand.{specs.BoardState.BoardState, specs.Calls.IsReady, specs.Calls.Rose, specs.Calls.Loaded, specs.Calls.LoadFailed, specs.Calls.Made, specs.Calls.MakeFailed}
 use Rattle.pk_nand.specs.declared.types.LoadFault.{LoadFault}
 use Rattle.pk_nand.specs.declared.types.LoadFault.TheVariants.{Fault, BadImage, Memory}
-use Rattle.pk_remap.{specs.declared.counts.BoardCounts.BoardCounts, specs.declared.relocation.Relocation.Relocation as InMemory, specs.Table.SpareTable, specs.Counting.HasTable, specs.Logged.told}
-use Rattle.pk_remap.{specs.Places.inner_shape, specs.Places.placed_page, specs.Places.through_by, specs.declared.image.Image.Image, specs.declared.mark_log.MarkLog.MarkLog, proofs.Standing.shows}
+use Rattle.pk_remap.{specs.declared.counts.BoardCounts.BoardCounts, specs.declared.relocation.Relocation.Relocation as InMemory, specs.Counting.HasTable, specs.Logged.told}
+use Rattle.pk_remap.{specs.Places.inner_shape, specs.Places.through_by, specs.declared.image.Image.Image, specs.declared.mark_log.MarkLog.MarkLog, proofs.Standing.shows}
 use Rattle.pk_remap.{specs.Causes.LoadCause, specs.Causes.inner_is_bad, specs.Causes.MakeCause, specs.Causes.inner_fault, specs.Causes.not_allowed, proofs.Counting.newest_is}
 use Rattle.pk_remap.specs.declared.image.Image.TheVariants.{Unknown, Missing, Unsure, Sure}
 use Rattle.pk_remap.specs.Remapped.{outer_pages, with_refusal, without_spares, remap_board, is_open, open_shape}
-use Rattle.pk_remap.{specs.Answers.LoadAnswers, specs.Answers.MakeAnswers, proofs.Placing.length-through, proofs.Placing.page-through, proofs.Placing.past-through}
-use Rattle.pk_remap.proofs.Remapping.{opened, board_is, no_bool}
+use Rattle.pk_remap.proofs.Remapping.{board_with, opened, board_is, no_bool}
+use Rattle.pk_remap.{specs.Answers.LoadAnswers, specs.Answers.MakeAnswers, proofs.Placing.whole_through}
 
 -- ---- shapes
 
@@ -53,30 +53,14 @@ small_is = refl
 -- ---- the board without a table
 
 abbrev pub closed : Bool → Option (List Mark) → BoardCounts → Option (List ℕ) → Option (List ℕ) → BoardState
-closed bare trail counts input posted = record {
-  shape = None;
-  bare = bare;
-  pages = [];
-  trail = trail;
-  reads = counts.reads;
-  programs = counts.programs;
-  erases = counts.erases;
-  flash_faults = counts.flash_faults;
-  read_faults = counts.read_faults;
-  stop_faults = counts.stop_faults;
-  failed_at = counts.failed_at;
-  bad = counts.bad;
-  input = input;
-  posted = posted;
-  in_faults = counts.in_faults;
-  out_faults = counts.out_faults;
-}
+closed bare trail counts input posted = board_with None bare [] trail counts input posted
 
 no_shape_is : {X : Type 0} (shape : Shape) → None ≡ Some shape → X
-no_shape_is shape e = absurd (apart e)
-  where
-    apart : None ≡ Some shape → ⊥
-    apart e = cc
+no_shape_is shape e = absurd cc
+
+-- a board whose pages fit its shape is ready
+ready_as : (board : BoardState) (shape own : Shape) → board.shape ≡ Some shape → IsFlash shape board.pages → Some shape ≡ Some own → IsReady board own
+ready_as board shape own is flash e = record { shape_is = is ∙ e; flash = subst (λ (s : Shape). IsFlash s board.pages) (same_Some shape own e) flash }
 
 module _ (bare : Bool) (trail : Option (List Mark)) (counts : BoardCounts) (input posted : Option (List ℕ)) where
   abbrev before : BoardState
@@ -130,7 +114,7 @@ module _ (bare : Bool) (trail : Option (List Mark)) (counts : BoardCounts) (inpu
     ok = record {
       shape_is = refl;
       none_bad = none;
-      ready = λ own e. ready_as own e;
+      ready = λ own e. ready_as (opened shape pages trail counts input posted) shape own refl flash e;
       bare = λ e. no_shape_is shape (sym e);
       held = λ is. no_bool is;
       rest = refl;
@@ -138,14 +122,9 @@ module _ (bare : Bool) (trail : Option (List Mark)) (counts : BoardCounts) (inpu
     err = tt;
     fault = λ e. cc;
     no_fault = λ other. refl;
-    ready = λ own e. ready_as own e;
+    ready = λ own e. ready_as (opened shape pages trail counts input posted) shape own refl flash e;
     bad = λ at e. cc;
-  } where
-    same_shape : (a b : Shape) → Some a ≡ Some b → a ≡ b
-    same_shape a b e = cc
-
-    ready_as : (own : Shape) → Some shape ≡ Some own → IsReady (opened shape pages trail counts input posted) own
-    ready_as own e = record { shape_is = e; flash = subst (λ (s : Shape). IsFlash s pages) (same_shape shape own e) flash }
+  }
 
   pub make_refused : (bare' : Bool) (shape : Shape) (fault : LoadFault) → ((at : ℕ) → fault ≢ BadImage at)
       → MakeAnswers before shape (Err fault) (closed bare' trail (with_refusal fault counts) input posted)
@@ -174,11 +153,9 @@ module _ (bare : Bool) (trail : Option (List Mark)) (counts : BoardCounts) (inpu
     err = tt;
     fault = λ e. cc;
     no_fault = λ other. refl;
-    ready = λ own e. record { shape_is = e; flash = subst (λ (s : Shape). IsFlash s pages) (same_shape shape own e) flash };
+    ready = λ own e. ready_as (opened shape pages trail counts input posted) shape own refl flash e;
     bad = λ at e. cc;
-  } where
-    same_shape : (a b : Shape) → Some a ≡ Some b → a ≡ b
-    same_shape a b e = cc
+  }
 
 -- ---- the outer flash
 
@@ -187,20 +164,7 @@ whole_table work inner table =
     let own = newest_is work.shape work.spares inner.pages table.some in
     let shown : outer_pages work.shape work.spares inner.pages ≡ through_by work.shape own.1 (page_at inner.pages) =
     ap (λ (f : Option Flash). unwrap_or f []) (shows work.shape work.spares inner.pages own.0 own.1 own.2) in
-    subst (λ (f : Flash). IsFlash work.shape f) (sym shown) (record {
-      size = length-through work.shape own.1 (page_at inner.pages);
-      full = λ k bytes is. by own.1 k bytes is (nat_lt k (page_count work.shape)) refl;
-    })
-  where
-    by : (top : SpareTable) (k : ℕ) (bytes : List ℕ) → page_at (through_by work.shape top (page_at inner.pages)) k ≡ whole bytes → (t : Bool) → nat_lt k (page_count work.shape) ≡ t
-        → IsPage work.shape bytes
-    by top k bytes is true t =
-        let inside : k < page_count work.shape = grind (arith, nat_tests) in
-        table.ready.flash.full (placed_page work.shape top k) bytes (sym (page-through work.shape top (page_at inner.pages) k inside) ∙ is)
-    by top k bytes is false t =
-        let past : page_count work.shape ≤ k = grind (arith, nat_tests) in
-        let none = sym (past-through work.shape top (page_at inner.pages) k past) ∙ is in
-        cc
+    subst (λ (f : Flash). IsFlash work.shape f) (sym shown) (whole_through work.shape own.1 (page_at inner.pages) table.ready.flash.full)
 
 -- ---- from the board before to the one on the way
 
@@ -280,6 +244,31 @@ load_cause_from spares old mid new (Ok (Some shape)) left same own = own
 load_cause_from spares old mid new (Err Fault) left same own = let F : ℕ → Type 0 = λ x. Rose x new.flash_faults in subst F same own
 load_cause_from spares old mid new (Err (BadImage at)) left same own = own
 load_cause_from spares old mid new (Err Memory) left same own = own
+
+-- ---- a refusal, as `refuse` gives it back
+
+pub load_refused_as : {first last now : BoardState} {fault result : LoadFault} → result ≡ fault → now ≡ last → LoadAnswers first (Err fault) last → LoadAnswers first (Err result) now
+load_refused_as {first} {last} {now} {fault} {result} is same own =
+    let T : LoadFault → Type 0 = λ f. LoadAnswers first (Err f) now in
+    subst T (sym is) (subst (LoadAnswers first (Err fault)) (sym same) own)
+
+pub load_cause_as : (spares : ℕ) (old : BoardState) {last now : BoardState} {fault result : LoadFault} → result ≡ fault → now ≡ last → (left : ℕ)
+    → LoadCause spares old (Err fault) left last → LoadCause spares old (Err result) left now
+load_cause_as spares old {last} {now} {fault} {result} is same left own =
+    let T : LoadFault → Type 0 = λ f. LoadCause spares old (Err f) left now in
+    subst T (sym is) (subst (LoadCause spares old (Err fault) left) (sym same) own)
+
+pub make_refused_as : {first last now : BoardState} {shape : Shape} {fault result : LoadFault} → result ≡ fault → now ≡ last
+    → MakeAnswers first shape (Err fault) last → MakeAnswers first shape (Err result) now
+make_refused_as {first} {last} {now} {shape} {fault} {result} is same own =
+    let T : LoadFault → Type 0 = λ f. MakeAnswers first shape (Err f) now in
+    subst T (sym is) (subst (MakeAnswers first shape (Err fault)) (sym same) own)
+
+pub make_cause_as : (spares : ℕ) (shape : Shape) (old : BoardState) {last now : BoardState} {fault result : LoadFault} → result ≡ fault → now ≡ last → (left : ℕ)
+    → MakeCause spares shape old (Err fault) left last → MakeCause spares shape old (Err result) left now
+make_cause_as spares shape old {last} {now} {fault} {result} is same left own =
+    let T : LoadFault → Type 0 = λ f. MakeCause spares shape old (Err f) left now in
+    subst T (sym is) (subst (MakeCause spares shape old (Err fault) left) (sym same) own)
 
 -- ---- the steps of a load
 
@@ -400,14 +389,15 @@ module _ (image : Image) (work : InMemory) (log : MarkLog) (counts : BoardCounts
       let pages : Flash = outer_pages work.shape work.spares inner.pages in
       let is = board_is work log counts inner image has_open in
       let is' = board_is work log (record counts { bad = None }) inner image has_open in
-      let whole_pages = whole_table work inner table in
+      let ready : (own : Shape) → Some work.shape ≡ Some own → IsReady (opened work.shape pages (told log) (record counts { bad = None }) inner.input inner.posted) own =
+      λ own e. ready_as (opened work.shape pages (told log) (record counts { bad = None }) inner.input inner.posted) work.shape own refl (whole_table work inner table) e in
       let A : BoardState → Type 0 = λ s. LoadAnswers s (Ok (Some work.shape)) (remap_board image work log (record counts { bad = None }) inner) in
       let B : BoardState → Type 0 = λ s. LoadAnswers (opened work.shape pages (told log) counts inner.input inner.posted) (Ok (Some work.shape)) s in
       subst A (sym is) (subst B (sym is') (record {
         ok = record {
           shape_is = refl;
           none_bad = refl;
-          ready = λ own e. ready_as own e whole_pages;
+          ready = ready;
           bare = λ e. no_shape_is work.shape (sym e);
           held = λ some. (refl, refl);
           rest = refl;
@@ -415,19 +405,9 @@ module _ (image : Image) (work : InMemory) (log : MarkLog) (counts : BoardCounts
         err = tt;
         fault = λ e. cc;
         no_fault = λ other. refl;
-        ready = λ own e. ready_as own e whole_pages;
+        ready = ready;
         bad = λ at e. cc;
       }))
-    where
-      same_shape : (a b : Shape) → Some a ≡ Some b → a ≡ b
-      same_shape a b e = cc
-
-      ready_as : (own : Shape) → Some work.shape ≡ Some own → IsFlash work.shape (outer_pages work.shape work.spares inner.pages)
-          → IsReady (opened work.shape (outer_pages work.shape work.spares inner.pages) (told log) (record counts { bad = None }) inner.input inner.posted) own
-      ready_as own e flash = record {
-        shape_is = e;
-        flash = subst (λ (s : Shape). IsFlash s (outer_pages work.shape work.spares inner.pages)) (same_shape work.shape own e) flash;
-      }
 
   closed_mid : (i : Image) → is_open i ≡ false → remap_board Unknown work log (record counts { bad = None }) inner ≡ record (remap_board i work log counts inner) { bare = false; bad = None }
   closed_mid Unknown e = refl

@@ -1,14 +1,15 @@
 -- Calls of the outer flash over a relocation at rest.
 use Rattle.std.proofs.Common.{◌≡◌, ◌≢◌, ◌⊎◌, inl, inr, ℕ, zero, suc, ◌+◌, ◌-◌, ◌*◌, ◌/◌, ◌%◌, ◌<◌, ◌≤◌, Bool, true, false, List, [], length, take, refl, sym, ap, subst, ◌∙◌, arith, Some, None}
+use Rattle.std.proofs.Math.Nat.{mul_comm}
 use Rattle.std.{specs.Prelude.max, specs.Prelude.Result, specs.Prelude.Ok, specs.Prelude.Err, specs.Prelude.Vec, specs.Prelude.◌==◌, specs.Prelude.◌&&◌, proofs.Math.Nat.mod-lt}
 use Rattle.std.{proofs.lemmas.Bool.Decides.nat_tests, proofs.lemmas.Nat.div-add-mod', specs.declared.alloc.Global.Global, proofs.lemmas.List.length-take-le}
 use Rattle.pk_base.{specs.declared.sizes.TheConstants.MOST_PAGE_BYTES, specs.Shape.Shape, specs.Shape.page_count, specs.Mark.Mark, specs.Mark.program, specs.Mark.erase, specs.Mark.after}
-use Rattle.pk_base.specs.Page.{Page, Flash, page_at, erased, whole, torn, IsPage, IsFlash}
+use Rattle.pk_base.{proofs.Logic.both_true, specs.Page.Page, specs.Page.Flash, specs.Page.page_at, specs.Page.erased, specs.Page.whole, specs.Page.torn, specs.Page.IsPage}
 use Rattle.pk_nand.{specs.BoardState.BoardState, specs.Cut.Interrupted, proofs.Writing.shape_is, specs.Counts.after_reads, specs.Crash.Went, proofs.CutLemmas.interrupted_none, specs.Effects.OnlyFlash}
 use Rattle.pk_nand.proofs.Leaving.{interrupted_done, page_at-slice_set, IsFlash-interrupted, full_program, full_erase}
-use Rattle.pk_nand.{specs.Calls.Rose, specs.Calls.IsReady, specs.Calls.after_program, specs.Calls.ProgramFailed, specs.Calls.LeftBy, proofs.Reaching.Reached-start, proofs.Reaching.Went-reached}
 use Rattle.pk_nand.specs.Operations.{InOrder, after_read, after_erase, ReadFailed, EraseFailed}
 use Rattle.pk_nand.specs.declared.types.NandFault.{NandFault}
+use Rattle.pk_nand.{specs.Calls.Rose, specs.Calls.IsReady, specs.Calls.after_program, specs.Calls.ProgramFailed, specs.Calls.LeftBy, proofs.Reaching.Reached-start, proofs.Reaching.Went-reached}
 use Rattle.pk_remap.{proofs.Placing.place-below, proofs.Placing.block_of as page_block, proofs.Placing.page-through, proofs.Placing.div-of, proofs.Placing.mod-of, specs.declared.top.Top.Top}
 use Rattle.pk_remap.{proofs.Lifting.times_le, proofs.Lifting.placed_page-inside, proofs.Running.went, proofs.Running.none_pair, specs.declared.layout.TheConstants.MOST_SPARES}
 use Rattle.pk_remap.{specs.Table.SpareTable, specs.Table.table_of, specs.Table.is_table, specs.Newest.table_in, specs.Newest.newest_table, specs.Newest.IsNewest, proofs.TableLemmas.page_spells}
@@ -16,7 +17,7 @@ use Rattle.pk_remap.{specs.Searched.table_found, specs.Searched.UsesAtMost, proo
 use Rattle.pk_remap.{specs.declared.relocation.Call.Call, specs.declared.relocation.Call.TheVariants.Program, specs.declared.relocation.Call.TheVariants.Erase, specs.Stepping.RelocationGoesOn}
 use Rattle.pk_remap.{specs.declared.relocation.Relocation.Relocation as InMemory, specs.Places.inner_shape, specs.Places.place, specs.Places.placed_page, proofs.Turning.next_kept}
 use Rattle.pk_remap.{specs.Through.through, specs.Through.MayShow, specs.Through.mark_below, specs.Beginning.CanRelocate, specs.Beginning.CallHasFailed, proofs.Stepping.ready_again}
-use Rattle.pk_remap.specs.Relocating.{Relocation, block_of, copies_of, IsTop, SameTables}
+use Rattle.pk_remap.{proofs.Stepping.ready_same, specs.Relocating.Relocation, specs.Relocating.block_of, specs.Relocating.copies_of, specs.Relocating.IsTop, specs.Relocating.SameTables}
 use Rattle.pk_remap.specs.Running.{relocation_of, mark_of, HasPageBuffers, HasTurn, RelocationRuns, IsAtRest, SameCall}
 use Rattle.pk_remap.specs.Serving.{PassesCount, PassesCalls, ServingStops, ServingOutcome, read_failed, table_failed, spares_failed, page_is_torn, for_mark, outer_of, SameSpares, OuterCall}
 use Rattle.pk_remap.specs.Serving.{OuterOutcome, HasPartner, PartnerKept, PartnerOutcome, CanFind, FindOutcome, found_top, RelocationServes}
@@ -266,14 +267,10 @@ module _ (r : InMemory) (old : BoardState) (rest : IsAtRest r old) (page : ℕ) 
   row_page : (j : ℕ) → j < n → page_at old.pages (here * n + j) ≡ page_at (outer_of r old.pages) (b * n + j)
   row_page j less =
       let room : suc b * n ≤ r.shape.blocks * n = times_le (suc b) r.shape.blocks n b_inside in
-      let turned : n * r.shape.blocks ≡ r.shape.blocks * n = commute n r.shape.blocks in
-      let there : b * n + j < page_count r.shape = omega (arith, room, turned, less) in
+      let there : b * n + j < page_count r.shape = omega (arith, room, mul_comm n r.shape.blocks, less) in
       let same : placed_page r.shape (relocation_of r).table (b * n + j) ≡ here * n + j =
       (λ i. place r.shape (relocation_of r).table (div-of b n j less i) * n + mod-of b n j less i) in
       sym (page-through r.shape (relocation_of r).table (page_at old.pages) (b * n + j) there ∙ ap (page_at old.pages) same)
-    where
-      commute : (a b : ℕ) → a * b ≡ b * a
-      commute a b = omega arith
 
   -- a program in order is in order in the inner block
   pub inner_order : InOrder r.shape (outer_of r old.pages) page → InOrder (inner_shape r.shape r.spares) old.pages at_page
@@ -343,12 +340,8 @@ module _ (r : InMemory) (old : BoardState) (rest : IsAtRest r old) (page : ℕ) 
       pub program_begins : HasPartner r page (outer_of r old.pages) → RelocationRuns program_begun (outer_of r old.pages) new
       program_begins partner =
           begun_runs r old rest (program page bytes) program_call new (ap (λ s. s.shape) failed.rest) failed.left (Program page) r.kept buffer
-          (ap (program page) front) room large (λ k is. by k (both r.kept (suc k == page % n) is))
+          (ap (program page) front) room large (λ k is. by k (both_true r.kept (suc k == page % n) is))
         where
-          both : (a b : Bool) → (a && b) ≡ true → (a ≡ true) × (b ≡ true)
-          both true b e = (refl, e)
-          both false b e = cc
-
           by : (k : ℕ) → (r.kept ≡ true) × ((suc k == page % n) ≡ true)
               → page_at (after r.shape (program page bytes) (outer_of r old.pages)) (page / n * n + k) ≡ whole (take r.shape.page_bytes r.partner.items)
           by k is =
@@ -375,7 +368,7 @@ module _ (r : InMemory) (old : BoardState) (rest : IsAtRest r old) where
       → MOST_PAGE_BYTES ≤ length partner.items → new.shape ≡ old.shape → new.pages ≡ old.pages
       → IsAtRest (record r { kept = kept; partner = partner }) new
   rests_again kept partner new large shape pages = record {
-    ready = record { shape_is = shape ∙ rest.ready.shape_is; flash = subst (IsFlash (inner_shape r.shape r.spares)) (sym pages) rest.ready.flash };
+    ready = ready_same old new (inner_shape r.shape r.spares) rest.ready shape pages;
     shape_is = rest.shape_is;
     few = rest.few;
     grammar = rest.grammar;
@@ -387,10 +380,7 @@ module _ (r : InMemory) (old : BoardState) (rest : IsAtRest r old) where
   }
 
   false_kept : {X : Type 0} → false ≡ true → X
-  false_kept e = absurd (apart e)
-    where
-      apart : false ≡ true → ⊥
-      apart e = cc
+  false_kept e = absurd cc
 
   -- nothing was read
   pub kept_none : (page : ℕ) (u : Unit) → PartnerOutcome r page old (Ok u) (record r { kept = false }) old
@@ -441,14 +431,8 @@ module _ (r : InMemory) (old : BoardState) (rest : IsAtRest r old) where
 
 grammar_of : (shape : Shape) (spares : ℕ) (table : SpareTable) (p : Page) → table_in shape spares p ≡ Some table → is_table shape spares table ≡ true
 grammar_of shape spares table (whole bytes) e = (page_spells shape spares bytes table e).is
-grammar_of shape spares table erased e = absurd (apart e)
-  where
-    apart : None ≡ Some table → ⊥
-    apart e = cc
-grammar_of shape spares table torn e = absurd (apart e)
-  where
-    apart : None ≡ Some table → ⊥
-    apart e = cc
+grammar_of shape spares table erased e = let none : None ≡ Some table = e in absurd cc
+grammar_of shape spares table torn e = let none : None ≡ Some table = e in absurd cc
 
 module _ (r : InMemory) (old : BoardState) (may : CanFind r old) (top : Top) (serves : List ℕ) (copy : Vec ℕ Global) where
   abbrev table : SpareTable
@@ -469,10 +453,7 @@ module _ (r : InMemory) (old : BoardState) (may : CanFind r old) (top : Top) (se
       let fits : HasPageBuffers (found_top (record r { serves = serves; copy = copy }) top) =
       record { fits = omega (arith, few, most); all = all; kept_page = may.room.kept_page; new_page = may.room.new_page; read_page = large } in (
         record {
-          ready = record {
-            shape_is = ap (λ s. s.shape) is ∙ may.ready.shape_is;
-            flash = subst (IsFlash (inner_shape r.shape r.spares)) (sym pages) may.ready.flash;
-          };
+          ready = ready_same old new (inner_shape r.shape r.spares) may.ready (ap (λ s. s.shape) is) pages;
           shape_is = may.shape_is;
           few = may.few;
           grammar = grammar_of r.shape r.spares table (page_at old.pages top.page) newest.is;
@@ -515,26 +496,12 @@ pub record OnlyRead (old mid : BoardState) : Type 0 where
   pub stops : mid.stop_faults ≡ old.stop_faults
 
 only_read : (old mid : BoardState) → (mid ≡ old) ⊎ (mid ≡ after_read old) → OnlyRead old mid × (mid.read_faults ≡ old.read_faults)
-only_read old mid (inl is) = (
-  record {
-    shape = ap (λ s. s.shape) is;
-    pages = ap (λ s. s.pages) is;
-    trail = ap (λ s. s.trail) is;
-    posted = ap (λ s. s.posted) is;
-    stops = ap (λ s. s.stop_faults) is;
-  },
-  ap (λ s. s.read_faults) is,
-)
-only_read old mid (inr is) = (
-  record {
-    shape = ap (λ s. s.shape) is;
-    pages = ap (λ s. s.pages) is;
-    trail = ap (λ s. s.trail) is;
-    posted = ap (λ s. s.posted) is;
-    stops = ap (λ s. s.stop_faults) is;
-  },
-  ap (λ s. s.read_faults) is,
-)
+only_read old mid (inl is) =
+    let T : BoardState → Type 0 = λ s. OnlyRead old s × (s.read_faults ≡ old.read_faults) in
+    subst T (sym is) (record { shape = refl; pages = refl; trail = refl; posted = refl; stops = refl }, refl)
+only_read old mid (inr is) =
+    let T : BoardState → Type 0 = λ s. OnlyRead old s × (s.read_faults ≡ old.read_faults) in
+    subst T (sym is) (record { shape = refl; pages = refl; trail = refl; posted = refl; stops = refl }, refl)
 
 module _ (r : InMemory) (old : BoardState) (rest : IsAtRest r old) (mark : Mark) where
   abbrev Safe : Flash → Type 0
@@ -550,13 +517,7 @@ module _ (r : InMemory) (old : BoardState) (rest : IsAtRest r old) (mark : Mark)
   pub read_stopped : (e : NandFault) (at : ℕ) (r' : InMemory) (new : BoardState)
       → ReadFailed old new at → SameSpares r r' → OuterOutcome r mark old (Err e) r' new
   read_stopped e at r' new failed same =
-      let is : OnlyRead old new = record {
-        shape = ap (λ s. s.shape) failed.rest;
-        pages = ap (λ s. s.pages) failed.rest;
-        trail = ap (λ s. s.trail) failed.rest;
-        posted = ap (λ s. s.posted) failed.rest;
-        stops = ap (λ s. s.stop_faults) failed.rest;
-      } in
+      let is : OnlyRead old new = subst (OnlyRead old) (sym failed.rest) (record { shape = refl; pages = refl; trail = refl; posted = refl; stops = refl }) in
       ((1, (old, refl, read_went new is)), read_failed failed.read, same)
 
   module _ (kept : Bool) (partner : Vec ℕ Global) (mid : BoardState) (board : (mid ≡ old) ⊎ (mid ≡ after_read old)) where
@@ -611,10 +572,7 @@ partner_failed r old rest at r' new failed others =
     let T : InMemory → Type 0 = λ x. HasTable x new in
     let taken : r'.taken ≡ r.taken = ap (λ (x : InMemory). x.taken) others in
     let pages : new.pages ≡ old.pages = ap (λ s. s.pages) failed.rest in
-    let ready : IsReady new (inner_shape r.shape r.spares) = record {
-      shape_is = ap (λ s. s.shape) failed.rest ∙ rest.ready.shape_is;
-      flash = subst (IsFlash (inner_shape r.shape r.spares)) (sym pages) rest.ready.flash;
-    } in
+    let ready = ready_same old new (inner_shape r.shape r.spares) rest.ready (ap (λ s. s.shape) failed.rest) pages in
     let top : IsTop (relocation_of r) new.pages = subst (IsTop (relocation_of r)) (sym pages) rest.top in
     record {
       counts = counted_done r r' old new (only_read_failed old new at failed) 0 (ap (λ s. s.stop_faults) failed.rest) (omega (arith, taken));

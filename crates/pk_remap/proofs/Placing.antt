@@ -1,9 +1,11 @@
 -- Which inner blocks and pages have the outer ones: no inner block has two, and no unused spare and no table block has one.
 use Rattle.std.proofs.Common.{◌≡◌, ◌≢◌, ◌⊎◌, inl, inr, ℕ, zero, suc, ◌+◌, ◌*◌, ◌/◌, ◌%◌, ◌<◌, ◌≤◌, Bool, true, false, List, [], ◌∷◌, ◌++◌, length, refl, sym, ap, subst, ◌∙◌, arith, Some, zero-add}
 use Rattle.std.proofs.Common.{add-zero}
-use Rattle.std.{specs.Prelude.nat_eq, specs.Prelude.◌==◌, specs.Prelude.if◌then◌else◌, specs.Prelude.slice_get, specs.Prelude.replicate, proofs.Math.Nat.mod-lt, proofs.lemmas.Bool.Decides.nat_tests}
-use Rattle.std.proofs.lemmas.Nat.{div-mul-add, div-add-mod'}
-use Rattle.pk_base.{specs.Shape.Shape, specs.Shape.page_count, specs.Page.Page, specs.Page.page_at, specs.Page.torn}
+use Rattle.std.proofs.Math.Nat.{mul_comm}
+use Rattle.std.{proofs.lemmas.Nat.div-mul-add, proofs.lemmas.Nat.div-add-mod', proofs.lemmas.Option.same_Some, proofs.lemmas.Bool.Decides.nat_tests}
+use Rattle.std.{specs.Prelude.nat_eq, specs.Prelude.nat_lt, specs.Prelude.◌==◌, specs.Prelude.if◌then◌else◌, specs.Prelude.slice_get, specs.Prelude.replicate, proofs.Math.Nat.mod-lt}
+use Rattle.pk_base.{specs.Shape.Shape, specs.Shape.page_count, specs.Page.Page, specs.Page.Flash, specs.Page.page_at, specs.Page.whole, specs.Page.torn, specs.Page.IsPage, specs.Page.IsFlash}
+use Rattle.pk_nand.proofs.Leaving.{same_pages}
 use Rattle.pk_remap.{specs.declared.layout.TheConstants.FAILED, specs.Table.SpareTable}
 use Rattle.pk_remap.specs.Places.{serving, place, placed_page, pages_from, through_by, with_one_more}
 
@@ -70,9 +72,6 @@ module _ (shape : Shape) (table : SpareTable) where
     | inr s ↦ omega (arith, s.less, s.at)
   ]
 
-  same_some : (x y : ℕ) → Some x ≡ Some y → x ≡ y
-  same_some x y e = cc
-
   -- no two blocks are in one
   pub place-apart : (a b : ℕ) → a < shape.blocks → b < shape.blocks → place shape table a ≡ place shape table b → a ≡ b
   place-apart a b in_a in_b same = elim (place-cases a) [
@@ -85,7 +84,7 @@ module _ (shape : Shape) (table : SpareTable) where
       | inr s' ↦
           let i : s.i ≡ s'.i = omega (arith, same, s.at, s'.at) in
           let P : ℕ → Type 0 = λ k. slice_get table.serves k ≡ Some a in
-          same_some a b (sym (subst P i s.is) ∙ s'.is)
+          same_Some a b (sym (subst P i s.is) ∙ s'.is)
     ]
   ]
 
@@ -96,9 +95,9 @@ div-of q n r less = div-mul-add q n r less
 
 pub mod-of : (q n r : ℕ) → r < n → (q * n + r) % n ≡ r
 mod-of q n r less =
-    let whole : (q * n + r) / n * n + (q * n + r) % n ≡ q * n + r = div-add-mod' (q * n + r) n in
+    let row : (q * n + r) / n * n + (q * n + r) % n ≡ q * n + r = div-add-mod' (q * n + r) n in
     let P : ℕ → Type 0 = λ x. x * n + (q * n + r) % n ≡ q * n + r in
-    let moved : q * n + (q * n + r) % n ≡ q * n + r = subst P (div-of q n r less) whole in
+    let moved : q * n + (q * n + r) % n ≡ q * n + r = subst P (div-of q n r less) row in
     omega (arith, moved)
 
 module _ (shape : Shape) (table : SpareTable) (some : 0 < shape.block_pages) where
@@ -116,11 +115,8 @@ module _ (shape : Shape) (table : SpareTable) (some : 0 < shape.block_pages) whe
   block_of k inside = by (k / n) (div-add-mod' k n) (mod-lt k some)
     where
       by : (q : ℕ) → q * n + k % n ≡ k → k % n < n → q < shape.blocks
-      by q whole less = below (shape.blocks) q (omega (arith, whole, inside, commute n shape.blocks))
+      by q row less = below (shape.blocks) q (omega (arith, row, inside, mul_comm n shape.blocks))
         where
-          commute : (a b : ℕ) → a * b ≡ b * a
-          commute a b = omega arith
-
           below : (m q : ℕ) → q * n < m * n → q < m
           below zero q h = absurd (omega (arith, h))
           below (suc m) zero h = omega arith
@@ -154,6 +150,13 @@ page-past at k zero i past = refl
 page-past at k (suc n) zero past = absurd (omega (arith, past))
 page-past at k (suc n) (suc i) past = page-past at (suc k) n i (omega (arith, past))
 
+-- a page after the last is Torn
+pub page-past_end : (flash : Flash) (k : ℕ) → length flash ≤ k → page_at flash k ≡ torn
+page-past_end [] zero past = refl
+page-past_end [] (suc k) past = refl
+page-past_end (p ∷ ps) zero past = absurd (omega (arith, past))
+page-past_end (p ∷ ps) (suc k) past = page-past_end ps k (omega (arith, past))
+
 module _ (shape : Shape) (table : SpareTable) (at : ℕ → Page) where
   pub length-through : length (through_by shape table at) ≡ page_count shape
   length-through = length-pages_from (λ k. at (placed_page shape table k)) 0 (page_count shape)
@@ -164,6 +167,28 @@ module _ (shape : Shape) (table : SpareTable) (at : ℕ → Page) where
 
   pub past-through : (k : ℕ) → page_count shape ≤ k → page_at (through_by shape table at) k ≡ torn
   past-through k past = page-past (λ j. at (placed_page shape table j)) 0 (page_count shape) k past
+
+  -- it is the flash that has its pages
+  pub is_through : (flash : Flash) → length flash ≡ page_count shape → ((k : ℕ) → k < page_count shape → at (placed_page shape table k) ≡ page_at flash k)
+      → through_by shape table at ≡ flash
+  is_through flash size same = same_pages flash (through_by shape table at) (length-through ∙ sym size) (λ k. by k (nat_lt k (page_count shape)) refl)
+    where
+      by : (k : ℕ) (t : Bool) → nat_lt k (page_count shape) ≡ t → page_at (through_by shape table at) k ≡ page_at flash k
+      by k true t = let inside : k < page_count shape = grind (arith, nat_tests) in page-through k inside ∙ same k inside
+      by k false t = let past : page_count shape ≤ k = grind (arith, nat_tests) in past-through k past ∙ sym (page-past_end flash k (omega (arith, past, size)))
+
+  -- and one of its shape, if the inner pages are
+  pub whole_through : ((k : ℕ) (bytes : List ℕ) → at k ≡ whole bytes → IsPage shape bytes) → IsFlash shape (through_by shape table at)
+  whole_through full = record { size = length-through; full = λ k bytes is. by k bytes is (nat_lt k (page_count shape)) refl }
+    where
+      by : (k : ℕ) (bytes : List ℕ) → page_at (through_by shape table at) k ≡ whole bytes → (t : Bool) → nat_lt k (page_count shape) ≡ t → IsPage shape bytes
+      by k bytes is true t =
+          let inside : k < page_count shape = grind (arith, nat_tests) in
+          full (placed_page shape table k) bytes (sym (page-through k inside) ∙ is)
+      by k bytes is false t =
+          let past : page_count shape ≤ k = grind (arith, nat_tests) in
+          let none = sym (past-through k past) ∙ is in
+          cc
 
 -- ---- one spare more
 

@@ -1,7 +1,7 @@
 -- A flash with spare blocks, as a board.
 use Rattle.std.proofs.Common.{◌≡◌, ◌≢◌, ◌⊎◌, inl, inr, ℕ, zero, suc, ◌+◌, ◌-◌, ◌*◌, ◌/◌, ◌<◌, ◌≤◌, Bool, true, false, List, [], ◌∷◌, length, refl, sym, ap, subst, ◌∙◌, arith, Option, Some, None}
 use Rattle.std.specs.Prelude.{unwrap_or, Result, Ok, Err, OnOk, OnErr}
-use Rattle.pk_base.{specs.Shape.Shape, specs.Shape.IsShape, specs.Shape.page_count, specs.Page.Flash, specs.Page.page_at, specs.Page.torn, specs.Page.IsFlash}
+use Rattle.pk_base.{specs.Shape.Shape, specs.Shape.IsShape, specs.Shape.page_count, specs.Page.Flash, specs.Page.page_at, specs.Page.torn}
 use Rattle.pk_base.specs.Mark.{Mark, program, erase, after}
 use Rattle.pk_nand.{specs.BoardState.BoardState, specs.BoardState.shape_of, specs.Cut.Interrupted, specs.Effects.OnlyFlash, specs.Effects.OnlyReading, specs.Crash.Went, proofs.Effects.only_then}
 use Rattle.pk_nand.{specs.Calls.IsReady, specs.Calls.Rose, specs.Calls.counted, specs.Calls.longer, specs.Calls.after_program, specs.Calls.ProgramFailed, specs.declared.types.NandFault.NandFault}
@@ -9,22 +9,20 @@ use Rattle.pk_nand.{specs.Operations.after_read, specs.Operations.after_erase, s
 use Rattle.pk_nand.proofs.Reaching.{Reached-start, Went-reached}
 use Rattle.pk_remap.{specs.declared.layout.TheConstants.MOST_SPARES, specs.declared.counts.BoardCounts.BoardCounts, specs.declared.image.Image.Image, specs.declared.mark_log.MarkLog.MarkLog}
 use Rattle.pk_remap.specs.declared.image.Image.TheVariants.{Unknown, Missing, Unsure, Sure}
+use Rattle.pk_remap.specs.Serving.{PassesCount, PassesCalls, ServingStops, read_failed, table_failed, spares_failed, page_is_torn, for_mark, outer_of, OuterOutcome, SameSpares}
+use Rattle.pk_remap.specs.Remapped.{outer_pages, is_open, is_missing, is_sure, open_spares_left, spares_left, with_stop, remap_board, RemapHolds, HasLog, SameTaken, TableIsFound, TableNotFound}
+use Rattle.pk_remap.specs.Causes.{SparesFallBy, IsRefused, StopCause, read_fault, table_fault, no_spare_left, torn_page, MarkMade}
+use Rattle.pk_remap.proofs.Standing.{may_show}
 use Rattle.pk_remap.{specs.declared.relocation.Relocation.Relocation as InMemory, specs.Table.SpareTable, specs.Newest.newest_table, specs.Newest.IsNewest, specs.Stepping.IsTableBlock}
 use Rattle.pk_remap.{specs.Places.inner_shape, specs.Places.placed_page, specs.Places.through_by, specs.Through.through, specs.Through.MayShow, specs.Relocating.block_of, specs.Relocating.copies_of}
 use Rattle.pk_remap.{specs.Running.relocation_of, specs.Running.HasPageBuffers, specs.Running.IsAtRest, specs.Counting.SparesCounted, specs.Counting.HasTable, specs.Counting.OuterCounts}
-use Rattle.pk_remap.specs.Serving.{PassesCount, PassesCalls, ServingStops, read_failed, table_failed, spares_failed, page_is_torn, for_mark, outer_of, OuterOutcome, SameSpares}
-use Rattle.pk_remap.{specs.Logged.told, proofs.Placing.length-through, proofs.Finding.newest-found, proofs.Finding.found-newest, proofs.Standing.shows, proofs.Standing.may_show}
-use Rattle.pk_remap.specs.Remapped.{outer_pages, is_open, is_missing, is_sure, open_spares_left, spares_left, with_stop, remap_board, RemapHolds, HasLog, SameTaken, TableIsFound, TableNotFound}
-use Rattle.pk_remap.specs.Causes.{SparesFallBy, IsRefused, StopCause, read_fault, table_fault, no_spare_left, torn_page, MarkMade}
+use Rattle.pk_remap.{specs.Logged.told, proofs.Stepping.ready_same, proofs.Placing.length-through, proofs.Finding.newest-found, proofs.Finding.found-newest, proofs.Standing.shows}
 use Rattle.pk_remap.{proofs.Outer.passes_before, proofs.Counting.newest_is, proofs.Counting.has_table}
 
 -- ---- what is known between calls
 
 pub no_bool : {X : Type 0} → false ≡ true → X
-no_bool e = absurd (apart e)
-  where
-    apart : false ≡ true → ⊥
-    apart e = cc
+no_bool e = absurd cc
 
 sure_open : (image : Image) → is_sure image ≡ true → is_open image ≡ true
 sure_open Unknown e = e
@@ -239,11 +237,11 @@ module _ (work : InMemory) (old : BoardState) (table : HasTable work old) (taken
 
 -- ---- the board
 
--- the board of a flash that has a table
-abbrev pub opened : Shape → Flash → Option (List Mark) → BoardCounts → Option (List ℕ) → Option (List ℕ) → BoardState
-opened shape pages trail counts input posted = record {
-  shape = Some shape;
-  bare = false;
+-- a board with these counts
+abbrev pub board_with : Option Shape → Bool → Flash → Option (List Mark) → BoardCounts → Option (List ℕ) → Option (List ℕ) → BoardState
+board_with shape bare pages trail counts input posted = record {
+  shape = shape;
+  bare = bare;
   pages = pages;
   trail = trail;
   reads = counts.reads;
@@ -259,6 +257,10 @@ opened shape pages trail counts input posted = record {
   in_faults = counts.in_faults;
   out_faults = counts.out_faults;
 }
+
+-- the board of a flash that has a table
+abbrev pub opened : Shape → Flash → Option (List Mark) → BoardCounts → Option (List ℕ) → Option (List ℕ) → BoardState
+opened shape pages trail counts input posted = board_with (Some shape) false pages trail counts input posted
 
 module _ (work : InMemory) (log : MarkLog) (counts : BoardCounts) (inner : BoardState) where
   pub board_is : (image : Image) → is_open image ≡ true → remap_board image work log counts inner
@@ -355,10 +357,7 @@ missing_is Sure missing = no_bool missing
 -- with the same shape, spares and pages
 pub table_again : (work w : InMemory) (old new : BoardState) → SameTaken work w → new.shape ≡ old.shape → new.pages ≡ old.pages → HasTable work old → HasTable w new
 table_again work w old new same shape pages table =
-    let ready : IsReady new (inner_shape work.shape work.spares) = record {
-      shape_is = shape ∙ table.ready.shape_is;
-      flash = subst (λ (f : Flash). IsFlash (inner_shape work.shape work.spares) f) (sym pages) table.ready.flash;
-    } in
+    let ready = ready_same old new (inner_shape work.shape work.spares) table.ready shape pages in
     let P : Flash → Type 0 = λ f. (newest_table work.shape work.spares (page_at f) ≢ None)
     × ((page : ℕ) (top : SpareTable) → IsNewest work.shape work.spares (page_at f) page top → length top.serves ≤ work.taken) in
     let own = subst P (sym pages) (table.some, table.used) in

@@ -1,27 +1,28 @@
 -- The steps of a relocation in memory.
-use Rattle.std.proofs.Common.{◌≡◌, ◌≢◌, ℕ, suc, ◌+◌, ◌-◌, ◌*◌, ◌/◌, ◌%◌, ◌<◌, ◌≤◌, Bool, true, false, List, [], length, take, refl, sym, ap, subst, ◌∙◌, arith, Some, None, inl, inr}
+use Rattle.std.proofs.Common.{◌≡◌, ◌≢◌, ℕ, suc, ◌+◌, ◌-◌, ◌*◌, ◌/◌, ◌%◌, ◌<◌, ◌≤◌, ◌++◌, Bool, true, false, List, [], length, take, drop, refl, sym, ap, subst, ◌∙◌, arith, Some, None, inl, inr}
 use Rattle.std.specs.Prelude.{nat_lt, nat_eq, slice_set, ◌==◌, ◌&&◌, if◌then◌else◌, Option, Result, Ok, Err, IfOk, IsErr, OnErr, Vec}
-use Rattle.std.{specs.declared.alloc.Global.Global, proofs.lemmas.Bool.Decides.nat_tests, proofs.lemmas.Nat.div-add-mod', proofs.lemmas.List.length-take-le}
-use Rattle.pk_base.{specs.declared.sizes.TheConstants.MOST_PAGE_BYTES, specs.Shape.Shape, specs.Shape.page_count}
+use Rattle.std.proofs.lemmas.List.{length-take-le}
+use Rattle.std.{specs.declared.alloc.Global.Global, proofs.Math.Seq.take-append_seam, proofs.lemmas.Bool.Decides.nat_tests, proofs.lemmas.Nat.div-add-mod', proofs.lemmas.Option.same_Some}
+use Rattle.pk_base.{specs.declared.sizes.TheConstants.MOST_PAGE_BYTES, specs.Shape.Shape, specs.Shape.page_count, proofs.Logic.both_true}
 use Rattle.pk_base.specs.Page.{Page, Flash, page_at, erased, whole, torn as torn_page, IsPage}
 use Rattle.pk_base.specs.Mark.{Mark, program, erase, post, after}
 use Rattle.pk_remap.{specs.declared.layout.TheConstants.MOST_SPARES, specs.declared.phase.Phase.Phase, specs.declared.relocation.Call.Call, specs.declared.relocation.Relocation.Relocation as InMemory}
 use Rattle.pk_remap.specs.declared.phase.Phase.TheVariants.{EraseSpare, Read, Write, EraseTable, First, Second}
-use Rattle.pk_remap.{specs.declared.relocation.Call.TheVariants.Program, specs.declared.relocation.Call.TheVariants.Erase, specs.Table.SpareTable, specs.Table.table_bytes, specs.Table.is_table}
-use Rattle.pk_remap.{specs.Places.inner_shape, specs.Places.place, specs.Places.placed_page, specs.Newest.IsTablePage, specs.Newest.IsNewest, specs.Through.MayShow, specs.Through.IsMarkWithin}
-use Rattle.pk_remap.{proofs.Placing.div-of, proofs.Placing.mod-of, proofs.Placing.place-below, proofs.Lifting.placed_page-inside}
 use Rattle.pk_remap.specs.Relocating.{Relocation, block, copies_of, fill_of, spare_block, spare_page, next_table, IsSpareFilled, IsSpareFull, IsRelocating, IsTop, SameTables, IsNextPair}
 use Rattle.pk_remap.specs.Stepping.{WentSafely, RelocationGoesOn, IsSource, IsOtherTable, SpareFailed}
 use Rattle.pk_remap.specs.Running.{mark_of, is_program, relocation_of, copies, is_kept, bytes_for, next_after, with_table, table_phase, phase_after, phase_rank, relocation_steps_left, IsTableHalf}
 use Rattle.pk_remap.specs.Running.{AtPhase, HasPageBuffers, HasTurn, RelocationRuns, SameCall, NoReadFailed, RelocationStops, StepOutcome, reading, in_table, no_spare, torn}
 use Rattle.pk_remap.proofs.Cutting.{none_cut, block_inside, next_grammar}
 use Rattle.pk_remap.proofs.Turning.{block_of_table, next_kept, next_pair, erased_pair, second_order, following_pair}
-use Rattle.pk_remap.proofs.Stepping.{copies_written, copies_less, low_inside, writes_in_order, erases_spare, fails_to_erase_spare, reads_source, writes_page, fails_to_write, fills, erases_table}
-use Rattle.pk_remap.proofs.Stepping.{fails_to_erase_table, writes_first, fails_to_write_first, writes_second, fails_to_write_second}
+use Rattle.pk_remap.proofs.Stepping.{table_inside, copies_written, copies_less, low_inside, writes_in_order, erases_spare, fails_to_erase_spare, reads_source, writes_page, fails_to_write, fills}
+use Rattle.pk_remap.proofs.Stepping.{erases_table, fails_to_erase_table, writes_first, fails_to_write_first, writes_second, fails_to_write_second}
+use Rattle.pk_remap.{specs.declared.relocation.Call.TheVariants.Program, specs.declared.relocation.Call.TheVariants.Erase, specs.Table.SpareTable, specs.Table.table_bytes, specs.Table.is_table}
+use Rattle.pk_remap.{specs.Places.inner_shape, specs.Places.place, specs.Places.placed_page, specs.Newest.IsTablePage, specs.Newest.IsNewest, specs.Through.MayShow, specs.Through.IsMarkWithin}
+use Rattle.pk_remap.{proofs.Placing.div-of, proofs.Placing.mod-of, proofs.Placing.place-below, proofs.Lifting.placed_page-inside, proofs.TableLemmas.table_parts}
 use Rattle.pk_nand.{specs.BoardState.BoardState, specs.Calls.Rose, specs.Calls.after_program, specs.Calls.ProgramFailed, specs.Crash.Reached, specs.Crash.Went, proofs.Leaving.page_at-slice_set_same}
 use Rattle.pk_nand.specs.Operations.{InOrder, filled, after_read, after_erase, ReadFailed, EraseFailed}
-use Rattle.pk_nand.{specs.declared.types.NandFault.NandFault, proofs.Reaching.Reached-start, proofs.Reaching.Went-reached, proofs.Writing.shape_is, proofs.Writing.mod-next, specs.Seen.answer}
 use Rattle.pk_nand.specs.declared.types.PageRead.TheVariants.{Whole, Erased as ReadErased, Torn as ReadTorn}
+use Rattle.pk_nand.{specs.declared.types.NandFault.NandFault, proofs.Reaching.Reached-start, proofs.Reaching.Went-reached, proofs.Writing.shape_is, proofs.Writing.mod-next, specs.Seen.answer}
 
 -- ---- numbers of a call
 
@@ -85,10 +86,6 @@ module _ (r : InMemory) (before flash : Flash) (serving : IsRelocating (relocati
       → k ≤ fill_of r.shape (relocation_of r).mark → AtPhase r before flash (phase_after r k)
   phase_after_fits k filled most = by (nat_lt k (copies r)) (is_kept r k) (is_program r.call && (k == copies r)) refl refl refl
     where
-      and_true : (a b : Bool) → (a && b) ≡ true → (a ≡ true) × (b ≡ true)
-      and_true true b e = (refl, e)
-      and_true false b e = cc
-
       fill_most : (call : Call) → (is_program call && (k == copies_of r.shape (mark_of call (take r.shape.page_bytes r.bytes.items)))) ≡ false
           → k ≤ fill_of r.shape (mark_of call (take r.shape.page_bytes r.bytes.items))
           → copies_of r.shape (mark_of call (take r.shape.page_bytes r.bytes.items)) ≤ k
@@ -116,7 +113,7 @@ module _ (r : InMemory) (before flash : Flash) (serving : IsRelocating (relocati
           )
       by true false u p q e = let less : k < copies r = grind (arith, nat_tests) in (top, filled, less, q)
       by false t true p q e =
-          let own = and_true (is_program r.call) (k == copies r) e in
+          let own = both_true (is_program r.call) (k == copies r) e in
           let test = own.1 in
           let same : k ≡ copies r = grind (arith, nat_tests) in
           (top, filled, full_of r.call own.0 same, source_new k own.0 same)
@@ -161,10 +158,7 @@ rests r before old new on top shape pages trail posted = (
 )
 
 pub none_pair : {X : Type 0} (pair : ℕ) → None ≡ Some pair → X
-none_pair pair e = absurd (apart e)
-  where
-    apart : None ≡ Some pair → ⊥
-    apart e = cc
+none_pair pair e = absurd cc
 
 module _ (r : InMemory) (before : Flash) (old : BoardState) (runs : RelocationRuns r before old) where
   abbrev n : ℕ
@@ -180,45 +174,25 @@ module _ (r : InMemory) (before : Flash) (old : BoardState) (runs : RelocationRu
   with_copy : (copy : Vec ℕ Global) → MOST_PAGE_BYTES ≤ length copy.items → HasPageBuffers (record r { copy = copy })
   with_copy copy room = record { fits = runs.room.fits; all = runs.room.all; kept_page = runs.room.kept_page; new_page = runs.room.new_page; read_page = room }
 
-  -- the same call, whatever the step did to the phase, the copy and the next pair
+  -- the same call, whatever the step did to the phase, the copy, the next pair and the spares
+  same_as : (copy : Vec ℕ Global) → MOST_PAGE_BYTES ≤ length copy.items → (phase : Phase) (next : Option ℕ) (taken : ℕ) → r.taken ≤ taken → taken ≤ r.spares
+      → SameCall r (record r { copy = copy; phase = phase; next = next; taken = taken })
+  same_as copy room phase next taken least most = record { shape = refl; spares = refl; call = refl; bytes = refl; taken = least; most = most; room = with_copy copy room }
+
   same_call : (copy : Vec ℕ Global) → MOST_PAGE_BYTES ≤ length copy.items → (phase : Phase) (next : Option ℕ)
       → SameCall r (record r { copy = copy; phase = phase; next = next })
-  same_call copy room phase next = record {
-    shape = refl;
-    spares = refl;
-    call = refl;
-    bytes = refl;
-    taken = omega arith;
-    most = let left = runs.goes_on.serving.left in omega (arith, left);
-    room = with_copy copy room;
-  }
+  same_call copy room phase next = same_as copy room phase next r.taken (omega arith) (let left = runs.goes_on.serving.left in omega (arith, left))
 
   pub same_phase : (phase : Phase) (next : Option ℕ) → SameCall r (record r { phase = phase; next = next })
   same_phase phase next = same_call r.copy runs.room.read_page phase next
 
   same_next : SameCall r (record r { taken = r.taken + 1; phase = EraseSpare })
-  same_next = record {
-    shape = refl;
-    spares = refl;
-    call = refl;
-    bytes = refl;
-    taken = omega arith;
-    most = let left = runs.goes_on.serving.left in omega (arith, left);
-    room = runs.room;
-  }
+  same_next = same_as r.copy runs.room.read_page EraseSpare r.next (r.taken + 1) (omega arith) (let left = runs.goes_on.serving.left in omega (arith, left))
 
   -- the spare is taken although its table could not be written
   same_failed : (copy : Vec ℕ Global) → MOST_PAGE_BYTES ≤ length copy.items → (next : Option ℕ)
       → SameCall r (record r { copy = copy; next = next; taken = r.taken + 1 })
-  same_failed copy room next = record {
-    shape = refl;
-    spares = refl;
-    call = refl;
-    bytes = refl;
-    taken = omega arith;
-    most = let left = runs.goes_on.serving.left in omega (arith, left);
-    room = with_copy copy room;
-  }
+  same_failed copy room next = same_as copy room r.phase next (r.taken + 1) (omega arith) (let left = runs.goes_on.serving.left in omega (arith, left))
 
   -- a step that fails
   pub stopped_as : (result : Result Bool NandFault) (r' : InMemory) (new : BoardState) → IsErr result → Stopped r' new → StepOutcome r before old result r' new
@@ -417,12 +391,7 @@ module _ (r : InMemory) (before : Flash) (old : BoardState) (runs : RelocationRu
   -- ---- the two programs of the next table
 
   table_inside' : (k : ℕ) → IsTablePage r.shape r.spares k → k < length old.pages
-  table_inside' k there =
-      let size = runs.goes_on.serving.whole_below.size in
-      omega (arith, size, there.to, turned r.shape.block_pages (r.shape.blocks + r.spares))
-    where
-      turned : (n m : ℕ) → n * (m + 2) ≡ m * n + 2 * n
-      turned n m = omega arith
+  table_inside' k there = table_inside (relocation_of r) before old.pages runs.goes_on.serving k there
 
   -- a failed program of a table page is one in a table block
   table_stops : (r' : InMemory) (new : BoardState) (at : ℕ) (bytes : List ℕ)
@@ -535,15 +504,12 @@ module _ (r : InMemory) (before : Flash) (old : BoardState) (runs : RelocationRu
           → IsNextPair r.shape r.spares pair (slice_set old.pages (suc pair) (whole bytes)) p
       turned half p known = by (nat_eq ((pair + 2) % n) 0) refl known
         where
-          same_some : (x y : ℕ) → Some x ≡ Some y → x ≡ y
-          same_some x y e = cc
-
           by : (t : Bool) → nat_eq ((pair + 2) % n) 0 ≡ t → (if t then None else Some (pair + 2)) ≡ Some p
               → IsNextPair r.shape r.spares pair (slice_set old.pages (suc pair) (whole bytes)) p
           by true t e = none_pair p e
           by false t e =
               let other : (pair + 2) % n ≢ 0 = grind (arith, nat_tests) in
-              subst (IsNextPair r.shape r.spares pair (slice_set old.pages (suc pair) (whole bytes))) (same_some (pair + 2) p e)
+              subst (IsNextPair r.shape r.spares pair (slice_set old.pages (suc pair) (whole bytes))) (same_Some (pair + 2) p e)
               (following_pair r.shape r.spares pair n_some old.pages bytes runs.goes_on.serving.shape_is.eights half.pair.first half.pair.even half.room
               (table_inside' (suc pair) half.pair.second) half.order other)
 
@@ -567,6 +533,17 @@ module _ (r : InMemory) (before : Flash) (old : BoardState) (runs : RelocationRu
   second_in_order pair phase =
       let half : IsTableHalf (relocation_of r) before old.pages pair = stands_in (Second pair) phase in
       (table_inside' (suc pair) half.pair.second, half.order)
+
+  -- the number of the table is small
+  pub small_number : r.number ≤ 65
+  small_number =
+      let own = table_parts r.shape r.spares (relocation_of r).table runs.goes_on.serving.grammar in
+      let most = own.most in
+      let used = runs.goes_on.serving.used in
+      let left = runs.goes_on.serving.left in
+      let few = runs.goes_on.serving.few in
+      let number : r.number ≤ length (take r.used r.serves) + 1 = grind (arith, nat_tests) in
+      omega (arith, number, used, left, few)
 
   -- a page of the spare is programmed in order, and is one of its block
   pub write_less : (k : ℕ) → r.phase ≡ Write k → k < r.shape.block_pages
@@ -606,6 +583,19 @@ module _ (r : InMemory) (before : Flash) (old : BoardState) (runs : RelocationRu
         omega (arith, placed_page-inside r.shape r.spares (relocation_of r).table n_some used (block (relocation_of r) * r.shape.block_pages + k) inside, size),
         omega (arith, below, most, used, spares),
       )
+
+-- a page buffer that was written as a slice: its items, and their room
+pub refilled : (v : Vec ℕ Global) (new : List ℕ) → length new ≡ v.len → length new ≡ length v.items → MOST_PAGE_BYTES ≤ length v.items
+    → (take v.len (new ++ drop (length new) v.items) ≡ new) × (MOST_PAGE_BYTES ≤ length new)
+refilled v new len all room = (
+  ap (λ (n : ℕ). take n (new ++ drop (length new) v.items)) (sym len) ∙ take-append_seam _ _,
+  omega (arith, all, room),
+)
+
+-- the bytes of a table whose blocks are the next ones are those of the next table
+pub next_bytes : (r : InMemory) (serves page : List ℕ) → page ≡ table_bytes r.shape r.spares (record { number = r.number + 1; serves = take (r.taken + 1) serves })
+    → take (r.taken + 1) serves ≡ (next_table (relocation_of r)).serves → page ≡ table_bytes r.shape r.spares (next_table (relocation_of r))
+next_bytes r serves page is front = is ∙ ap (λ (x : List ℕ). table_bytes r.shape r.spares (record { number = r.number + 1; serves = x })) front
 
 -- what a read answers
 pub answer_whole : (p : Page) → Whole ≡ answer p → (bytes : List ℕ) × (p ≡ whole bytes) × ((old : List ℕ) → filled p old ≡ bytes)

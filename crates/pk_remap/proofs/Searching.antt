@@ -1,11 +1,10 @@
 -- A search through table pages from the lowest on finds the newest table.
 use Rattle.std.proofs.Common.{◌≡◌, ◌≢◌, inl, inr, ℕ, suc, ◌+◌, ◌*◌, ◌<◌, ◌≤◌, Bool, true, false, List, refl, sym, ap, subst, ◌∙◌, arith, Option, Some, None}
-use Rattle.std.{specs.Prelude.nat_lt, specs.Prelude.nat_eq, specs.Prelude.if◌then◌else◌, proofs.lemmas.Bool.Decides.nat_tests}
+use Rattle.std.{specs.Prelude.nat_lt, specs.Prelude.nat_eq, specs.Prelude.if◌then◌else◌, proofs.lemmas.Bool.Decides.nat_tests, proofs.lemmas.Option.same_Some}
 use Rattle.pk_base.{specs.Shape.Shape, specs.Page.Page, specs.Page.erased, specs.Page.whole, specs.Page.torn}
 use Rattle.pk_nand.{specs.BoardState.BoardState, specs.Calls.Rose, specs.Counts.after_reads, specs.Effects.OnlyReading, specs.Operations.filled, specs.Operations.ReadFailed, specs.Seen.answer}
 use Rattle.pk_remap.{specs.Table.SpareTable, specs.Newest.table_in, specs.Newest.newest_table, specs.Newest.first_table_page, specs.Newest.IsNewer, specs.Counting.SearchFailed}
-use Rattle.pk_remap.specs.Searched.{newer_at, table_read}
-use Rattle.pk_remap.proofs.Finding.{Found, newest-found, found-newest, same_table, none_some}
+use Rattle.pk_remap.{specs.Searched.newer_at, specs.Searched.table_read, proofs.Finding.Found, proofs.Finding.newest-found, proofs.Finding.found-newest, proofs.Finding.none_some}
 
 pub read_table : (shape : Shape) (spares : ℕ) (p : Page) (old : List ℕ) → table_read shape spares (answer p) (filled p old) ≡ table_in shape spares p
 read_table shape spares erased old = refl
@@ -46,7 +45,7 @@ module _ (shape : Shape) (spares : ℕ) (at : ℕ → Page) where
         below = omega arith;
         is = e;
         newest = λ j low high table is. split j (IsNewer (from + n) new j table)
-            (λ same. let own : table ≡ new = same_table table new
+            (λ same. let own : table ≡ new = same_Some table new
             (sym is ∙ here j (Some new) e same) in inr (ap (λ (x : SpareTable). x.number) own, omega (arith, same)))
             (λ other. absurd (none_some table (sym (none j low (omega (arith, high, other))) ∙ is)));
       }
@@ -60,7 +59,7 @@ module _ (shape : Shape) (spares : ℕ) (at : ℕ → Page) where
                 below = omega arith;
                 is = e;
                 newest = λ j low high table is. split j (IsNewer (from + n) new j table)
-                    (λ same. let own : table ≡ new = same_table table new
+                    (λ same. let own : table ≡ new = same_Some table new
                     (sym is ∙ here j (Some new) e same) in inr (ap (λ (x : SpareTable). x.number) own, omega (arith, same)))
                     (λ other. elim (was.newest j low (omega (arith, high, other)) table is) [
                       | inl lower ↦ inl
@@ -76,7 +75,7 @@ module _ (shape : Shape) (spares : ℕ) (at : ℕ → Page) where
                 is = was.is;
                 newest = λ j low high table is. split j (IsNewer top.0 top.1 j table)
                     (λ same.
-                    let own : table ≡ new = same_table table new (sym is ∙ here j (Some new) e same) in
+                    let own : table ≡ new = same_Some table new (sym is ∙ here j (Some new) e same) in
                     let number : table.number ≡ new.number = ap (λ (x : SpareTable). x.number) own in
                     choose_number j table (omega (arith, number, most)) (omega (arith, same, was.below)))
                     (λ other. was.newest j low (omega (arith, high, other)) table is);

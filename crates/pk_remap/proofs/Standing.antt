@@ -1,11 +1,11 @@
 -- What inner calls that are no outer calls leave of the outer flash: on an unused spare, on the other table block, and on a pair of table pages.
-use Rattle.std.proofs.Common.{◌≡◌, ◌≢◌, ◌⊎◌, inl, inr, ℕ, suc, ◌+◌, ◌*◌, ◌/◌, ◌%◌, ◌<◌, ◌≤◌, Bool, true, false, List, [], length, refl, sym, ap, ◌∙◌, arith, Option, Some, None}
-use Rattle.std.{specs.Prelude.nat_lt, specs.Prelude.option_map, proofs.Math.Nat.mod-lt, proofs.lemmas.Bool.Decides.nat_tests, proofs.lemmas.Nat.div-add-mod'}
+use Rattle.std.proofs.Common.{◌≡◌, ◌≢◌, ◌⊎◌, inl, inr, ℕ, suc, ◌+◌, ◌*◌, ◌/◌, ◌%◌, ◌<◌, ◌≤◌, List, [], length, refl, sym, ap, ◌∙◌, arith, Option, Some, None}
+use Rattle.std.{specs.Prelude.option_map, proofs.Math.Nat.mod-lt, proofs.lemmas.Nat.div-add-mod'}
 use Rattle.pk_base.{specs.Shape.Shape, specs.Shape.page_count, specs.Page.Page, specs.Page.Flash, specs.Page.page_at, specs.Mark.Mark, specs.Mark.program, specs.Mark.erase}
-use Rattle.pk_nand.{specs.Cut.Interrupted, specs.Cut.MayLeave, specs.Cut.IsPartner, specs.Cut.touched_block, proofs.Leaving.same_pages, proofs.Touching.elsewhere}
+use Rattle.pk_nand.{specs.Cut.Interrupted, specs.Cut.MayLeave, specs.Cut.IsPartner, specs.Cut.touched_block, proofs.Touching.elsewhere}
 use Rattle.pk_remap.{specs.Table.SpareTable, specs.Table.table_bytes, specs.Table.table_page, specs.Places.inner_shape, specs.Places.placed_page, specs.Places.through_by, proofs.Lifting.less_times}
 use Rattle.pk_remap.{specs.Newest.table_in, specs.Newest.IsTablePage, specs.Newest.IsNewest, specs.Through.through, specs.Through.MayShow, proofs.Finding.newest-found, proofs.Finding.newest-kept}
-use Rattle.pk_remap.proofs.Placing.{place-below, placed_page-div, block_of, length-through, page-through, past-through}
+use Rattle.pk_remap.proofs.Placing.{place-below, placed_page-div, block_of, length-through, page-through, is_through}
 
 -- the newest table determines the outer flash
 pub shows : (shape : Shape) (spares : ℕ) (flash : Flash) (page : ℕ) (table : SpareTable) → IsNewest shape spares (page_at flash) page table
@@ -37,16 +37,7 @@ module _ (shape : Shape) (spares : ℕ) (some : 0 < shape.block_pages) where
       → ((k : ℕ) → k < page_count shape → at' (placed_page shape table k) ≡ at (placed_page shape table k))
       → through_by shape table at' ≡ through_by shape table at
   same_through table at at' same =
-      same_pages (through_by shape table at) (through_by shape table at')
-      (length-through shape table at' ∙ sym (length-through shape table at)) (λ k. by k (nat_lt k (page_count shape)) refl)
-    where
-      by : (k : ℕ) (t : Bool) → nat_lt k (page_count shape) ≡ t → page_at (through_by shape table at') k ≡ page_at (through_by shape table at) k
-      by k true t =
-          let inside : k < page_count shape = grind (arith, nat_tests) in
-          page-through shape table at' k inside ∙ same k inside ∙ sym (page-through shape table at k inside)
-      by k false t =
-          let past : page_count shape ≤ k = grind (arith, nat_tests) in
-          past-through shape table at' k past ∙ sym (past-through shape table at k past)
+      is_through shape table at' (through_by shape table at) (length-through shape table at) (λ k inside. same k inside ∙ sym (page-through shape table at k inside))
 
   -- a call on an inner block that has no outer block leaves the outer flash unchanged
   pub apart_through : (table : SpareTable) (mark : Mark) (block : ℕ) (old new : Flash) (out : List ℕ) → shape.blocks + length table.serves ≤ block

@@ -1,21 +1,22 @@
 -- The steps of a relocation, call by call.
 use Rattle.std.proofs.Common.{◌≡◌, ◌≢◌, ◌⊎◌, inl, inr, ℕ, suc, ◌+◌, ◌-◌, ◌*◌, ◌/◌, ◌%◌, ◌<◌, ◌≤◌, Bool, true, false, List, [], length, refl, sym, ap, subst, ◌∙◌, arith, Some, zero-add}
-use Rattle.std.{specs.Prelude.nat_eq, specs.Prelude.nat_lt, proofs.Math.Nat.mod-lt, proofs.lemmas.Bool.Decides.nat_tests, proofs.lemmas.Nat.div-add-mod'}
+use Rattle.std.{specs.Prelude.nat_lt, proofs.Math.Nat.mod-lt, proofs.Math.Nat.mul_comm, proofs.lemmas.Bool.Decides.nat_tests, proofs.lemmas.Nat.div-add-mod'}
 use Rattle.pk_base.{specs.Shape.Shape, specs.Shape.page_count, specs.Mark.Mark, specs.Mark.program, specs.Mark.erase, specs.Mark.post, specs.Mark.after}
 use Rattle.pk_base.specs.Page.{Page, Flash, page_at, erased, whole, torn, IsPage, IsFlash}
 use Rattle.pk_nand.{specs.BoardState.BoardState, specs.BoardState.shape_of, specs.Cut.Interrupted, specs.Cut.MayLeave, specs.Cut.touched_block, proofs.Writing.shape_is}
 use Rattle.pk_nand.{specs.Calls.IsReady, specs.Calls.after_program, specs.Calls.ProgramFailed, specs.Calls.LeftBy, specs.Calls.Rose, specs.Operations.after_erase, specs.Operations.EraseFailed}
 use Rattle.pk_nand.proofs.Leaving.{IsFlash-interrupted, IsFlash-after, full_program, full_erase, page_at-slice_set, page_at-slice_set_same, page_at-erased_from, page-erased_in}
 use Rattle.pk_remap.{specs.Table.table_bytes, specs.Places.inner_shape, specs.Places.placed_page, specs.Places.through_by, specs.Through.MayShow, specs.Through.IsMarkWithin, proofs.Finding.pair-first}
-use Rattle.pk_remap.{specs.Newest.table_in, specs.Newest.IsTablePage, specs.Newest.IsNewest, specs.Newest.IsNewestBeside, proofs.Placing.page-through, proofs.Placing.div-of, proofs.Placing.mod-of}
+use Rattle.pk_remap.proofs.Finding.{by_equal}
 use Rattle.pk_remap.specs.Relocating.{Relocation, block_of, block, copies_of, fill_of, spare_block, spare_page, next_table, IsSpareFilled, IsSpareFull, IsCall, IsRelocating, IsTop, IsTablePair}
 use Rattle.pk_remap.specs.Stepping.{with_next_spare, ReachedSafely, WentSafely, RelocationGoesOn, SpareErased, PageWritten, SpareFailed, TableErased, FirstWritten, SecondWritten, IsOtherTable}
 use Rattle.pk_remap.specs.Stepping.{IsSource, ErasesSpare, FailsToEraseSpare, ReadsSource, WritesInOrder, WritesSpare, FailsToWriteSpare, Fills, ErasesTable, FailsToEraseTable, WritesFirst}
 use Rattle.pk_remap.specs.Stepping.{FailsToWriteFirst, WritesSecond, FailsToWriteSecond}
-use Rattle.pk_remap.{proofs.Lifting.times_le, proofs.Standing.shows, proofs.Standing.NoneOr}
 use Rattle.pk_remap.proofs.Cutting.{some, spare_before_tables, spare_top, spare_tables, spare_above, spare_cut, turn_top, turn_above, turn_cut, next_again, pair_table, OneOfTables, exchange}
 use Rattle.pk_remap.proofs.Cutting.{spare_page_before, pair_full, pair_above, pair_beside, pair_cut}
 use Rattle.pk_remap.proofs.Calls.{program_reached, program_went, erase_reached, erase_went, left_interrupted, done_interrupted}
+use Rattle.pk_remap.{specs.Newest.table_in, specs.Newest.IsTablePage, specs.Newest.IsNewest, specs.Newest.IsNewestBeside, proofs.Placing.page-through, proofs.Placing.div-of, proofs.Placing.mod-of}
+use Rattle.pk_remap.{proofs.Lifting.times_le, proofs.Lifting.two_more, proofs.Standing.shows, proofs.Standing.NoneOr}
 
 -- ---- what is unchanged
 
@@ -59,6 +60,24 @@ ready_again old new shape mark ready same full i = record {
   flash = IsFlash-interrupted shape mark old.pages new.pages [] full ready.flash i;
 }
 
+-- and after reads alone
+pub ready_same : (old new : BoardState) (shape : Shape) → IsReady old shape → new.shape ≡ old.shape → new.pages ≡ old.pages → IsReady new shape
+ready_same old new shape ready same pages = record { shape_is = same ∙ ready.shape_is; flash = subst (IsFlash shape) (sym pages) ready.flash }
+
+-- the pages of the spare exist
+spare_inside : (r : Relocation) (before flash : Flash) → IsRelocating r before flash → (i : ℕ) → i < r.shape.block_pages → spare_page r i < length flash
+spare_inside r before flash serving i less =
+    let own = spare_page_before r before flash serving i less in
+    let size = serving.whole_below.size in
+    let room = times_le (r.shape.blocks + r.spares) (r.shape.blocks + r.spares + 2) r.shape.block_pages (omega arith) in
+    omega (arith, own, size, mul_comm r.shape.block_pages (r.shape.blocks + r.spares + 2), room)
+
+-- and so does a table page
+pub table_inside : (r : Relocation) (before flash : Flash) → IsRelocating r before flash → (k : ℕ) → IsTablePage r.shape r.spares k → k < length flash
+table_inside r before flash serving k there =
+    let size = serving.whole_below.size in
+    omega (arith, size, there.to, mul_comm r.shape.block_pages (r.shape.blocks + r.spares + 2), two_more (r.shape.blocks + r.spares) r.shape.block_pages)
+
 module _ (r : Relocation) (before : Flash) (old : BoardState) (on : RelocationGoesOn r before old) where
   abbrev shape : Shape
   shape = r.shape
@@ -74,19 +93,6 @@ module _ (r : Relocation) (before : Flash) (old : BoardState) (on : RelocationGo
 
   pub n_some : 0 < n
   n_some = some r before old.pages serving
-
-  -- the pages of the spare exist
-  pub spare_inside : (i : ℕ) → i < n → spare_page r i < length old.pages
-  spare_inside i less =
-      let less' = spare_page_before r before old.pages serving i less in
-      let size = serving.whole_below.size in
-      let turned : n * (shape.blocks + r.spares + 2) ≡ (shape.blocks + r.spares + 2) * n = commute n (shape.blocks + r.spares + 2) in
-      let room : (shape.blocks + r.spares) * n ≤ (shape.blocks + r.spares + 2) * n = times_le
-      (shape.blocks + r.spares) (shape.blocks + r.spares + 2) n (omega arith) in
-      omega (arith, less', size, turned, room)
-    where
-      commute : (a b : ℕ) → a * b ≡ b * a
-      commute a b = omega arith
 
   spare_div : (i : ℕ) → i < n → spare_page r i / n ≡ spare_block r
   spare_div i less = div-of (spare_block r) n i less
@@ -118,7 +124,7 @@ module _ (r : Relocation) (before : Flash) (old : BoardState) (on : RelocationGo
             copied = λ k none. absurd (omega (arith, none));
             rest = λ k from less. ap (λ (f : Flash). page_at f (spare_page r k)) (pages ∙ same)
                 ∙ page-erased_in inner (spare_block r) 0 old.pages (spare_page r k)
-                (spare_inside k less) (ap (λ (x : ℕ). x / n) (zero-add (spare_page r k)) ∙ spare_div k less);
+                (spare_inside r before old.pages serving k less) (ap (λ (x : ℕ). x / n) (zero-add (spare_page r k)) ∙ spare_div k less);
           };
           tables = spare_tables r before old.pages serving (erase (spare_block r)) new.pages [] refl i;
         }
@@ -188,7 +194,7 @@ module _ (r : Relocation) (before : Flash) (old : BoardState) (on : RelocationGo
             };
             top = spare_top r before old.pages serving (program (spare_page r k) bytes) new.pages [] in_block i top;
             filled = record {
-              copied = λ j below. ap (λ (f : Flash). page_at f (spare_page r j)) pages ∙ copied j below (nat_eq j k) refl;
+              copied = λ j below. ap (λ (f : Flash). page_at f (spare_page r j)) pages ∙ copied j below;
               rest = λ j from inside. ap (λ (f : Flash). page_at f (spare_page r j)) pages
                   ∙ page_at-slice_set old.pages (spare_page r k) (spare_page r j) (whole bytes) (λ e. omega (arith, e, from))
                   ∙ filled.rest j (omega (arith, from)) inside;
@@ -196,18 +202,15 @@ module _ (r : Relocation) (before : Flash) (old : BoardState) (on : RelocationGo
             tables = spare_tables r before old.pages serving (program (spare_page r k) bytes) new.pages [] in_block i;
           }
         where
-          copied : (j : ℕ) → j < suc k → (t : Bool) → nat_eq j k ≡ t
-              → page_at (after (shape_of old) (program (spare_page r k) bytes) old.pages)
-              (spare_page r j) ≡ page_at (after shape r.mark before) (block r * n + j)
-          copied j below true t =
-              let same : j ≡ k = grind (arith, nat_tests) in
+          copied : (j : ℕ) → j < suc k → page_at (after (shape_of old) (program (spare_page r k) bytes) old.pages) (spare_page r j)
+              ≡ page_at (after shape r.mark before) (block r * n + j)
+          copied j below =
               let P : ℕ → Type 0 = λ x. page_at (after (shape_of old) (program (spare_page r k) bytes) old.pages)
               (spare_page r x) ≡ page_at (after shape r.mark before) (block r * n + x) in
-              subst P (sym same) (page_at-slice_set_same old.pages (spare_page r k) (whole bytes) (spare_inside k less) ∙ sym source)
-          copied j below false t =
-              let other : j ≢ k = grind (arith, nat_tests) in
-              page_at-slice_set old.pages (spare_page r k) (spare_page r j) (whole bytes) (λ e. other (omega (arith, e)))
-              ∙ filled.copied j (omega (arith, below, other))
+              by_equal j k (P j)
+              (λ same. subst P (sym same) (page_at-slice_set_same old.pages (spare_page r k) (whole bytes) (spare_inside r before old.pages serving k less) ∙ sym source))
+              (λ other. page_at-slice_set old.pages (spare_page r k) (spare_page r j) (whole bytes) (λ e. other (omega (arith, e)))
+              ∙ filled.copied j (omega (arith, below, other)))
 
       pub write_failed : (new : BoardState) → ProgramFailed old new (spare_page r k) bytes → SpareFailed r before old new
       write_failed new failed =
@@ -240,21 +243,14 @@ module _ (r : Relocation) (before : Flash) (old : BoardState) (on : RelocationGo
     other_inside k less =
         let size = serving.whole_below.size in
         let to = is_other.to in
-        let turned : n * (shape.blocks + r.spares + 2) ≡ (shape.blocks + r.spares + 2) * n = commute n (shape.blocks + r.spares + 2) in
         let room : suc other * n ≤ (shape.blocks + r.spares + 2) * n = times_le (suc other) (shape.blocks + r.spares + 2) n to in
-        omega (arith, size, turned, room, less)
-      where
-        commute : (a b : ℕ) → a * b ≡ b * a
-        commute a b = omega arith
+        omega (arith, size, mul_comm n (shape.blocks + r.spares + 2), room, less)
 
     other_is_table : (k : ℕ) → k < n → IsTablePage shape r.spares (other * n + k)
     other_is_table k less =
         let from : (shape.blocks + r.spares) * n ≤ other * n = times_le (shape.blocks + r.spares) other n is_other.from in
         let to : suc other * n ≤ (shape.blocks + r.spares + 2) * n = times_le (suc other) (shape.blocks + r.spares + 2) n is_other.to in
-        record { from = omega (arith, from); to = omega (arith, to, less, twice (shape.blocks + r.spares) n) }
-      where
-        twice : (m n : ℕ) → (m + 2) * n ≡ m * n + 2 * n
-        twice m n = omega arith
+        record { from = omega (arith, from); to = omega (arith, to, less, two_more (shape.blocks + r.spares) n) }
 
     pub table_erased : (new : BoardState) → IsSpareFull r before old.pages → new ≡ after_erase old other → TableErased r before other old new
     table_erased new full is =
@@ -348,15 +344,6 @@ module _ (r : Relocation) (before : Flash) (old : BoardState) (on : RelocationGo
       table_beside : (new : BoardState) → new ≡ after_program old at bytes → IsNewestBeside shape r.spares pair (page_at new.pages) r.top r.table
       table_beside new is = pair_beside r before old.pages serving pair at is_pair full is_at first second new.pages [] (table_i new is)
 
-    -- a table page exists
-    table_inside : (k : ℕ) → IsTablePage shape r.spares k → k < length old.pages
-    table_inside k there =
-        let size = serving.whole_below.size in
-        omega (arith, size, there.to, turned n (shape.blocks + r.spares))
-      where
-        turned : (n m : ℕ) → n * (m + 2) ≡ m * n + 2 * n
-        turned n m = omega arith
-
     pub first_written : (new : BoardState) → IsPage shape bytes → page_at old.pages pair ≡ erased
         → page_at old.pages (suc pair) ≡ erased → new ≡ after_program old pair bytes → FirstWritten r before pair old new
     first_written new page one two is =
@@ -377,7 +364,7 @@ module _ (r : Relocation) (before : Flash) (old : BoardState) (on : RelocationGo
             second = is_pair.second;
             even = is_pair.even;
           };
-          first = ap (λ (f : Flash). page_at f pair) pages ∙ page_at-slice_set_same old.pages pair (whole bytes) (table_inside pair is_pair.first);
+          first = ap (λ (f : Flash). page_at f pair) pages ∙ page_at-slice_set_same old.pages pair (whole bytes) (table_inside r before old.pages serving pair is_pair.first);
         }
 
     pub second_written : (new : BoardState) → IsPage shape bytes → page_at old.pages pair ≡ whole bytes
@@ -391,7 +378,7 @@ module _ (r : Relocation) (before : Flash) (old : BoardState) (on : RelocationGo
         let here : page_at new.pages pair ≡ whole bytes =
         ap (λ (f : Flash). page_at f pair) pages ∙ page_at-slice_set old.pages (suc pair) pair (whole bytes) (λ e. omega (arith, e)) ∙ one in
         let behind : page_at new.pages (suc pair) ≡ whole bytes =
-        ap (λ (f : Flash). page_at f (suc pair)) pages ∙ page_at-slice_set_same old.pages (suc pair) (whole bytes) (table_inside (suc pair) is_pair.second) in
+        ap (λ (f : Flash). page_at f (suc pair)) pages ∙ page_at-slice_set_same old.pages (suc pair) (whole bytes) (table_inside r before old.pages serving (suc pair) is_pair.second) in
         let newest : IsNewest shape r.spares (page_at new.pages) pair (next_table r) =
         pair-first shape r.spares (page_at new.pages) r.top r.table (next_table r) pair (table_beside page (suc pair) (inr refl) first second new is)
         (let e : r.table.number < r.table.number + 1 = omega arith in e) is_pair.first is_pair.second
@@ -432,11 +419,8 @@ module _ (shape : Shape) (before : Flash) (some : 0 < shape.block_pages) where
       ∙ call.0.behind (at / shape.block_pages * shape.block_pages + i) (omega (arith, row, from)) (omega (arith, row, to))
   high_page (erase b) i call within size from to =
       page-erased_in shape b 0 before (b * shape.block_pages + i)
-      (omega (arith, size, turned shape.block_pages shape.blocks, times_le (suc b) shape.blocks shape.block_pages within, to))
+      (omega (arith, size, mul_comm shape.block_pages shape.blocks, times_le (suc b) shape.blocks shape.block_pages within, to))
       (ap (λ (x : ℕ). x / shape.block_pages) (zero-add (b * shape.block_pages + i)) ∙ div-of b shape.block_pages i to)
-    where
-      turned : (n m : ℕ) → n * m ≡ m * n
-      turned n m = omega arith
   high_page (post bytes) i call within size from to = absurd call
 
   pub copies_less : (mark : Mark) → IsCall shape mark before → copies_of shape mark < shape.block_pages
@@ -449,44 +433,31 @@ module _ (shape : Shape) (before : Flash) (some : 0 < shape.block_pages) where
   low_inside (erase b) i within less = absurd (omega (arith, less))
   low_inside (post bytes) i within less = absurd within
 
--- a page before the call's that is Whole after the interrupted call was so before
-pub low_whole : (shape : Shape) (mark : Mark) (i : ℕ) (old : Page) (bytes : List ℕ) → i < copies_of shape mark
-    → MayLeave shape mark (block_of shape mark * shape.block_pages + i) old (whole bytes) → old ≡ whole bytes
-low_whole shape (program at bs) i old bytes less (inl same) = sym same
-low_whole shape (program at bs) i old bytes less (inr (inl is)) = let row : at / shape.block_pages * shape.block_pages + at % shape.block_pages
+-- a page before the call's that is not Torn after the interrupted call was the same before
+low_same : (shape : Shape) (mark : Mark) (i : ℕ) (old new : Page) → i < copies_of shape mark → new ≢ torn
+    → MayLeave shape mark (block_of shape mark * shape.block_pages + i) old new → old ≡ new
+low_same shape (program at bs) i old new less other (inl same) = sym same
+low_same shape (program at bs) i old new less other (inr (inl is)) = let row : at / shape.block_pages * shape.block_pages + at % shape.block_pages
     ≡ at = div-add-mod' at shape.block_pages in absurd (omega (arith, is.0, row, less))
-low_whole shape (program at bs) i old bytes less (inr (inr is)) = absurd (apart is.1)
-  where
-    apart : whole bytes ≡ torn → ⊥
-    apart e = cc
-low_whole shape (erase b) i old bytes less leaves = absurd (omega (arith, less))
-low_whole shape (post bs) i old bytes less leaves = absurd (omega (arith, less))
+low_same shape (program at bs) i old new less other (inr (inr is)) = absurd (other is.1)
+low_same shape (erase b) i old new less other leaves = absurd (omega (arith, less))
+low_same shape (post bs) i old new less other leaves = absurd (omega (arith, less))
 
--- one that is Erased was so before
-pub low_erased : (shape : Shape) (mark : Mark) (i : ℕ) (old : Page) → i < copies_of shape mark
-    → MayLeave shape mark (block_of shape mark * shape.block_pages + i) old erased → old ≡ erased
-low_erased shape (program at bs) i old less (inl same) = sym same
-low_erased shape (program at bs) i old less (inr (inl is)) = let row : at / shape.block_pages * shape.block_pages + at % shape.block_pages
-    ≡ at = div-add-mod' at shape.block_pages in absurd (omega (arith, is.0, row, less))
-low_erased shape (program at bs) i old less (inr (inr is)) = absurd (apart is.1)
-  where
-    apart : erased ≡ torn → ⊥
-    apart e = cc
-low_erased shape (erase b) i old less leaves = absurd (omega (arith, less))
-low_erased shape (post bs) i old less leaves = absurd (omega (arith, less))
+-- a page that is to be copied, if it is not Torn, is that of the outer flash before the call
+copied_page : (r : Relocation) (before flash : Flash) (k : ℕ) (p : Page) → IsRelocating r before flash → k < copies_of r.shape r.mark → p ≢ torn
+    → page_at flash (placed_page r.shape r.table (block r * r.shape.block_pages + k)) ≡ p → page_at before (block r * r.shape.block_pages + k) ≡ p
+copied_page r before flash k p serving less other is =
+    let at : ℕ = block r * r.shape.block_pages + k in
+    let inside = low_inside r.shape before (some r before flash serving) r.mark k serving.within less in
+    let shown : page_at (through_by r.shape r.table (page_at flash)) at ≡ p = page-through r.shape r.table (page_at flash) at inside ∙ is in
+    let P : Page → Type 0 = λ p. MayLeave r.shape r.mark at (page_at before at) p in
+    low_same r.shape r.mark k (page_at before at) p less other (subst P shown (serving.above.pages at))
 
 -- a page that is to be copied is not Erased
 pub copies_written : (r : Relocation) (before flash : Flash) (k : ℕ) → IsRelocating r before flash → k < copies_of r.shape r.mark
     → page_at flash (placed_page r.shape r.table (block r * r.shape.block_pages + k)) ≡ erased → ⊥
 copies_written r before flash k serving less is =
-    let n_some = some r before flash serving in
-    let inside = low_inside r.shape before n_some r.mark k serving.within less in
-    let shown : page_at (through_by r.shape r.table (page_at flash)) (block r * r.shape.block_pages + k) ≡ erased =
-    page-through r.shape r.table (page_at flash) (block r * r.shape.block_pages + k) inside ∙ is in
-    let P : Page → Type 0 = λ p. MayLeave r.shape r.mark (block r * r.shape.block_pages + k) (page_at before (block r * r.shape.block_pages + k)) p in
-    (low_page r.shape before n_some r.mark k serving.call less).1
-    (low_erased r.shape r.mark k (page_at before (block r * r.shape.block_pages + k)) less
-    (subst P shown (serving.above.pages (block r * r.shape.block_pages + k))))
+    (low_page r.shape before (some r before flash serving) r.mark k serving.call less).1 (copied_page r before flash k erased serving less (λ e. cc) is)
 
 -- ---- the laws
 
@@ -498,14 +469,7 @@ fails_to_erase_spare r before old new on top failed = erase_failed r before old 
 
 pub reads_source : ReadsSource
 reads_source r before flash k bytes serving less is =
-    let n_some = some r before flash serving in
-    let inside = low_inside r.shape before n_some r.mark k serving.within less in
-    let shown : page_at (through_by r.shape r.table (page_at flash)) (block r * r.shape.block_pages + k) ≡ whole bytes =
-    page-through r.shape r.table (page_at flash) (block r * r.shape.block_pages + k) inside ∙ is in
-    let P : Page → Type 0 = λ p. MayLeave r.shape r.mark (block r * r.shape.block_pages + k) (page_at before (block r * r.shape.block_pages + k)) p in
-    (low_page r.shape before n_some r.mark k serving.call less).0
-    ∙ low_whole r.shape r.mark k (page_at before (block r * r.shape.block_pages + k)) bytes less
-    (subst P shown (serving.above.pages (block r * r.shape.block_pages + k)))
+    (low_page r.shape before (some r before flash serving) r.mark k serving.call less).0 ∙ copied_page r before flash k (whole bytes) serving less (λ e. cc) is
 
 pub writes_in_order : WritesInOrder
 writes_in_order r before flash k serving most filled =
@@ -513,7 +477,7 @@ writes_in_order r before flash k serving most filled =
     let n_some = some r before flash serving in
     let less : k < n = let few = copies_less r.shape before n_some r.mark serving.call in omega (arith, most, few) in
     let rest : spare_page r k % n ≡ k = mod-of (spare_block r) n k less in (
-      inside less,
+      spare_inside r before flash serving k less,
       record {
         before = λ j from to.
             let i : ℕ = j - spare_block r * n in
@@ -527,17 +491,6 @@ writes_in_order r before flash k serving most filled =
             ap (page_at flash) (sym e) ∙ filled.rest i (omega (arith, from)) (omega (arith, from, to, rest));
       },
     )
-  where
-    commute : (a b : ℕ) → a * b ≡ b * a
-    commute a b = omega arith
-
-    inside : k < r.shape.block_pages → spare_page r k < length flash
-    inside less =
-        let size = serving.whole_below.size in
-        let own = spare_page_before r before flash serving k less in
-        let room : (r.shape.blocks + r.spares) * r.shape.block_pages ≤ (r.shape.blocks + r.spares + 2) * r.shape.block_pages =
-        times_le (r.shape.blocks + r.spares) (r.shape.blocks + r.spares + 2) r.shape.block_pages (omega arith) in
-        omega (arith, size, own, room, commute r.shape.block_pages (r.shape.blocks + r.spares + 2))
 
 pub writes_page : WritesSpare
 writes_page r before k bytes old new on top less filled source is = page_written r before old on top k less bytes source new filled is

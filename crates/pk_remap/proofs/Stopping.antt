@@ -1,16 +1,16 @@
 -- What a step leaves besides: how many spares it takes, and that the board has a table after a step that fails.
-use Rattle.std.proofs.Common.{◌≡◌, ℕ, suc, ◌+◌, ◌<◌, ◌≤◌, Bool, true, false, List, length, sym, subst, ◌∙◌, arith}
+use Rattle.std.proofs.Common.{◌≡◌, ℕ, suc, ◌+◌, ◌<◌, ◌≤◌, Bool, true, false, List, length, sym, subst, arith}
 use Rattle.std.specs.Prelude.{Result, Ok, Err, IsErr, IfOk, Vec, Option, None}
 use Rattle.std.specs.declared.alloc.Global.{Global}
-use Rattle.pk_base.specs.Page.{Flash, IsPage, IsFlash}
+use Rattle.pk_base.specs.Page.{Flash, IsPage}
 use Rattle.pk_nand.{specs.BoardState.BoardState, specs.Calls.IsReady, specs.Calls.Rose, specs.Calls.ProgramFailed, specs.Operations.EraseFailed, specs.Effects.OnlyFlash}
 use Rattle.pk_nand.{proofs.Effects.stops_erase, proofs.Effects.stops_program, specs.declared.types.NandFault.NandFault}
 use Rattle.pk_remap.{specs.declared.phase.Phase.Phase, specs.declared.relocation.Relocation.Relocation as InMemory, specs.Table.table_bytes, specs.Places.inner_shape, proofs.Cutting.OneOfTables}
 use Rattle.pk_remap.specs.declared.phase.Phase.TheVariants.{EraseSpare, Read, EraseTable, First, Second}
+use Rattle.pk_remap.{proofs.Stepping.ready_same, proofs.Counting.counted_done, proofs.Counting.counted_failed, proofs.Counting.has_table}
 use Rattle.pk_remap.{specs.Relocating.next_table, specs.Relocating.IsTop, specs.Stepping.IsOtherTable, specs.Stepping.SpareFailed, proofs.Turning.next_pair, proofs.Turning.erased_pair}
 use Rattle.pk_remap.{specs.Counting.SparesCounted, specs.Counting.HasTable, specs.Counting.StepCounts, proofs.Stepping.table_erase_top, proofs.Stepping.first_left, proofs.Stepping.second_left}
 use Rattle.pk_remap.{specs.Running.relocation_of, specs.Running.AtPhase, specs.Running.RelocationRuns, specs.Running.IsTableHalf, proofs.Running.half_erased}
-use Rattle.pk_remap.proofs.Counting.{counted_done, counted_failed, has_table}
 
 module _ (r : InMemory) (before : Flash) (old : BoardState) (runs : RelocationRuns r before old) where
   used_most : length (relocation_of r).table.serves ≤ r.taken
@@ -43,10 +43,7 @@ module _ (r : InMemory) (before : Flash) (old : BoardState) (runs : RelocationRu
   pub step_read : (copy : Vec ℕ Global) (k : ℕ) → r.phase ≡ Read k → (new : BoardState) → OnlyFlash old new → new.stop_faults ≡ old.stop_faults → new.shape ≡ old.shape
       → new.pages ≡ old.pages → SparesCounted 0 r old (record r { copy = copy }) new × HasTable (record r { copy = copy }) new
   step_read copy k phase new rest same shape pages =
-      let ready : IsReady new (inner_shape r.shape r.spares) = record {
-        shape_is = shape ∙ runs.goes_on.ready.shape_is;
-        flash = subst (λ (f : Flash). IsFlash (inner_shape r.shape r.spares) f) (sym pages) runs.goes_on.ready.flash;
-      } in (
+      let ready = ready_same old new (inner_shape r.shape r.spares) runs.goes_on.ready shape pages in (
         counted_done r (record r { copy = copy }) old new rest 0 same (omega arith),
         has_table (record r { copy = copy }) new r.top (relocation_of r).table ready (subst (IsTop (relocation_of r)) (sym pages) (at_phase (Read k) phase).0) used_most,
       )

@@ -1,6 +1,7 @@
 -- The check of a page passes exactly the pages of tables.
 use Rattle.std.proofs.Common.{◌≡◌, ℕ, ◌+◌, ◌-◌, ◌*◌, ◌<◌, ◌≤◌, Bool, true, false, List, [], ◌∷◌, ◌++◌, length, take, drop, get_or, refl, sym, ap, subst, ◌∙◌, arith, length-drop, get_or-drop, Option}
 use Rattle.std.proofs.Common.{Some, None}
+use Rattle.std.proofs.lemmas.Option.{same_Some}
 use Rattle.std.{specs.Prelude.nat_eq, specs.Prelude.nat_le, specs.Prelude.◌&&◌, specs.Prelude.if◌then◌else◌, specs.Prelude.bytes_eq, specs.List.flat_map, specs.List.list_all}
 use Rattle.std.{proofs.lemmas.Bool.Decides.nat_tests, proofs.lemmas.List.drop_all, proofs.lemmas.List.drop-drop, proofs.lemmas.List.length-replicate, proofs.lemmas.List.append-nil}
 use Rattle.pk_base.{specs.Fields.u16, specs.Fields.u32, specs.Fields.u64, specs.Fields.u16_at, specs.Fields.u32_at, specs.Fields.spelled, specs.Fields.zeros, specs.Shape.Shape, specs.Shape.IsShape}
@@ -241,14 +242,11 @@ pub page_spells : (g : Shape) (s : ℕ) (page : List ℕ) (t : SpareTable) → t
 unfolding table_page
 page_spells g s page t e = by_tests (is_table g s (table_at page)) (bytes_eq page (table_bytes g s (table_at page))) refl refl e
   where
-    same : (x y : SpareTable) → Some x ≡ Some y → x ≡ y
-    same x y e = cc
-
     by_tests : (p q : Bool) → is_table g s (table_at page) ≡ p → bytes_eq page (table_bytes g s (table_at page)) ≡ q
         → (if p && q then Some (table_at page) else None) ≡ Some t → Spelled g s page t
     by_tests true true is eq e =
         let P : SpareTable → Type 0 = λ x. Spelled g s page x in
-        subst P (same (table_at page) t e) (record { is = is; bytes = same_bytes page (table_bytes g s (table_at page)) eq })
+        subst P (same_Some (table_at page) t e) (record { is = is; bytes = same_bytes page (table_bytes g s (table_at page)) eq })
     by_tests true false is eq e = cc
     by_tests false q is eq e = cc
 
@@ -261,10 +259,8 @@ page_missing g s page at shape few wrong = by_table (table_page g s page) refl
     by_table (Some t) e =
         let own = page_spells g s page t e in
         let none : table_fault g s page ≡ None = ap (table_fault g s) own.bytes ∙ page_passes g shape s few t (table_parts g s t own.is) in
-        absurd (apart (sym wrong ∙ none))
-      where
-        apart : Some at ≡ None → ⊥
-        apart e = cc
+        let clash : Some at ≡ None = sym wrong ∙ none in
+        absurd cc
 
 -- ---- what decode and encode end with
 

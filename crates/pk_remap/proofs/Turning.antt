@@ -4,10 +4,8 @@ use Rattle.std.{specs.Prelude.nat_lt, specs.Prelude.slice_set, proofs.lemmas.Boo
 use Rattle.pk_base.{specs.Shape.Shape, specs.Page.Flash, specs.Page.page_at, specs.Page.erased, specs.Page.whole}
 use Rattle.pk_nand.{specs.Operations.InOrder, proofs.Writing.mod-next, proofs.Writing.mod-add, proofs.Writing.InOrder-next}
 use Rattle.pk_remap.{specs.Places.inner_shape, specs.Newest.IsTablePage, specs.Relocating.Relocation, specs.Relocating.IsTop, specs.Relocating.IsNextPair, specs.Relocating.IsTablePair}
-use Rattle.pk_remap.{specs.Stepping.IsTableBlock, proofs.Placing.mod-of, proofs.Finding.newest-beside, proofs.Lifting.less_times, proofs.Lifting.times_le, proofs.Standing.table_block}
-
-two_more : (m n : ℕ) → (m + 2) * n ≡ m * n + 2 * n
-two_more m n = omega arith
+use Rattle.pk_remap.{specs.Stepping.IsTableBlock, proofs.Placing.mod-of, proofs.Finding.newest-beside, proofs.Lifting.less_times, proofs.Lifting.times_le, proofs.Lifting.two_more}
+use Rattle.pk_remap.proofs.Standing.{table_block}
 
 module _ (shape : Shape) (spares top : ℕ) (some : 0 < shape.block_pages) where
   abbrev n : ℕ

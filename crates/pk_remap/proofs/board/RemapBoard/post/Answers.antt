@@ -41,49 +41,44 @@ returns-in-Ok-clause-ok g c =
     posted_all self.image self.work self.log self.counts (g.B.Nand.state self.inner) c.args.bytes.now c.note_post.new.self (g.B.Nand.state c.post.new.self)
     c.in-Ok.ensures.ok c.note_post.ensures.told
 
-pub returns-in-Err-clause-err : goal.returns-in-Err-clause-err
-returns-in-Err-clause-err g c =
+pub returns-in-Ok-clause-fits : goal.returns-in-Ok-clause-fits
+returns-in-Ok-clause-fits g c = c.has_room.ensures.yes c.if-has_room.true
+
+pub returns-in-Err : goal.returns-in-Err
+returns-in-Err g c =
     let self = c.args.self.now in
     let old : BoardState = g.B.Nand.state self.inner in
     let new : BoardState = g.B.Nand.state c.post.new.self in
     let there = c.post_failed.new.self in
-    let own = post_failed_board self.image self.work self.log self.counts old c.args.bytes.now c.in-Err.fault.given there.log new c.in-Err.ensures.err c.in-Err.ensures.given
-    c.post_failed.ensures.told in
-    let P : BoardState → Type 0 = λ s. PostFailed (remap_board self.image self.work self.log self.counts old) s c.args.bytes.now in
-    subst P (λ i. remap_board (sym c.post_failed.ensures.image i) (sym c.post_failed.ensures.work i) there.log (sym c.post_failed.ensures.counts i)
-    (g.B.Nand.state (sym c.post_failed.ensures.inner i))) own
+    let e = c.post_failed.ensures in
+    let given = c.in-Err.ensures.given in
+    let bytes = c.args.bytes.now in
+    let P : BoardState → Type 0 = λ s. PostFailed (remap_board self.image self.work self.log self.counts old) s bytes in
+    let Q : BoardState → Type 0 = λ s. SentFront bytes c.in-Err.fault.given old.posted s.posted (told self.log) (told there.log) in
+    let R : BoardState → Type 0 = λ s. Rose old.out_faults s.out_faults in
+    record {
+      ok = tt;
+      err = subst P (λ i. remap_board (sym e.image i) (sym e.work i) there.log (sym e.counts i) (g.B.Nand.state (sym e.inner i)))
+          (post_failed_board self.image self.work self.log self.counts old bytes c.in-Err.fault.given there.log new c.in-Err.ensures.err given e.told);
+      given = subst Q (λ i. g.B.Nand.state (sym e.inner i)) (sent_some self.image self.work self.log self.counts old bytes c.in-Err.fault.given there.log new given e.told);
+      fits = tt;
+      cause = inr (subst R (λ i. g.B.Nand.state (sym e.inner i)) c.in-Err.ensures.err.faults);
+      image = e.image;
+      work = e.work;
+    }
 
-pub returns-in-Err-clause-given : goal.returns-in-Err-clause-given
-returns-in-Err-clause-given g c =
-    let self = c.args.self.now in
-    let old : BoardState = g.B.Nand.state self.inner in
-    let new : BoardState = g.B.Nand.state c.post.new.self in
-    let there = c.post_failed.new.self in
-    let own = sent_some self.image self.work self.log self.counts old c.args.bytes.now c.in-Err.fault.given there.log new c.in-Err.ensures.given c.post_failed.ensures.told in
-    let P : BoardState → Type 0 = λ s. SentFront c.args.bytes.now c.in-Err.fault.given old.posted s.posted (told self.log) (told there.log) in
-    subst P (λ i. g.B.Nand.state (sym c.post_failed.ensures.inner i)) own
-
-pub returns-in-Err-clause-cause : goal.returns-in-Err-clause-cause
-returns-in-Err-clause-cause g c =
-    let self = c.args.self.now in
-    let P : BoardState → Type 0 = λ s. Rose (g.B.Nand.state self.inner).out_faults s.out_faults in
-    inr (subst P (λ i. g.B.Nand.state (sym c.post_failed.ensures.inner i)) c.in-Err.ensures.err.faults)
-
-pub returns-else-has_room-clause-err : goal.returns-else-has_room-clause-err
-returns-else-has_room-clause-err g c =
+pub returns-else-has_room : goal.returns-else-has_room
+returns-else-has_room g c =
     let self = c.args.self.now in
     let old : BoardState = g.B.Nand.state self.inner in
     let P : ℕ → Type 0 = λ n. PostFailed (remap_board self.image self.work self.log self.counts old)
     (remap_board self.image self.work self.log (record self.counts { out_faults = n }) old) c.args.bytes.now in
-    subst P (sym c.raise.ensures) (post_refused self.image self.work self.log self.counts old c.args.bytes.now)
-
-pub returns-else-has_room-clause-given : goal.returns-else-has_room-clause-given
-returns-else-has_room-clause-given g c =
-    let self = c.args.self.now in
-    sent_none self.image self.work self.log self.counts (g.B.Nand.state self.inner) c.args.bytes.now
-
-pub returns-else-has_room-clause-cause : goal.returns-else-has_room-clause-cause
-returns-else-has_room-clause-cause g c = inl (record { no_room = c.has_room.ensures.no c.if-has_room.false; same = refl })
-
-pub returns-in-Ok-clause-fits : goal.returns-in-Ok-clause-fits
-returns-in-Ok-clause-fits g c = c.has_room.ensures.yes c.if-has_room.true
+    record {
+      ok = tt;
+      err = subst P (sym c.raise.ensures) (post_refused self.image self.work self.log self.counts old c.args.bytes.now);
+      given = sent_none self.image self.work self.log self.counts old c.args.bytes.now;
+      fits = tt;
+      cause = inl (record { no_room = c.has_room.ensures.no c.if-has_room.false; same = refl });
+      image = refl;
+      work = refl;
+    }

@@ -5,67 +5,49 @@ use Rattle.pk_remap.{specs.declared.mark_log.MarkLog.MarkLog, specs.Logged.told}
 use Rattle.pk_remap.proofs.Remapping.{opens_page, shape_open, pages_open, page_open, read_answer, read_failed_answer, left_open}
 use Rattle.pk_remap.proofs.nand.RemapNand.read.Goals as goal
 
-pub read_page-requires-clause-opened : goal.read_page-requires-clause-opened
-read_page-requires-clause-opened g c =
+pub read_page-requires : goal.read_page-requires
+read_page-requires g c =
     let self = c.args.self.now in
     let old : BoardState = g.N.Nand.state self.inner in
     let has_open = opens_page self.work self.log self.counts old self.image c.args.page c.requires.exists in
-    has_open
+    record {
+      opened = has_open;
+      inside = page_open self.image self.work self.log self.counts old has_open c.args.page (self.holds.opened has_open) c.requires.exists;
+      room = c.requires.room ∙ ap (λ (s : Shape). s.page_bytes) (shape_open self.image self.work self.log self.counts old has_open);
+    }
 
-pub read_page-requires-clause-inside : goal.read_page-requires-clause-inside
-read_page-requires-clause-inside g c =
-    let self = c.args.self.now in
-    let old : BoardState = g.N.Nand.state self.inner in
-    let has_open = opens_page self.work self.log self.counts old self.image c.args.page c.requires.exists in
-    page_open self.image self.work self.log self.counts old has_open c.args.page (self.holds.opened has_open) c.requires.exists
-
-pub read_page-requires-clause-room : goal.read_page-requires-clause-room
-read_page-requires-clause-room g c =
-    let self = c.args.self.now in
-    let old : BoardState = g.N.Nand.state self.inner in
-    let has_open = opens_page self.work self.log self.counts old self.image c.args.page c.requires.exists in
-    c.requires.room ∙ ap (λ (s : Shape). s.page_bytes) (shape_open self.image self.work self.log self.counts old has_open)
-
-pub returns-in-Ok-clause-found : goal.returns-in-Ok-clause-found
-returns-in-Ok-clause-found g c =
+pub returns-in-Ok : goal.returns-in-Ok
+returns-in-Ok g c =
     let self = c.args.self.now in
     let old : BoardState = g.N.Nand.state self.inner in
     let has_open = opens_page self.work self.log self.counts old self.image c.args.page c.requires.exists in
     let there = c.read_page.new.self in
     let new : BoardState = g.N.Nand.state there.inner in
-    c.in-Ok.ensures.found ∙ ap (λ (f : Flash). answer (page_at f c.args.page)) (sym (pages_open self.image self.work self.log self.counts old has_open))
-
-pub returns-in-Ok-clause-bytes : goal.returns-in-Ok-clause-bytes
-returns-in-Ok-clause-bytes g c =
-    let self = c.args.self.now in
-    let old : BoardState = g.N.Nand.state self.inner in
-    let has_open = opens_page self.work self.log self.counts old self.image c.args.page c.requires.exists in
-    let there = c.read_page.new.self in
-    let new : BoardState = g.N.Nand.state there.inner in
-    c.in-Ok.ensures.bytes ∙ ap (λ (f : Flash). filled (page_at f c.args.page) c.args.into.now) (sym (pages_open self.image self.work self.log self.counts old has_open))
-
-pub returns-in-Ok-clause-ok : goal.returns-in-Ok-clause-ok
-returns-in-Ok-clause-ok g c =
-    let self = c.args.self.now in
-    let old : BoardState = g.N.Nand.state self.inner in
-    let has_open = opens_page self.work self.log self.counts old self.image c.args.page c.requires.exists in
-    let there = c.read_page.new.self in
-    let new : BoardState = g.N.Nand.state there.inner in
+    let pages = sym (pages_open self.image self.work self.log self.counts old has_open) in
+    let same = c.read_page.ensures.same in
     let noted : told there.log ≡ told self.log = ap (λ (l : MarkLog). told l) c.read_page.ensures.log in
     let is : there.counts ≡ record self.counts { reads = counted self.counts.reads } =
     c.read_page.ensures.counts ∙ (λ i. record self.counts { reads = c.raise.ensures i }) in
-    read_answer self.image there.image self.work there.work self.log there.log self.counts there.counts old new has_open c.read_page.ensures.opened
-    (self.holds.opened has_open) c.read_page.result c.read_page.ensures.same noted c.read_page.ensures.reads is
+    record {
+      found = c.in-Ok.ensures.found ∙ ap (λ (f : Flash). answer (page_at f c.args.page)) pages;
+      bytes = c.in-Ok.ensures.bytes ∙ ap (λ (f : Flash). filled (page_at f c.args.page) c.args.into.now) pages;
+      ok = read_answer self.image there.image self.work there.work self.log there.log self.counts there.counts old new has_open c.read_page.ensures.opened
+          (self.holds.opened has_open) c.read_page.result same noted c.read_page.ensures.reads is;
+      err = tt;
+      cause = tt;
+      left = left_open there.image there.work c.read_page.ensures.opened ∙ (λ i. same.spares i - same.taken i) ∙ sym (left_open self.image self.work has_open);
+    }
 
-pub returns-in-Err-clause-err : goal.returns-in-Err-clause-err
-returns-in-Err-clause-err g c =
+pub returns-in-Err : goal.returns-in-Err
+returns-in-Err g c =
     let self = c.args.self.now in
     let old : BoardState = g.N.Nand.state self.inner in
     let has_open = opens_page self.work self.log self.counts old self.image c.args.page c.requires.exists in
     let there = c.read_page.new.self in
     let new : BoardState = g.N.Nand.state there.inner in
+    let same = c.read_page.ensures.same in
     let noted : told there.log ≡ told self.log = ap (λ (l : MarkLog). told l) c.read_page.ensures.log in
-    let n : there.work.shape.block_pages ≡ self.work.shape.block_pages = ap (λ (s : Shape). s.block_pages) c.read_page.ensures.same.shape in
+    let n : there.work.shape.block_pages ≡ self.work.shape.block_pages = ap (λ (s : Shape). s.block_pages) same.shape in
     let block : c.block_of-block.result ≡ c.args.page / self.work.shape.block_pages = c.block_of-block.ensures ∙ ap (λ (m : ℕ). c.args.page / m) n in
     let is : c.read_failed.new.self ≡ record self.counts {
       reads = counted self.counts.reads;
@@ -83,34 +65,12 @@ returns-in-Err-clause-err g c =
       read_faults = counted self.counts.read_faults;
       failed_at = Some (c.args.page / self.work.shape.block_pages);
     }) in
-    read_failed_answer self.image there.image self.work there.work self.log there.log self.counts c.read_failed.new.self old new has_open c.read_page.ensures.opened
-    (self.holds.opened has_open) c.args.page c.read_page.ensures.same noted c.read_page.ensures.reads is
-
-pub returns-in-Err-clause-cause : goal.returns-in-Err-clause-cause
-returns-in-Err-clause-cause g c =
-    let self = c.args.self.now in
-    let old : BoardState = g.N.Nand.state self.inner in
-    let has_open = opens_page self.work self.log self.counts old self.image c.args.page c.requires.exists in
-    let there = c.read_page.new.self in
-    let new : BoardState = g.N.Nand.state there.inner in
-    c.in-Err.ensures.err
-
-pub returns-in-Ok-clause-left : goal.returns-in-Ok-clause-left
-returns-in-Ok-clause-left g c =
-    let self = c.args.self.now in
-    let old : BoardState = g.N.Nand.state self.inner in
-    let has_open = opens_page self.work self.log self.counts old self.image c.args.page c.requires.exists in
-    let there = c.read_page.new.self in
-    let new : BoardState = g.N.Nand.state there.inner in
-    left_open there.image there.work c.read_page.ensures.opened
-    ∙ (λ i. c.read_page.ensures.same.spares i - c.read_page.ensures.same.taken i) ∙ sym (left_open self.image self.work has_open)
-
-pub returns-in-Err-clause-left : goal.returns-in-Err-clause-left
-returns-in-Err-clause-left g c =
-    let self = c.args.self.now in
-    let old : BoardState = g.N.Nand.state self.inner in
-    let has_open = opens_page self.work self.log self.counts old self.image c.args.page c.requires.exists in
-    let there = c.read_page.new.self in
-    let new : BoardState = g.N.Nand.state there.inner in
-    left_open there.image there.work c.read_page.ensures.opened
-    ∙ (λ i. c.read_page.ensures.same.spares i - c.read_page.ensures.same.taken i) ∙ sym (left_open self.image self.work has_open)
+    record {
+      found = tt;
+      bytes = tt;
+      ok = tt;
+      err = read_failed_answer self.image there.image self.work there.work self.log there.log self.counts c.read_failed.new.self old new has_open c.read_page.ensures.opened
+          (self.holds.opened has_open) c.args.page same noted c.read_page.ensures.reads is;
+      cause = c.in-Err.ensures.err;
+      left = left_open there.image there.work c.read_page.ensures.opened ∙ (λ i. same.spares i - same.taken i) ∙ sym (left_open self.image self.work has_open);
+    }

@@ -1,7 +1,5 @@
-use Rattle.std.{proofs.Common.◌∙◌, proofs.Common.Bool, proofs.Common.ap, proofs.Common.subst, specs.Prelude.Result, specs.Prelude.Ok}
-use Rattle.pk_nand.specs.declared.types.NandFault.{NandFault}
-use Rattle.pk_remap.{specs.Counting.StepCounts, specs.Running.StepOutcome, proofs.Counting.counted_none, proofs.Counting.counted_from}
-use Rattle.pk_remap.proofs.Served.{so_far_start, so_far_more, served_now, stopped_now}
+use Rattle.pk_nand.specs.BoardState.{BoardState}
+use Rattle.pk_remap.{proofs.Counting.counted_none, proofs.Counting.counted_from, proofs.Served.so_far_start, proofs.Served.so_far_more, proofs.Served.served_now, proofs.Served.stopped_now}
 use Rattle.pk_remap.proofs.relocation.Relocation.serve.Goals as goal
 
 pub loop-init : goal.loop-init
@@ -13,55 +11,48 @@ loop-init g c = record {
 pub step-requires : goal.step-requires
 step-requires g c = (c.requires.0, (c.loop.invariant.far c.requires.0 c.requires.1).runs)
 
-pub returns-in-Ok-true-clause-serves : goal.returns-in-Ok-true-clause-serves
-returns-in-Ok-true-clause-serves g c before runs =
-    let far = c.loop.invariant.far before runs in
-    let T : Result Bool NandFault → Type 0 = λ x. StepOutcome c.loop.self before
-    (g.N.Nand.state c.loop.inner) x c.step.new.self (g.N.Nand.state c.step.new.inner) in
-    served_now c.args.self.now before (g.N.Nand.state c.args.inner.now) c.loop.self (g.N.Nand.state c.loop.inner) far _
-    c.step.new.self (g.N.Nand.state c.step.new.inner)
-    (subst T (c.in-Ok-true.is ∙ ap (λ (b : Bool). Ok b) c.in-Ok-true.field-0-test) (c.step.ensures.steps before far.runs))
+pub returns-in-Ok-true : goal.returns-in-Ok-true
+returns-in-Ok-true g c =
+    let old : BoardState = g.N.Nand.state c.args.inner.now in
+    let mid : BoardState = g.N.Nand.state c.loop.inner in
+    let new : BoardState = g.N.Nand.state c.step.new.inner in
+    record {
+      serves = λ before runs.
+          let far = c.loop.invariant.far before runs in
+          served_now c.args.self.now before old c.loop.self mid far _ c.step.new.self new
+          (rw c.in-Ok-true.field-0-test at (c.in-Ok-true.ensures.steps before far.runs));
+      counts = counted_from 1 c.args.self.now c.loop.self c.step.new.self old mid new c.loop.invariant.counts
+          (rw c.in-Ok-true.field-0-test at c.in-Ok-true.ensures.counts);
+    }
 
 pub loop-smaller : goal.loop-smaller
 loop-smaller g c =
     let far = c.loop.invariant.far c.requires.0 c.requires.1 in
-    let T : Result Bool NandFault → Type 0 = λ x. StepOutcome c.loop.self c.requires.0
-    (g.N.Nand.state c.loop.inner) x c.step.new.self (g.N.Nand.state c.step.new.inner) in
-    (subst T (c.in-Ok-false.is ∙ ap (λ (b : Bool). Ok b) c.in-Ok-false.field-0-test) (c.step.ensures.steps c.requires.0 far.runs)).2
+    (rw c.in-Ok-false.field-0-test at (c.in-Ok-false.ensures.steps c.requires.0 far.runs)).2
 
 pub loop-preserved : goal.loop-preserved
-loop-preserved g c = record {
-  far = λ before runs.
-      let far = c.loop.invariant.far before runs in
-      let T : Result Bool NandFault → Type 0 = λ x. StepOutcome c.loop.self before
-      (g.N.Nand.state c.loop.inner) x c.step.new.self (g.N.Nand.state c.step.new.inner) in
-      so_far_more c.args.self.now before (g.N.Nand.state c.args.inner.now) c.loop.self (g.N.Nand.state c.loop.inner) far
-      c.step.new.self (g.N.Nand.state c.step.new.inner)
-      (subst T (c.in-Ok-false.is ∙ ap (λ (b : Bool). Ok b) c.in-Ok-false.field-0-test) (c.step.ensures.steps before far.runs));
-  counts = let T : Result Bool NandFault → Type 0 = λ x. StepCounts c.loop.self (g.N.Nand.state c.loop.inner) x c.step.new.self (g.N.Nand.state c.step.new.inner) in
-      counted_from 0 c.args.self.now c.loop.self c.step.new.self (g.N.Nand.state c.args.inner.now) (g.N.Nand.state c.loop.inner) (g.N.Nand.state c.step.new.inner)
-      c.loop.invariant.counts (subst T (c.in-Ok-false.is ∙ ap (λ (b : Bool). Ok b) c.in-Ok-false.field-0-test) c.step.ensures.counts);
-}
+loop-preserved g c =
+    let old : BoardState = g.N.Nand.state c.args.inner.now in
+    let mid : BoardState = g.N.Nand.state c.loop.inner in
+    let new : BoardState = g.N.Nand.state c.step.new.inner in
+    record {
+      far = λ before runs.
+          let far = c.loop.invariant.far before runs in
+          so_far_more c.args.self.now before old c.loop.self mid far c.step.new.self new
+          (rw c.in-Ok-false.field-0-test at (c.in-Ok-false.ensures.steps before far.runs));
+      counts = counted_from 0 c.args.self.now c.loop.self c.step.new.self old mid new c.loop.invariant.counts
+          (rw c.in-Ok-false.field-0-test at c.in-Ok-false.ensures.counts);
+    }
 
-pub returns-in-Err-clause-serves : goal.returns-in-Err-clause-serves
-returns-in-Err-clause-serves g c before runs =
-    let far = c.loop.invariant.far before runs in
-    let T : Result Bool NandFault → Type 0 = λ x. StepOutcome c.loop.self before
-    (g.N.Nand.state c.loop.inner) x c.step.new.self (g.N.Nand.state c.step.new.inner) in
-    stopped_now c.args.self.now before (g.N.Nand.state c.args.inner.now) c.loop.self (g.N.Nand.state c.loop.inner) far _
-    c.step.new.self (g.N.Nand.state c.step.new.inner) (subst T c.in-Err.is (c.step.ensures.steps before far.runs))
-
-pub returns-in-Ok-true-clause-counts : goal.returns-in-Ok-true-clause-counts
-returns-in-Ok-true-clause-counts g c =
-    let T : Result Bool NandFault → Type 0 = λ x. StepCounts c.loop.self (g.N.Nand.state c.loop.inner) x c.step.new.self (g.N.Nand.state c.step.new.inner) in
-    counted_from 1 c.args.self.now c.loop.self c.step.new.self (g.N.Nand.state c.args.inner.now) (g.N.Nand.state c.loop.inner) (g.N.Nand.state c.step.new.inner)
-    c.loop.invariant.counts (subst T (c.in-Ok-true.is ∙ ap (λ (b : Bool). Ok b) c.in-Ok-true.field-0-test) c.step.ensures.counts)
-
-pub returns-in-Err-clause-counts : goal.returns-in-Err-clause-counts
-returns-in-Err-clause-counts g c =
-    let T : Result Bool NandFault → Type 0 = λ x. StepCounts c.loop.self (g.N.Nand.state c.loop.inner) x c.step.new.self (g.N.Nand.state c.step.new.inner) in
-    let own = subst T c.in-Err.is c.step.ensures.counts in (
-      counted_from 0 c.args.self.now c.loop.self c.step.new.self (g.N.Nand.state c.args.inner.now) (g.N.Nand.state c.loop.inner) (g.N.Nand.state c.step.new.inner)
-          c.loop.invariant.counts own.0,
-      own.1,
-    )
+pub returns-in-Err : goal.returns-in-Err
+returns-in-Err g c =
+    let old : BoardState = g.N.Nand.state c.args.inner.now in
+    let mid : BoardState = g.N.Nand.state c.loop.inner in
+    let new : BoardState = g.N.Nand.state c.step.new.inner in
+    let own = c.in-Err.ensures.counts in
+    record {
+      serves = λ before runs.
+          let far = c.loop.invariant.far before runs in
+          stopped_now c.args.self.now before old c.loop.self mid far _ c.step.new.self new (c.in-Err.ensures.steps before far.runs);
+      counts = (counted_from 0 c.args.self.now c.loop.self c.step.new.self old mid new c.loop.invariant.counts own.0, own.1);
+    }

@@ -11,40 +11,35 @@ program-requires-clause-order g c =
     rw (at, shape_is board _ c.requires.runs.1.goes_on.ready)
     (write_order c.args.self.now c.requires.runs.0 board c.requires.runs.1 c.args.page c.requires.phase)
 
-pub returns-in-Ok-clause-steps : goal.returns-in-Ok-clause-steps
-returns-in-Ok-clause-steps g c before runs =
-    let at : c.page_in-at.result ≡ spare_page (relocation_of c.args.self.now) c.args.page = rw c.blocks-2.ensures.value at c.page_in-at.ensures in
+pub returns-in-Ok : goal.returns-in-Ok
+returns-in-Ok g c =
+    let r = c.args.self.now in
+    let at : c.page_in-at.result ≡ spare_page (relocation_of r) c.args.page = rw c.blocks-2.ensures.value at c.page_in-at.ensures in
     let board : BoardState = g.N.Nand.state c.args.inner.now in
+    let new : BoardState = g.N.Nand.state c.program.new.self in
     let next : c.args.page + 1 ≡ suc c.args.page = omega arith in
-    rw (c.phase_after-self.ensures, next)
-    (page_written c.args.self.now before board runs c.args.page c.requires.phase
-    (write_less c.args.self.now before board runs c.args.page c.requires.phase) (g.N.Nand.state c.program.new.self)
-    (c.in-Ok.ensures.ok ∙ (λ i. after_program board (at i) (c.bytes_for.ensures i))))
+    let works = works_program board new _ _ c.in-Ok.ensures.ok in
+    record {
+      steps = λ before runs. rw (c.phase_after-self.ensures, next)
+          (page_written r before board runs c.args.page c.requires.phase (write_less r before board runs c.args.page c.requires.phase) new
+          (c.in-Ok.ensures.ok ∙ (λ i. after_program board (at i) (c.bytes_for.ensures i))));
+      counts = step_done r c.requires.runs.0 board c.requires.runs.1 _ new works.rest works.no_fault.2 refl;
+    }
 
-pub returns-in-Err-clause-steps : goal.returns-in-Err-clause-steps
-returns-in-Err-clause-steps g c before runs =
-    let at : c.page_in-at.result ≡ spare_page (relocation_of c.args.self.now) c.args.page = rw c.blocks-2.ensures.value at c.page_in-at.ensures in
+pub returns-in-Err : goal.returns-in-Err
+returns-in-Err g c =
+    let r = c.args.self.now in
+    let at : c.page_in-at.result ≡ spare_page (relocation_of r) c.args.page = rw c.blocks-2.ensures.value at c.page_in-at.ensures in
     let board : BoardState = g.N.Nand.state c.args.inner.now in
     let new : BoardState = g.N.Nand.state c.program.new.self in
     let failed = rw (at, c.bytes_for.ensures) at c.in-Err.ensures.err in
-    rw c.take_next.ensures.next
-    (next_or_stop c.args.self.now before board runs new c.take_next.result
-    (page_write_failed c.args.self.now before board runs c.args.page c.requires.phase
-    (write_less c.args.self.now before board runs c.args.page c.requires.phase) new failed) failed.stop c.take_next.ensures.ok c.take_next.ensures.err)
-
-pub returns-in-Ok-clause-counts : goal.returns-in-Ok-clause-counts
-returns-in-Ok-clause-counts g c =
-    let works = works_program (g.N.Nand.state c.args.inner.now) (g.N.Nand.state c.program.new.self) _ _ c.in-Ok.ensures.ok in
-    step_done c.args.self.now c.requires.runs.0 (g.N.Nand.state c.args.inner.now) c.requires.runs.1 _ (g.N.Nand.state c.program.new.self)
-    works.rest works.no_fault.2 refl
-
-pub returns-in-Err-clause-counts : goal.returns-in-Err-clause-counts
-returns-in-Err-clause-counts g c =
-    let at : c.page_in-at.result ≡ spare_page (relocation_of c.args.self.now) c.args.page = rw c.blocks-2.ensures.value at c.page_in-at.ensures in
-    let board : BoardState = g.N.Nand.state c.args.inner.now in
-    let new : BoardState = g.N.Nand.state c.program.new.self in
-    let failed = rw (at, c.bytes_for.ensures) at c.in-Err.ensures.err in
-    rw c.take_next.ensures.next
-    (step_next c.args.self.now c.requires.runs.0 board c.requires.runs.1 c.take_next.result new (stops_program board new _ _ failed).rest
-    (page_write_failed c.args.self.now c.requires.runs.0 board c.requires.runs.1 c.args.page c.requires.phase
-    (write_less c.args.self.now c.requires.runs.0 board c.requires.runs.1 c.args.page c.requires.phase) new failed) c.take_next.ensures.ok)
+    let next = c.take_next.ensures in
+    record {
+      steps = λ before runs. rw next.next (next_or_stop r before board runs new c.take_next.result
+          (page_write_failed r before board runs c.args.page c.requires.phase (write_less r before board runs c.args.page c.requires.phase) new failed)
+          failed.stop next.ok next.err);
+      counts = rw next.next
+          (step_next r c.requires.runs.0 board c.requires.runs.1 c.take_next.result new (stops_program board new _ _ failed).rest
+          (page_write_failed r c.requires.runs.0 board c.requires.runs.1 c.args.page c.requires.phase
+          (write_less r c.requires.runs.0 board c.requires.runs.1 c.args.page c.requires.phase) new failed) next.ok);
+    }

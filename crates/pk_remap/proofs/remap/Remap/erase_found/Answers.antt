@@ -1,8 +1,5 @@
-use Rattle.std.{proofs.Common.refl, proofs.Common.ap, proofs.Common.subst, specs.Prelude.Result}
-use Rattle.pk_base.specs.Mark.{erase}
-use Rattle.pk_nand.{specs.BoardState.BoardState, specs.declared.types.NandFault.NandFault}
-use Rattle.pk_remap.{specs.declared.image.Image.TheVariants.Sure, specs.declared.image.Image.TheVariants.Unsure, specs.Serving.OuterOutcome, specs.Counting.OuterCounts}
-use Rattle.pk_remap.specs.Remapped.{is_open, is_sure}
+use Rattle.std.proofs.Common.{refl, ap}
+use Rattle.pk_remap.{specs.declared.image.Image.TheVariants.Sure, specs.declared.image.Image.TheVariants.Unsure, specs.Remapped.is_open, specs.Remapped.is_sure}
 use Rattle.pk_remap.proofs.Remapping.{rests, holds_rest, holds_unsure, same_fits, log_sized}
 use Rattle.pk_remap.proofs.remap.Remap.erase_found.Goals as goal
 
@@ -14,26 +11,20 @@ erase_outer-requires-clause-rests g c =
 pub invariant_of-self : goal.invariant_of-self
 invariant_of-self g c =
     let self = c.args.self.now in
-    let old : BoardState = g.N.Nand.state self.inner in
-    let new : BoardState = g.N.Nand.state c.erase_outer.new.inner in
-    let T : Result Unit NandFault → Type 0 = λ x. OuterOutcome self.work (erase c.args.block) old x c.erase_outer.new.self new in
-    let own = subst T c.in-Ok.is c.erase_outer.ensures.outcome in
+    let w = c.erase_outer.new.self in
+    let own = c.in-Ok.ensures.outcome in
     record {
-      holds = holds_rest Sure c.erase_outer.new.self new own.1 refl;
-      logs = log_sized self.image Sure self.work.shape c.erase_outer.new.self.shape self.log self.log (ap is_open c.requires.sure) refl own.3.shape refl self.logs;
+      holds = holds_rest Sure w (g.N.Nand.state c.erase_outer.new.inner) own.1 refl;
+      logs = log_sized self.image Sure self.work.shape w.shape self.log self.log (ap is_open c.requires.sure) refl own.3.shape refl self.logs;
     }
 
 pub invariant_of-self-in-Err : goal.invariant_of-self-in-Err
 invariant_of-self-in-Err g c =
     let self = c.args.self.now in
-    let old : BoardState = g.N.Nand.state self.inner in
-    let new : BoardState = g.N.Nand.state c.erase_outer.new.inner in
-    let T : Result Unit NandFault → Type 0 = λ x. OuterOutcome self.work (erase c.args.block) old x c.erase_outer.new.self new in
-    let U : Result Unit NandFault → Type 0 = λ x. OuterCounts self.work old x c.erase_outer.new.self new in
-    let own = subst T c.in-Err.is c.erase_outer.ensures.outcome in
-    let counts = subst U c.in-Err.is c.erase_outer.ensures.counts in
-    let fits = same_fits self.work c.erase_outer.new.self self.holds.shape_is self.holds.few own.2 in
+    let w = c.erase_outer.new.self in
+    let own = c.in-Err.ensures.outcome in
+    let fits = same_fits self.work w self.holds.shape_is self.holds.few own.2 in
     record {
-      holds = holds_unsure c.erase_outer.new.self new fits.0 fits.1 fits.2 own.2.room counts.table;
-      logs = log_sized self.image Unsure self.work.shape c.erase_outer.new.self.shape self.log self.log (ap is_open c.requires.sure) refl own.2.shape refl self.logs;
+      holds = holds_unsure w (g.N.Nand.state c.erase_outer.new.inner) fits.0 fits.1 fits.2 own.2.room c.in-Err.ensures.counts.table;
+      logs = log_sized self.image Unsure self.work.shape w.shape self.log self.log (ap is_open c.requires.sure) refl own.2.shape refl self.logs;
     }

@@ -1,7 +1,5 @@
-use Rattle.std.{proofs.Common.refl, proofs.Common.ap, proofs.Common.subst, proofs.Common.◌∙◌, specs.Prelude.Result}
-use Rattle.pk_base.specs.Mark.{erase}
-use Rattle.pk_nand.specs.declared.types.NandFault.{NandFault}
-use Rattle.pk_remap.{specs.declared.counts.BoardCounts.BoardCounts, specs.declared.mark_log.MarkLog.MarkLog, specs.Logged.told, specs.Remapped.with_stop, specs.Causes.MarkMade}
+use Rattle.std.{proofs.Common.refl, proofs.Common.ap, proofs.Common.◌∙◌}
+use Rattle.pk_remap.{specs.declared.counts.BoardCounts.BoardCounts, specs.declared.mark_log.MarkLog.MarkLog, specs.Logged.told, specs.Remapped.with_stop}
 use Rattle.pk_remap.proofs.Remapping.{log_sized}
 use Rattle.pk_remap.proofs.remap.Remap.erase_noted.Goals as goal
 
@@ -14,19 +12,13 @@ invariant_of-self g c =
     }
 
 pub returns-in-Ok-clause-made : goal.returns-in-Ok-clause-made
-returns-in-Ok-clause-made g c =
-    let T : Result Unit NandFault → Type 0 = λ x. MarkMade c.args.self.now.work (erase c.args.block) (g.N.Nand.state c.args.self.now.inner) x
-    c.erase_block.new.self.work (g.N.Nand.state c.erase_block.new.self.inner) in
-    subst T c.in-Ok.is c.erase_block.ensures.made
+returns-in-Ok-clause-made g c = c.in-Ok.ensures.made
 
 pub returns-in-Ok-clause-told : goal.returns-in-Ok-clause-told
 returns-in-Ok-clause-told g c = ap (λ (l : MarkLog). told l) c.erase_block.ensures.log ∙ c.note_erase.ensures.told
 
 pub returns-in-Err-clause-made : goal.returns-in-Err-clause-made
-returns-in-Err-clause-made g c =
-    let T : Result Unit NandFault → Type 0 = λ x. MarkMade c.args.self.now.work (erase c.args.block) (g.N.Nand.state c.args.self.now.inner) x
-    c.erase_block.new.self.work (g.N.Nand.state c.erase_block.new.self.inner) in
-    subst T c.in-Err.is c.erase_block.ensures.made
+returns-in-Err-clause-made g c = c.in-Err.ensures.made
 
 pub returns-in-Err-clause-told : goal.returns-in-Err-clause-told
 returns-in-Err-clause-told g c = ap (λ (l : MarkLog). told l) c.erase_block.ensures.log ∙ c.note_erase.ensures.told

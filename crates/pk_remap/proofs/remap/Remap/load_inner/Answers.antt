@@ -1,8 +1,8 @@
-use Rattle.std.{proofs.Common.refl, proofs.Common.sym, proofs.Common.ap, proofs.Common.subst, proofs.Common.◌∙◌, specs.Prelude.Err}
-use Rattle.pk_nand.{specs.BoardState.BoardState, specs.declared.types.LoadFault.LoadFault}
-use Rattle.pk_remap.{specs.declared.image.Image.TheVariants.Missing, specs.Remapped.is_open, specs.Remapped.is_sure, specs.Remapped.is_missing, specs.Remapped.remap_board, specs.Remapped.spares_left}
-use Rattle.pk_remap.{specs.Causes.LoadCause, specs.Answers.LoadAnswers, proofs.Remapping.no_bool, proofs.Remapping.holds_closed}
-use Rattle.pk_remap.proofs.Opening.{unknown_refused, unknown_none, unknown_then, load_cause_refused, load_cause_from}
+use Rattle.std.proofs.Common.{refl, sym, ap, ◌∙◌}
+use Rattle.pk_nand.specs.BoardState.{BoardState}
+use Rattle.pk_remap.{specs.declared.image.Image.TheVariants.Missing, specs.Remapped.is_open, specs.Remapped.is_sure, specs.Remapped.is_missing, specs.Remapped.spares_left}
+use Rattle.pk_remap.{proofs.Remapping.no_bool, proofs.Remapping.holds_closed}
+use Rattle.pk_remap.proofs.Opening.{unknown_refused, unknown_none, unknown_then, load_cause_refused, load_cause_from, load_refused_as, load_cause_as}
 use Rattle.pk_remap.proofs.remap.Remap.load_inner.Goals as goal
 
 pub invariant_of-self : goal.invariant_of-self
@@ -54,18 +54,14 @@ pub returns-in-Err-clause-answers : goal.returns-in-Err-clause-answers
 returns-in-Err-clause-answers g c =
     let self = c.args.self.now in
     let rest = c.in-Err.ensures.err.rest in
-    let own = unknown_refused self.image c.requires.unknown self.work self.work self.log self.log self.counts (g.N.Nand.state self.inner) (g.N.Nand.state c.load.new.self)
-    (ap (λ s. s.input) rest) (ap (λ s. s.posted) rest) refl c.in-Err.fault in
-    let T : LoadFault → Type 0 = λ f. LoadAnswers (remap_board self.image self.work self.log self.counts (g.N.Nand.state self.inner)) (Err f)
-    (remap_board c.refuse.new.self.image c.refuse.new.self.work c.refuse.new.self.log c.refuse.new.self.counts (g.N.Nand.state c.refuse.new.self.inner)) in
-    let U : BoardState → Type 0 = λ s. LoadAnswers (remap_board self.image self.work self.log self.counts (g.N.Nand.state self.inner)) (Err c.in-Err.fault) s in
-    subst T (sym c.refuse.ensures.fault) (subst U (sym c.refuse.ensures.board) own)
+    load_refused_as c.refuse.ensures.fault c.refuse.ensures.board
+    (unknown_refused self.image c.requires.unknown self.work self.work self.log self.log self.counts (g.N.Nand.state self.inner) (g.N.Nand.state c.load.new.self)
+    (ap (λ s. s.input) rest) (ap (λ s. s.posted) rest) refl c.in-Err.fault)
 
 pub returns-in-Err-clause-cause : goal.returns-in-Err-clause-cause
 returns-in-Err-clause-cause g c =
     let self = c.args.self.now in
-    let own = load_cause_refused self.work.spares (g.N.Nand.state self.inner) (g.N.Nand.state c.load.new.self) c.in-Err.fault _ c.load.result c.in-Err.is c.load.ensures.fault c.load.ensures.bad in
-    let there = c.refuse.new.self in
-    let T : LoadFault → Type 0 = λ f. LoadCause self.work.spares (g.N.Nand.state self.inner) (Err f) (spares_left there.image there.work) (g.N.Nand.state there.inner) in
-    let U : BoardState → Type 0 = λ s. LoadCause self.work.spares (g.N.Nand.state self.inner) (Err c.in-Err.fault) (spares_left there.image there.work) s in
-    subst T (sym c.refuse.ensures.fault) (subst U (λ i. g.N.Nand.state (sym c.refuse.ensures.inner i)) own)
+    let old : BoardState = g.N.Nand.state self.inner in
+    let left = spares_left c.refuse.new.self.image c.refuse.new.self.work in
+    load_cause_as self.work.spares old c.refuse.ensures.fault (ap g.N.Nand.state c.refuse.ensures.inner) left
+    (load_cause_refused self.work.spares old (g.N.Nand.state c.load.new.self) c.in-Err.fault left c.load.result c.in-Err.is c.load.ensures.fault c.load.ensures.bad)

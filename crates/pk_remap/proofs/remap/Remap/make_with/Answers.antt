@@ -1,9 +1,9 @@
-use Rattle.std.{proofs.Common.refl, proofs.Common.sym, proofs.Common.ap, proofs.Common.subst, proofs.Common.◌∙◌, proofs.Common.Some, proofs.Common.replicate, specs.Prelude.Err}
+use Rattle.std.{proofs.Common.refl, proofs.Common.ap, proofs.Common.◌∙◌, proofs.Common.Some, proofs.Common.replicate, specs.Prelude.Err}
 use Rattle.pk_base.{specs.Shape.Shape, specs.Shape.page_count, specs.Page.erased}
 use Rattle.pk_nand.{specs.BoardState.BoardState, specs.declared.types.LoadFault.LoadFault}
-use Rattle.pk_remap.{specs.declared.image.Image.TheVariants.Unknown, specs.Remapped.is_open, specs.Remapped.is_missing, specs.Remapped.remap_board, specs.Remapped.spares_left, specs.Causes.MakeCause}
-use Rattle.pk_remap.{proofs.Remapping.no_bool, proofs.Remapping.holds_closed, specs.Answers.MakeAnswers}
-use Rattle.pk_remap.proofs.Opening.{missing_failed, missing_then, make_cause_from, make_cause_refused}
+use Rattle.pk_remap.{specs.declared.image.Image.TheVariants.Unknown, specs.Remapped.is_open, specs.Remapped.is_missing, specs.Remapped.spares_left}
+use Rattle.pk_remap.{proofs.Remapping.no_bool, proofs.Remapping.holds_closed}
+use Rattle.pk_remap.proofs.Opening.{missing_failed, missing_then, make_cause_from, make_cause_refused, make_refused_as, make_cause_as}
 use Rattle.pk_remap.proofs.remap.Remap.make_with.Goals as goal
 
 pub make-requires : goal.make-requires
@@ -43,20 +43,16 @@ pub returns-in-Err-clause-answers : goal.returns-in-Err-clause-answers
 returns-in-Err-clause-answers g c =
     let self = c.args.self.now in
     let rest = c.in-Err.ensures.err in
-    let own = missing_failed self.image c.requires.missing self.work self.log self.counts (g.N.Nand.state self.inner) (g.N.Nand.state c.make.new.self)
+    make_refused_as c.refuse.ensures.fault c.refuse.ensures.board
+    (missing_failed self.image c.requires.missing self.work self.log self.counts (g.N.Nand.state self.inner) (g.N.Nand.state c.make.new.self)
     (ap (λ s. s.input) rest) (ap (λ s. s.posted) rest) c.args.shape c.in-Err.fault
-    (λ at e. c.make.ensures.bad at (c.in-Err.is ∙ ap (λ (f : LoadFault). Err f) e)) in
-    let T : LoadFault → Type 0 = λ f. MakeAnswers (remap_board self.image self.work self.log self.counts (g.N.Nand.state self.inner)) c.args.shape (Err f)
-    (remap_board c.refuse.new.self.image c.refuse.new.self.work c.refuse.new.self.log c.refuse.new.self.counts (g.N.Nand.state c.refuse.new.self.inner)) in
-    let U : BoardState → Type 0 = λ s. MakeAnswers (remap_board self.image self.work self.log self.counts (g.N.Nand.state self.inner)) c.args.shape (Err c.in-Err.fault) s in
-    subst T (sym c.refuse.ensures.fault) (subst U (sym c.refuse.ensures.board) own)
+    (λ at e. c.make.ensures.bad at (c.in-Err.is ∙ ap (λ (f : LoadFault). Err f) e)))
 
 pub returns-in-Err-clause-cause : goal.returns-in-Err-clause-cause
 returns-in-Err-clause-cause g c =
     let self = c.args.self.now in
-    let own = make_cause_refused self.work.spares c.args.shape (g.N.Nand.state self.inner) (g.N.Nand.state c.make.new.self) c.in-Err.fault _ c.make.result
-    c.requires.allowed c.in-Err.is c.make.ensures.fault c.make.ensures.bad in
-    let there = c.refuse.new.self in
-    let T : LoadFault → Type 0 = λ f. MakeCause self.work.spares c.args.shape (g.N.Nand.state self.inner) (Err f) (spares_left there.image there.work) (g.N.Nand.state there.inner) in
-    let U : BoardState → Type 0 = λ s. MakeCause self.work.spares c.args.shape (g.N.Nand.state self.inner) (Err c.in-Err.fault) (spares_left there.image there.work) s in
-    subst T (sym c.refuse.ensures.fault) (subst U (λ i. g.N.Nand.state (sym c.refuse.ensures.inner i)) own)
+    let old : BoardState = g.N.Nand.state self.inner in
+    let left = spares_left c.refuse.new.self.image c.refuse.new.self.work in
+    make_cause_as self.work.spares c.args.shape old c.refuse.ensures.fault (ap g.N.Nand.state c.refuse.ensures.inner) left
+    (make_cause_refused self.work.spares c.args.shape old (g.N.Nand.state c.make.new.self) c.in-Err.fault left c.make.result
+    c.requires.allowed c.in-Err.is c.make.ensures.fault c.make.ensures.bad)

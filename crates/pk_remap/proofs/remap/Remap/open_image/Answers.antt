@@ -1,10 +1,11 @@
 use Rattle.std.proofs.Common.{◌≡◌, ℕ, refl, sym, ap, subst, ◌∙◌, arith}
-use Rattle.std.specs.Prelude.{Result, Err, IsErr, None}
+use Rattle.std.specs.Prelude.{Result, IsErr, None}
 use Rattle.pk_base.{specs.declared.shape.ShapeError.ShapeError, specs.Shape.Shape}
-use Rattle.pk_nand.{specs.BoardState.BoardState, specs.Calls.IsReady, specs.declared.types.LoadFault.LoadFault, specs.declared.types.LoadFault.TheVariants.BadImage}
-use Rattle.pk_remap.{specs.declared.relocation.Relocation.Relocation as InMemory, specs.Places.inner_shape, specs.Causes.LoadCause, specs.Causes.no_outer_shape, specs.Answers.LoadAnswers}
-use Rattle.pk_remap.specs.Remapped.{RemapHolds, is_open, is_sure, is_missing, spares_left, remap_board}
+use Rattle.pk_nand.{specs.BoardState.BoardState, specs.Calls.IsReady, specs.declared.types.LoadFault.TheVariants.BadImage}
+use Rattle.pk_remap.{specs.declared.relocation.Relocation.Relocation as InMemory, specs.Places.inner_shape, specs.Causes.LoadCause, specs.Causes.no_outer_shape}
+use Rattle.pk_remap.{specs.Remapped.RemapHolds, specs.Remapped.is_open, specs.Remapped.is_sure, specs.Remapped.is_missing, specs.Remapped.spares_left}
 use Rattle.pk_remap.{proofs.Remapping.no_bool, proofs.Remapping.holds_closed, proofs.Opening.with_spares, proofs.Opening.unknown_refused, proofs.Opening.unknown_then}
+use Rattle.pk_remap.proofs.Opening.{load_refused_as, load_cause_as}
 use Rattle.pk_remap.proofs.remap.Remap.open_image.Goals as goal
 
 pub invariant_of-self : goal.invariant_of-self
@@ -51,20 +52,13 @@ returns-in-Ok-clause-cause g c =
 pub returns-in-Err-clause-answers : goal.returns-in-Err-clause-answers
 returns-in-Err-clause-answers g c =
     let self = c.args.self.now in
-    let own = unknown_refused self.image c.requires.unknown self.work self.work self.log self.log self.counts (g.N.Nand.state self.inner) (g.N.Nand.state self.inner)
-    refl refl refl (BadImage 32) in
-    let T : LoadFault → Type 0 = λ f. LoadAnswers (remap_board self.image self.work self.log self.counts (g.N.Nand.state self.inner)) (Err f)
-    (remap_board c.refuse.new.self.image c.refuse.new.self.work c.refuse.new.self.log c.refuse.new.self.counts (g.N.Nand.state c.refuse.new.self.inner)) in
-    let U : BoardState → Type 0 = λ s. LoadAnswers (remap_board self.image self.work self.log self.counts (g.N.Nand.state self.inner)) (Err (BadImage 32)) s in
-    subst T (sym c.refuse.ensures.fault) (subst U (sym c.refuse.ensures.board) own)
+    load_refused_as c.refuse.ensures.fault c.refuse.ensures.board
+    (unknown_refused self.image c.requires.unknown self.work self.work self.log self.log self.counts (g.N.Nand.state self.inner) (g.N.Nand.state self.inner) refl refl refl (BadImage 32))
 
 pub returns-in-Err-clause-cause : goal.returns-in-Err-clause-cause
 returns-in-Err-clause-cause g c =
     let self = c.args.self.now in
     let T : Result Shape ShapeError → Type 0 = λ r. IsErr r in
-    let own : LoadCause self.work.spares (g.N.Nand.state self.inner) (Err (BadImage 32)) (spares_left c.refuse.new.self.image c.refuse.new.self.work)
-    (g.N.Nand.state self.inner) = no_outer_shape c.args.found.now c.requires.ready.shape_is (subst T (sym c.in-Err.is ∙ c.outer_shape.ensures) refl) refl in
-    let there = c.refuse.new.self in
-    let T : LoadFault → Type 0 = λ f. LoadCause self.work.spares (g.N.Nand.state self.inner) (Err f) (spares_left there.image there.work) (g.N.Nand.state there.inner) in
-    let U : BoardState → Type 0 = λ s. LoadCause self.work.spares (g.N.Nand.state self.inner) (Err (BadImage 32)) (spares_left there.image there.work) s in
-    subst T (sym c.refuse.ensures.fault) (subst U (λ i. g.N.Nand.state (sym c.refuse.ensures.inner i)) own)
+    load_cause_as self.work.spares (g.N.Nand.state self.inner) c.refuse.ensures.fault (ap g.N.Nand.state c.refuse.ensures.inner)
+    (spares_left c.refuse.new.self.image c.refuse.new.self.work)
+    (no_outer_shape c.args.found.now c.requires.ready.shape_is (subst T (sym c.in-Err.is ∙ c.outer_shape.ensures) refl) refl)
