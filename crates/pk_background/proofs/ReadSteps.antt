@@ -131,6 +131,11 @@ running_both P Q (Ok x) p q = (p, q)
 running_both P Q (Err Reading) p q = (p, q)
 running_both P Q (Err Stopped) p q = tt
 
+-- and it ended
+pub running_ends : {T : Type 0} (P A Q : Type 0) (r : Result T Fault) → (P → A → Q) → OnRunning P r → OnOk r A → OnOk r Q
+running_ends P A Q (Ok x) f p a = f p a
+running_ends P A Q (Err e) f p a = tt
+
 -- it did not end
 pub running_failed : (T U P Q : Type 0) (e : Fault) → (P → Q) → OnRunning {T = T} P (Err e) → OnRunning {T = U} Q (Err e)
 running_failed T U P Q Reading f p = f p

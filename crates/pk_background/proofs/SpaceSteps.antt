@@ -13,9 +13,10 @@ use Rattle.pk_gc.specs.declared.course.Phase.TheVariants.{Idle, Copies, Commits,
 use Rattle.pk_gc.specs.declared.reclaimed.Reclaimed.TheVariants.{Worked, NeedsFreeze, Ended}
 use Rattle.pk_gc.specs.Stepping.{runs_in}
 use Rattle.pk_background.{specs.Costs.Spends, specs.Pairing.FailsToFinish, specs.Pairing.FinishesCommit, specs.Pairing.FinishesCommitOr, specs.Pairing.CommitsOr, proofs.Inside.one_call}
-use Rattle.pk_background.{specs.Emptying.KeepsOrReads, specs.Emptying.OnRunning, specs.Emptying.HasRoom, specs.Emptying.ReadsUpTo, proofs.Whole.none_then, proofs.Whole.halts_then}
+use Rattle.pk_background.{specs.Emptying.Came, specs.Emptying.KeepsOrReads, specs.Emptying.OnRunning, specs.Emptying.HasRoom, specs.Emptying.ReadsUpTo, proofs.Whole.none_then, proofs.Whole.halts_then}
 use Rattle.pk_background.specs.Reclaiming.{MayReclaim, Lessens, LeavesIndex, RunsOn, DoesReclaim, Waits, CannotRead, FailsReclaim, is_tight_for}
-use Rattle.pk_background.specs.Spacing.{MovesOrReads, StaysSame, where_so, needs, has_moves, space_left, space_roots, Awaits, MaySpace, SpacesOnce}
+use Rattle.pk_background.proofs.ReadSteps.{running_says, running_both, running_ends}
+use Rattle.pk_background.specs.Spacing.{MovesOrReads, SameMapAll, StaysSame, where_so, needs, has_moves, space_left, space_roots, Awaits, MaySpace, SpacesOnce}
 use Rattle.pk_background.proofs.Callings.{few_none, few_one, few_program, few_within, few_then, spends_still, spends_within}
 use Rattle.pk_background.proofs.SameMaps.{same_held, same_finished, breaks_finished, same_unread, breaks_failed, moves_kept, moves_later, moves_within, moves_none, may_moved, passes_moved, stays_none}
 use Rattle.pk_background.proofs.SameMaps.{stays_both}
@@ -23,7 +24,7 @@ use Rattle.pk_background.proofs.Spacing.{left_at, roots_at, AwaitsAt, works_less
 use Rattle.pk_root.specs.Installing.{repeats_next}
 use Rattle.pk_log.specs.State.{LogState}
 use Rattle.pk_parts.{specs.Parts.Parts, specs.Parts.frames_of, specs.Parts.commits_in, specs.Parts.is_half, specs.Staying.Stays, proofs.Halves.not_made}
-use Rattle.pk_parts.specs.Moves.{StandsFor, StandsBetween, MayStep, MayCommit, LeavesValues}
+use Rattle.pk_parts.specs.Moves.{BreaksAll, StandsFor, StandsBetween, MayStep, MayCommit, LeavesValues}
 use Rattle.pk_call.specs.Calling.{FewCalls}
 
 true_false : true ≡ false → ⊥
@@ -87,7 +88,7 @@ values_stay b c leaves stays = record { frames = leaves.frames; stopped = ap (λ
 
 -- ---- one step
 
-module _ (count : ℕ) (b : Parts) (s0 : BoardState) (may : MaySpace count b s0) (most : count ≤ most_pages b.log.shape) (awaits : Awaits count b) where
+module _ {count : ℕ} {b : Parts} {s0 : BoardState} (may : MaySpace count b s0) (most : count ≤ most_pages b.log.shape) (awaits : Awaits count b) where
   abbrev it : StandsFor b b.log.shape s0.pages may.may.stands.0
   it = may.may.stands.1
 
@@ -242,43 +243,27 @@ module _ (count : ℕ) (b : Parts) (s0 : BoardState) (may : MaySpace count b s0)
     pub space_ended : (x : Reclaimed) → x ≡ Ended → NoFault s0 s1 → DoesReclaim b c s0 s1 x → SpacesOnce count b c s0 s1 (Ok tt)
     space_ended x is sound made = ended sound (subst (λ y. DoesReclaim b c s0 s1 y) is made)
 
-    pub space_failed : (e : Fault) → s0.read_faults ≤ last_count → FailsReclaim b c s0 s1 e → SpacesOnce count b c s0 s1 (Err e)
-    space_failed Reading few is =
-        let rose = is.read in
-        record {
-          made = 1;
-          some = omega arith;
-          step = record {
-            came = (same_unread b c s0 s1 is, record { read = is.read; up = omega (arith, rose, few); flash = is.flash; no_stop = ap (λ (s : BoardState). s.stop_faults) is.only });
-            rest = rest;
-            reads = one_call s0 s1 reads calls;
-            roots_few = omega (arith, same_roots);
-            ready = ready;
-          };
-          spends = one_spent;
-          within = some_at b.reclaim.phase b count awaits;
-          left = tt;
-          roots_left = tt;
-          none_pending = none;
-          stays = unread_stays b c s0 s1 is;
-        }
-    space_failed Stopped few is = record {
+    failed : (e : Fault) → Came {T = Unit {0}} (λ (u : Unit). SameMapAll b c s0 s1) (SameMapAll b c s0 s1) (BreaksAll b s0 s1) s0 s1 (Err e)
+        → OnRunning {T = Unit {0}} (StaysSame b c) (Err e) → OnRunning {T = Unit {0}} (c.log.pending ≡ []) (Err e) → SpacesOnce count b c s0 s1 (Err e)
+    failed e came stays none_pending = record {
       made = 1;
       some = omega arith;
-      step = record {
-        came = (breaks_failed b s0 s1 is.0, record { flash = is.1.flash; stop = is.1.stop; read = is.1.read });
-        rest = rest;
-        reads = one_call s0 s1 reads calls;
-        roots_few = omega (arith, same_roots);
-        ready = ready;
-      };
+      step = record { came = came; rest = rest; reads = one_call s0 s1 reads calls; roots_few = omega (arith, same_roots); ready = ready };
       spends = one_spent;
       within = some_at b.reclaim.phase b count awaits;
       left = tt;
       roots_left = tt;
-      none_pending = tt;
-      stays = tt;
+      none_pending = none_pending;
+      stays = stays;
     }
+
+    pub space_failed : (e : Fault) → s0.read_faults ≤ last_count → FailsReclaim b c s0 s1 e → SpacesOnce count b c s0 s1 (Err e)
+    space_failed Reading few is =
+        let rose = is.read in
+        failed Reading
+        (same_unread b c s0 s1 is, record { read = is.read; up = omega (arith, rose, few); flash = is.flash; no_stop = ap (λ (s : BoardState). s.stop_faults) is.only })
+        (unread_stays b c s0 s1 is) none
+    space_failed Stopped few is = failed Stopped (breaks_failed b s0 s1 is.0, record { flash = is.1.flash; stop = is.1.stop; read = is.1.read }) tt tt
 
   -- ---- the moves find no room
 
@@ -332,38 +317,17 @@ module _ (count : ℕ) (b : Parts) (s0 : BoardState) (may : MaySpace count b s0)
     frozen_once : (r : Result Unit Fault) → KeepsOrReads b d (room_calls b.log.shape) s0 s2 r → Spends (room_calls b.log.shape) room_roots s0 s2
         → OnOk r (HasRoom d) → OnRunning (d.log.pending ≡ []) r → OnRunning (LeavesValues b d) r → OnRunning (Stays b d) r
         → SpacesOnce count b d s0 s2 r
-    frozen_once (Ok x) step spends room none leaves stays = record {
+    frozen_once r step spends room none leaves stays = record {
       made = room_calls b.log.shape;
       some = omega arith;
-      step = moves_kept (Ok x) b d (room_calls b.log.shape) s0 s2 step;
+      step = moves_kept r b d (room_calls b.log.shape) s0 s2 step;
       spends = room_spent spends;
       within = room_within;
-      left = less_frozen leaves room.wide;
-      roots_left = roots_frozen leaves room.wide spends.installs;
+      left = running_ends (LeavesValues b d) (HasRoom d) (room_calls b.log.shape + space_left count d ≤ space_left count b) r (λ is has. less_frozen is has.wide) leaves room;
+      roots_left = running_ends (LeavesValues b d) (HasRoom d) (roots s2 + space_roots count d ≤ roots s0 + space_roots count b) r
+          (λ is has. roots_frozen is has.wide spends.installs) leaves room;
       none_pending = none;
-      stays = values_stay b d leaves stays;
-    }
-    frozen_once (Err Reading) step spends room none leaves stays = record {
-      made = room_calls b.log.shape;
-      some = omega arith;
-      step = moves_kept (Err Reading) b d (room_calls b.log.shape) s0 s2 step;
-      spends = room_spent spends;
-      within = room_within;
-      left = tt;
-      roots_left = tt;
-      none_pending = none;
-      stays = values_stay b d leaves stays;
-    }
-    frozen_once (Err Stopped) step spends room none leaves stays = record {
-      made = room_calls b.log.shape;
-      some = omega arith;
-      step = moves_kept (Err Stopped) b d (room_calls b.log.shape) s0 s2 step;
-      spends = room_spent spends;
-      within = room_within;
-      left = tt;
-      roots_left = tt;
-      none_pending = tt;
-      stays = tt;
+      stays = running_says (LeavesValues b d × Stays b d) (StaysSame b d) r (λ both. values_stay b d both.0 both.1) (running_both (LeavesValues b d) (Stays b d) r leaves stays);
     }
 
   pub space_frozen : (c d : Parts) (s1 s2 : BoardState) (r : Result Unit Fault) → Waits b c s0 s1
@@ -411,7 +375,7 @@ spacing_begin count a s0 may = record {
   stays = stays_none a;
 }
 
-module _ (count : ℕ) (a : Parts) (s0 : BoardState) (b : Parts) (s : BoardState) (ready : IsReady s0 a.log.shape) (on : Spacing count a s0 b s) where
+module _ {count : ℕ} {a : Parts} {s0 : BoardState} {b : Parts} {s : BoardState} (ready : IsReady s0 a.log.shape) (on : Spacing count a s0 b s) where
   pub may_space : MaySpace count a s0 → MaySpace count b s
   may_space may = record {
     may = on.may;
@@ -461,14 +425,11 @@ module _ (count : ℕ) (a : Parts) (s0 : BoardState) (b : Parts) (s : BoardState
         installs = spacing_roots s1 once.spends.installs;
       }
 
-  spacing_broken : (e : Fault) (c : Parts) (s1 : BoardState) → SpacesOnce count b c s s1 (Err e) → MovesOrReads {T = Unit {0}} a c (space_left count a) s0 s1 (Err e)
-  spacing_broken e c s1 once =
+  pub spacing_failed : (e : Fault) (c : Parts) (s1 : BoardState) → SpacesOnce count b c s s1 (Err e) → MovesOrReads {T = Unit {0}} a c (space_left count a) s0 s1 (Err e)
+  spacing_failed e c s1 once =
       let left = on.left in
       let within = once.within in
       moves_later (Err e) a b c on.made once.made (space_left count a) s0 s s1 ready on.stays.same_shape (omega (arith, left, within)) on.step.came.0 (passes_moved a b on.made s0 s on.step) once.step
-
-  pub spacing_failed : (e : Fault) (c : Parts) (s1 : BoardState) → SpacesOnce count b c s s1 (Err e) → MovesOrReads {T = Unit {0}} a c (space_left count a) s0 s1 (Err e)
-  spacing_failed e c s1 once = spacing_broken e c s1 once
 
   pub failed_none : (e : Fault) (c : Parts) (s1 : BoardState) → SpacesOnce count b c s s1 (Err e) → OnRunning {T = Unit {0}} (c.log.pending ≡ []) (Err e)
   failed_none e c s1 once = once.none_pending

@@ -42,6 +42,16 @@ module _ (count : ℕ) (b c : Parts) (same_shape : c.log.shape ≡ b.log.shape) 
   has_room : HasSpace (space_of c) → needs count c ≡ false
   has_room values = values count (subst (λ (s : Shape). count ≤ most_pages s) (sym same_shape) most)
 
+  -- if one is to begin, and if the value has room
+  whole_left : needs count b ≡ true → where_so (needs count b) (whole_reclaim b.log.shape - 1) ≡ whole_reclaim b.log.shape - 1
+  whole_left wanted = ap (λ x. where_so x (whole_reclaim b.log.shape - 1)) wanted
+
+  none_left : needs count c ≡ false → where_so (needs count c) (whole_reclaim c.log.shape - 1) ≡ 0
+  none_left room = ap (λ x. where_so x (whole_reclaim c.log.shape - 1)) room
+
+  none_room : needs count c ≡ false → (n : ℕ) → where_so (needs count c && is_tight_for c) n ≡ 0
+  none_room room n = ap (λ x. where_so (x && is_tight_for c) n) room
+
   -- ---- a step of a reclaim that runs on
 
   pub works_less : (p q : Phase) → AwaitsAt p count b → FallsTo p b q c → RunsOn q b c → 1 + left_at q count c ≤ left_at p count b
@@ -51,7 +61,7 @@ module _ (count : ℕ) (b c : Parts) (same_shape : c.log.shape ≡ b.log.shape) 
       let less = falls.less in
       let ready = falls.none_ready in
       let tight : where_so (is_tight_for c) (room_calls c.log.shape) ≡ where_so (is_tight_for b) (room_calls b.log.shape) = λ i. where_so (tight_same b c on i) (room_calls (same_shape i)) in
-      let steps : where_so (needs count b) (whole_reclaim b.log.shape - 1) ≡ whole_reclaim b.log.shape - 1 = ap (λ x. where_so x (whole_reclaim b.log.shape - 1)) wanted in
+      let steps = whole_left wanted in
       let moves : where_so (needs count b && is_tight_for b) (room_calls b.log.shape) ≡ where_so (is_tight_for b)
       (room_calls b.log.shape) = ap (λ x. where_so (x && is_tight_for b) (room_calls b.log.shape)) wanted in
       omega (arith, less, ready, tight, steps, moves)
@@ -60,45 +70,18 @@ module _ (count : ℕ) (b c : Parts) (same_shape : c.log.shape ≡ b.log.shape) 
       let ready = falls.none_ready in
       let tight : where_so (is_tight_for c) (room_calls c.log.shape) ≡ where_so (is_tight_for b) (room_calls b.log.shape) = λ i. where_so (tight_same b c on i) (room_calls (same_shape i)) in
       omega (arith, less, ready, tight)
-  works_less (Commits victim) (Copies d) awaits falls on =
-      let less = falls.less in
-      let ready = falls.none_ready in
-      absurd (omega (arith, less, ready))
-  works_less (GivesBack victim) (Copies d) awaits falls on =
-      let less = falls.less in
-      let ready = falls.none_ready in
-      absurd (omega (arith, less, ready))
+  works_less (Commits victim) (Copies d) awaits falls on = absurd (omega (arith, falls.less, falls.none_ready))
+  works_less (GivesBack victim) (Copies d) awaits falls on = absurd (omega (arith, falls.less, falls.none_ready))
   works_less Idle (Commits other) (inl runs) falls on = absurd (no_yes runs)
-  works_less Idle (Commits other) (inr wanted) falls on =
-      let steps : where_so (needs count b) (whole_reclaim b.log.shape - 1) ≡ whole_reclaim b.log.shape - 1 = ap (λ x. where_so x (whole_reclaim b.log.shape - 1)) wanted in
-      omega (arith, steps)
+  works_less Idle (Commits other) (inr wanted) falls on = omega (arith, whole_left wanted)
   works_less (Copies e) (Commits other) awaits falls on = omega arith
-  works_less (Commits victim) (Commits other) awaits falls on =
-      let less = falls.less in
-      let ready = falls.none_ready in
-      absurd (omega (arith, less, ready))
-  works_less (GivesBack victim) (Commits other) awaits falls on =
-      let less = falls.less in
-      let ready = falls.none_ready in
-      absurd (omega (arith, less, ready))
+  works_less (Commits victim) (Commits other) awaits falls on = absurd (omega (arith, falls.less, falls.none_ready))
+  works_less (GivesBack victim) (Commits other) awaits falls on = absurd (omega (arith, falls.less, falls.none_ready))
   works_less Idle (GivesBack other) (inl runs) falls on = absurd (no_yes runs)
-  works_less Idle (GivesBack other) (inr wanted) falls on =
-      let steps : where_so (needs count b) (whole_reclaim b.log.shape - 1) ≡ whole_reclaim b.log.shape - 1 = ap (λ x. where_so x (whole_reclaim b.log.shape - 1)) wanted in
-      let none : where_so (needs count c) (whole_reclaim c.log.shape - 1) ≡ 0 = ap (λ x. where_so x (whole_reclaim c.log.shape - 1)) (has_room on) in
-      let moves : where_so (needs count c && is_tight_for c) (room_calls c.log.shape) ≡ 0 = ap (λ x. where_so (x && is_tight_for c) (room_calls c.log.shape)) (has_room on) in
-      omega (arith, steps, none, moves)
-  works_less (Copies e) (GivesBack other) awaits falls on =
-      let none : where_so (needs count c) (whole_reclaim c.log.shape - 1) ≡ 0 = ap (λ x. where_so x (whole_reclaim c.log.shape - 1)) (has_room on) in
-      let moves : where_so (needs count c && is_tight_for c) (room_calls c.log.shape) ≡ 0 = ap (λ x. where_so (x && is_tight_for c) (room_calls c.log.shape)) (has_room on) in
-      omega (arith, none, moves)
-  works_less (Commits victim) (GivesBack other) awaits falls on =
-      let none : where_so (needs count c) (whole_reclaim c.log.shape - 1) ≡ 0 = ap (λ x. where_so x (whole_reclaim c.log.shape - 1)) (has_room on) in
-      let moves : where_so (needs count c && is_tight_for c) (room_calls c.log.shape) ≡ 0 = ap (λ x. where_so (x && is_tight_for c) (room_calls c.log.shape)) (has_room on) in
-      omega (arith, none, moves)
-  works_less (GivesBack victim) (GivesBack other) awaits falls on =
-      let less = falls.less in
-      let ready = falls.none_ready in
-      absurd (omega (arith, less, ready))
+  works_less Idle (GivesBack other) (inr wanted) falls on = omega (arith, whole_left wanted, none_left (has_room on), none_room (has_room on) (room_calls c.log.shape))
+  works_less (Copies e) (GivesBack other) awaits falls on = omega (arith, none_left (has_room on), none_room (has_room on) (room_calls c.log.shape))
+  works_less (Commits victim) (GivesBack other) awaits falls on = omega (arith, none_left (has_room on), none_room (has_room on) (room_calls c.log.shape))
+  works_less (GivesBack victim) (GivesBack other) awaits falls on = absurd (omega (arith, falls.less, falls.none_ready))
 
   -- no more roots
   pub works_roots : (p q : Phase) → AwaitsAt p count b → FallsTo p b q c → RunsOn q b c → roots_at q count c ≤ roots_at p count b
@@ -111,18 +94,10 @@ module _ (count : ℕ) (b c : Parts) (same_shape : c.log.shape ≡ b.log.shape) 
   works_roots (Copies e) (Copies d) awaits falls on =
       let tight : where_so (is_tight_for c) room_roots ≡ where_so (is_tight_for b) room_roots = ap (λ t. where_so t room_roots) (tight_same b c on) in
       omega (arith, tight)
-  works_roots (Commits victim) (Copies d) awaits falls on =
-      let less = falls.less in
-      let ready = falls.none_ready in
-      absurd (omega (arith, less, ready))
-  works_roots (GivesBack victim) (Copies d) awaits falls on =
-      let less = falls.less in
-      let ready = falls.none_ready in
-      absurd (omega (arith, less, ready))
+  works_roots (Commits victim) (Copies d) awaits falls on = absurd (omega (arith, falls.less, falls.none_ready))
+  works_roots (GivesBack victim) (Copies d) awaits falls on = absurd (omega (arith, falls.less, falls.none_ready))
   works_roots p (Commits other) awaits falls on = omega arith
-  works_roots p (GivesBack other) awaits falls on =
-      let none : where_so (needs count c && is_tight_for c) room_roots ≡ 0 = ap (λ x. where_so (x && is_tight_for c) room_roots) (has_room on) in
-      omega (arith, none)
+  works_roots p (GivesBack other) awaits falls on = omega (arith, none_room (has_room on) room_roots)
 
   -- ---- one that ends it
 
@@ -146,15 +121,8 @@ module _ (count : ℕ) (b c : Parts) (same_shape : c.log.shape ≡ b.log.shape) 
   pub ends_less : (p : Phase) → AwaitsAt p count b → (runs_in p ≡ true → used_by Values b.pool.states ≡ data_blocks b.log.shape) → used_by Values c.pool.states + 1 ≡ used_by Values b.pool.states
       → RoomBehind p (space_of b) (space_of c) → 1 + left_at Idle count c ≤ left_at p count b
   ends_less Idle (inl runs) full given from = absurd (no_yes runs)
-  ends_less Idle (inr wanted) full given from =
-      let steps : where_so (needs count b) (whole_reclaim b.log.shape - 1) ≡ whole_reclaim b.log.shape - 1 = ap (λ x. where_so x (whole_reclaim b.log.shape - 1)) wanted in
-      let none : where_so (needs count c) (whole_reclaim c.log.shape - 1) ≡ 0 = ap (λ x. where_so x (whole_reclaim c.log.shape - 1)) (has_room from) in
-      let moves : where_so (needs count c && is_tight_for c) (room_calls c.log.shape) ≡ 0 = ap (λ x. where_so (x && is_tight_for c) (room_calls c.log.shape)) (has_room from) in
-      omega (arith, steps, none, moves)
-  ends_less (Copies e) awaits full given from =
-      let none : where_so (needs count c) (whole_reclaim c.log.shape - 1) ≡ 0 = ap (λ x. where_so x (whole_reclaim c.log.shape - 1)) (has_room from) in
-      let moves : where_so (needs count c && is_tight_for c) (room_calls c.log.shape) ≡ 0 = ap (λ x. where_so (x && is_tight_for c) (room_calls c.log.shape)) (has_room from) in
-      omega (arith, none, moves)
+  ends_less Idle (inr wanted) full given from = omega (arith, whole_left wanted, none_left (has_room from), none_room (has_room from) (room_calls c.log.shape))
+  ends_less (Copies e) awaits full given from = omega (arith, none_left (has_room from), none_room (has_room from) (room_calls c.log.shape))
   ends_less (Commits victim) awaits full given from = absurd from
   ends_less (GivesBack victim) awaits full given from =
       let same = needs_same victim full given from in
@@ -166,12 +134,8 @@ module _ (count : ℕ) (b c : Parts) (same_shape : c.log.shape ≡ b.log.shape) 
   -- no more roots
   pub ends_roots : (p : Phase) → AwaitsAt p count b → (runs_in p ≡ true → used_by Values b.pool.states ≡ data_blocks b.log.shape) → used_by Values c.pool.states + 1 ≡ used_by Values b.pool.states
       → RoomBehind p (space_of b) (space_of c) → roots_at Idle count c ≤ roots_at p count b
-  ends_roots Idle awaits full given from =
-      let none : where_so (needs count c && is_tight_for c) room_roots ≡ 0 = ap (λ x. where_so (x && is_tight_for c) room_roots) (has_room from) in
-      omega (arith, none)
-  ends_roots (Copies e) awaits full given from =
-      let none : where_so (needs count c && is_tight_for c) room_roots ≡ 0 = ap (λ x. where_so (x && is_tight_for c) room_roots) (has_room from) in
-      omega (arith, none)
+  ends_roots Idle awaits full given from = omega (arith, none_room (has_room from) room_roots)
+  ends_roots (Copies e) awaits full given from = omega (arith, none_room (has_room from) room_roots)
   ends_roots (Commits victim) awaits full given from = absurd from
   ends_roots (GivesBack victim) awaits full given from =
       let same = needs_same victim full given from in

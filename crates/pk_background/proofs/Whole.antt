@@ -11,8 +11,8 @@ use Rattle.pk_schedule.{specs.declared.phase.Stepped.Stepped, specs.declared.pha
 use Rattle.pk_schedule.specs.Steps.{FreezeMoves, Freezes, backlog_of}
 use Rattle.pk_gc.specs.State.{JobState}
 use Rattle.pk_parts.{specs.Parts.Parts, specs.Parts.frames_of, specs.Parts.index_of, specs.Parts.is_half, specs.Parts.commits_in, proofs.Halves.not_made, proofs.Staying.stays_then}
-use Rattle.pk_parts.{specs.Moves.StandsBetween, specs.Moves.MayCommit, specs.Moves.LeavesValues, proofs.Keeping.KeepsAll-none, proofs.Keeping.keeps_whole}
-use Rattle.pk_background.specs.Emptying.{ReadsUpTo, Halts, MayEmpty, MergesOnce, MergesWhole, FreezesOnce, FreezesWhole, merges_left, merges_due}
+use Rattle.pk_parts.{specs.Moves.StandsBetween, specs.Moves.MayCommit, specs.Moves.LeavesValues, specs.Moves.KeepsAll, specs.Moves.BreaksAll, proofs.Keeping.KeepsAll-none, proofs.Keeping.keeps_whole}
+use Rattle.pk_background.specs.Emptying.{Came, ReadsUpTo, Halts, MayEmpty, MergesOnce, MergesWhole, FreezesOnce, FreezesWhole, merges_left, merges_due}
 use Rattle.pk_background.{specs.Pairing.FinishesRoot, specs.Pairing.FailsToFinish, specs.Pairing.SettlesOr, proofs.Callings.few_one, proofs.Callings.few_program, proofs.Callings.few_then}
 use Rattle.pk_background.{proofs.Completing.KeepsAll-finished, proofs.Completing.BreaksAll-finished, proofs.Steps.leaves_twice}
 
@@ -96,6 +96,23 @@ module _ (a b : Parts) (s0 s1 : BoardState) (may : MayEmpty a s0) where
 
   -- ---- a step of the merges
 
+  -- with no second program
+  alone : (r : Result Stepped Fault) → MergesOnce a b s0 s1 r → Came (λ (x : Stepped). KeepsAll a b s0 s1) (KeepsAll a b s0 s1) (BreaksAll a s0 s1) s0 s1 r → MergesWhole a b s0 s1 r
+  alone r once came = record {
+    made = 1;
+    some = omega arith;
+    step = record { came = came; rest = once.step.rest; reads = once.step.reads; roots_few = once.step.roots_few; ready = once.step.ready };
+    idle = once.idle;
+    calls = few_one s0 s1 once.calls;
+    within = once.some;
+    less = λ e. let less = once.less e in omega (arith, less);
+    installs = once.installs;
+    due = once.due;
+    none_pending = once.none_pending;
+    leaves = once.leaves;
+    stays = once.stays;
+  }
+
   module _ (once : MergesOnce a b s0 s1 (Ok Worked)) (c : Parts) (s2 : BoardState) where
     shape_b : b.log.shape ≡ a.log.shape
     shape_b = once.leaves.same_shape
@@ -134,28 +151,7 @@ module _ (a b : Parts) (s0 s1 : BoardState) (may : MayEmpty a s0) where
         }
 
     merged_whole : repeats_next b.log.next ≡ false → MergesWhole a b s0 s1 (Ok Worked)
-    merged_whole whole =
-        let less = once.less refl in
-        record {
-          made = 1;
-          some = omega arith;
-          step = record {
-            came = (keeps_whole a b s0 s1 (then_whole once.leaves whole) once.step.came.0, once.step.came.1);
-            rest = once.step.rest;
-            reads = once.step.reads;
-            roots_few = once.step.roots_few;
-            ready = once.step.ready;
-          };
-          idle = λ e. absurd (worked_idle e);
-          calls = few_one s0 s1 once.calls;
-          within = tt;
-          less = λ _. omega (arith, less);
-          installs = once.installs;
-          due = once.due;
-          none_pending = once.none_pending;
-          leaves = once.leaves;
-          stays = once.stays;
-        }
+    merged_whole whole = alone (Ok Worked) once (keeps_whole a b s0 s1 (then_whole once.leaves whole) once.step.came.0, once.step.came.1)
 
     pub merged_settled : SettlesOr b c s1 s2 (Ok tt) → MergesWhole a c s0 s2 (Ok Worked)
     merged_settled set = elim (repeats_next b.log.next) as (λ z. repeats_next b.log.next ≡ z → MergesWhole a c s0 s2 (Ok Worked)) [
@@ -201,58 +197,11 @@ module _ (a b : Parts) (s0 s1 : BoardState) (may : MayEmpty a s0) where
     ] refl
 
   pub merged_idle : MergesOnce a b s0 s1 (Ok Idle) → MergesWhole a b s0 s1 (Ok Idle)
-  merged_idle once =
-      let idle = once.idle refl in
-      record {
-        made = 1;
-        some = omega arith;
-        step = record {
-          came = (KeepsAll-none a b s0 s1 idle.1 idle.2, once.step.came.1);
-          rest = once.step.rest;
-          reads = once.step.reads;
-          roots_few = once.step.roots_few;
-          ready = once.step.ready;
-        };
-        idle = λ _. idle;
-        calls = few_one s0 s1 once.calls;
-        within = tt;
-        less = λ e. absurd (idle_worked e);
-        installs = once.installs;
-        due = once.due;
-        none_pending = once.none_pending;
-        leaves = once.leaves;
-        stays = once.stays;
-      }
+  merged_idle once = let idle = once.idle refl in alone (Ok Idle) once (KeepsAll-none a b s0 s1 idle.1 idle.2, once.step.came.1)
 
   pub merged_failed : (f : Fault) → MergesOnce a b s0 s1 (Err f) → MergesWhole a b s0 s1 (Err f)
-  merged_failed Reading once = record {
-    made = 1;
-    some = omega arith;
-    step = record { came = once.step.came; rest = once.step.rest; reads = once.step.reads; roots_few = once.step.roots_few; ready = once.step.ready };
-    idle = λ e. absurd (err_idle Reading e);
-    calls = few_one s0 s1 once.calls;
-    within = once.some;
-    less = λ e. absurd (err_worked Reading e);
-    installs = once.installs;
-    due = tt;
-    none_pending = once.none_pending;
-    leaves = once.leaves;
-    stays = once.stays;
-  }
-  merged_failed Stopped once = record {
-    made = 1;
-    some = omega arith;
-    step = record { came = once.step.came; rest = once.step.rest; reads = once.step.reads; roots_few = once.step.roots_few; ready = once.step.ready };
-    idle = λ e. absurd (err_idle Stopped e);
-    calls = few_one s0 s1 once.calls;
-    within = once.some;
-    less = λ e. absurd (err_worked Stopped e);
-    installs = once.installs;
-    due = tt;
-    none_pending = once.none_pending;
-    leaves = tt;
-    stays = tt;
-  }
+  merged_failed Reading once = alone (Err Reading) once once.step.came
+  merged_failed Stopped once = alone (Err Stopped) once once.step.came
 
   -- ---- a step of a freeze
 

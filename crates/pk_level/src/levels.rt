@@ -393,10 +393,9 @@ impl<A: Allocator> Levels<A> {
     {
         self.known();
         let last = self.last_level(arena.frames());
-        self.bare_run(1, last, arena);
-        self.bare_run(2, last, arena);
-        self.bare_run(3, last, arena);
-        self.bare_run(4, last, arena);
+        for index in 0..LEVELS {
+            self.bare_run(index + 1, last, arena);
+        }
     }
 
     // Frees the frames of a run if its level is after the last one that may have frames.

@@ -4,4 +4,5 @@ pub mod Committing
 pub mod Buffers
 pub mod FreezeStepping
 pub mod Merging
+pub mod Saying
 pub mod Examples

@@ -9,7 +9,6 @@ use Rattle.pk_model.{specs.Found.Found, specs.Steps.Step, specs.Steps.RootsUpTo}
 use Rattle.pk_plan.specs.declared.owner.Owner.TheVariants.{Values}
 use Rattle.pk_pool.{specs.Blocks.Blocks, specs.Blocks.IsShared, specs.Blocks.freed, specs.Blocks.used_by, proofs.Leaving.freed_same}
 use Rattle.pk_level.{specs.Levels.Levels, specs.Levels.IsLevels, specs.Arenas.HasLeases, specs.Arenas.Releases}
-use Rattle.pk_run.specs.Kept.{Kept}
 use Rattle.pk_log.specs.State.{LogState}
 use Rattle.pk_log.specs.MergeSteps.{MayPrepare, LogPrepared, LogPrepares, LogPrepareBreaks, MayMerge, LogMerges, LogMergeBreaks}
 use Rattle.pk_schedule.{specs.declared.phase.Phase.Phase, specs.declared.phase.Phase.TheVariants.Idle, specs.declared.phase.Phase.TheVariants.Ready}
@@ -31,19 +30,30 @@ ready_at n p told (level, is) = is ∙ ap (λ (l : ℕ). Ready l) (sym (told ∙
 abbrev pub Stands : Index → BoardState → Type 0
 Stands x old = (frames : ℕ) × (top : ℕ × Root) × (found : Found) × (m : Map) × MayWork x frames old.pages top found m
 
-module _ (x : Index) (level : ℕ) (is : x.schedule.phase ≡ Ready level) (shared : IsShared x.pool.shape x.pool.states) (known : IsLevels x.levels) (old : BoardState) where
+-- A merge into this level whose output is complete.
+pub record IsComplete (x : Index) (level : ℕ) : Type 0 where
+  pub is : x.schedule.phase ≡ Ready level
+  pub shared : IsShared x.pool.shape x.pool.states
+  pub known : IsLevels x.levels
+
+-- how many entries its output has, and its blocks
+pub record IsReported (x : Index) (count : ℕ) (blocks : List ℕ) : Type 0 where
+  pub count_is : count ≡ (output x.schedule).count
+  pub blocks_are : blocks ≡ (output x.schedule).blocks
+
+module _ {x : Index} {level : ℕ} (k : IsComplete x level) (old : BoardState) where
   -- ---- what is asked of the parts
 
   pub ask_prepare : Stands x old → (top : ℕ × Root) × (found : Found) × (m : Map) × MayPrepare x.log old.pages top found m
-  ask_prepare s = (s.1, s.2, s.3, wait.may_prepare x s.0 old s.1 s.2 s.3 s.4 level is shared known)
+  ask_prepare s = (s.1, s.2, s.3, wait.may_prepare x s.0 old s.1 s.2 s.3 s.4 level k.is k.shared k.known)
 
   -- the output, as it is reported
-  module _ (out : Kept) (count : ℕ) (blocks : List ℕ) (out_is : out ≡ output x.schedule) (count_is : count ≡ out.count) (blocks_are : blocks ≡ out.blocks) where
+  module _ {count : ℕ} {blocks : List ℕ} (r : IsReported x count blocks) where
     told : (P : ℕ → List ℕ → Type 0) → P (output x.schedule).count (output x.schedule).blocks → P count blocks
-    told P is = subst (λ n. P n blocks) (sym (count_is ∙ ap (λ (r : Kept). r.count) out_is)) (subst (λ bs. P (output x.schedule).count bs) (sym (blocks_are ∙ ap (λ (r : Kept). r.blocks) out_is)) is)
+    told P is = subst (λ n. P n blocks) (sym r.count_is) (subst (λ bs. P (output x.schedule).count bs) (sym r.blocks_are) is)
 
     pub may_merge : (frames : ℕ) (top : ℕ × Root) (found : Found) (m : Map) → MayWork x frames old.pages top found m → MayMerge x.log old.pages top found m level count blocks
-    may_merge frames top found m may = told (λ n bs. MayMerge x.log old.pages top found m level n bs) (wait.may_merge x frames old top found m may level is shared known)
+    may_merge frames top found m may = told (λ n bs. MayMerge x.log old.pages top found m level n bs) (wait.may_merge x frames old top found m may level k.is k.shared k.known)
 
     pub ask_merge : Stands x old → (top : ℕ × Root) × (found : Found) × (m : Map) × MayMerge x.log old.pages top found m level count blocks
     ask_merge s = (s.1, s.2, s.3, may_merge s.0 s.1 s.2 s.3 s.4)
@@ -54,7 +64,7 @@ module _ (x : Index) (level : ℕ) (is : x.schedule.phase ≡ Ready level) (shar
     pub merges_told : (log' : LogState) (new : BoardState) → LogMerges x.log old level count blocks log' new → LogMerges x.log old level (output x.schedule).count (output x.schedule).blocks log' new
     merges_told log' new merges =
         let P : ℕ → List ℕ → Type 0 = λ n bs. LogMerges x.log old level n bs log' new in
-        subst (λ n. P n (output x.schedule).blocks) (count_is ∙ ap (λ (r : Kept). r.count) out_is) (subst (λ bs. P count bs) (blocks_are ∙ ap (λ (r : Kept). r.blocks) out_is) merges)
+        subst (λ n. P n (output x.schedule).blocks) r.count_is (subst (λ bs. P count bs) r.blocks_are merges)
 
   older_is : (s : Stands x old) → blocks_or_none (older_of x.log.root.older) ≡ s.1.1.older
   older_is s = same_older x.log.root.older ∙ ap (λ (r : Root). r.older) s.4.stands.logs.root_is
@@ -62,21 +72,21 @@ module _ (x : Index) (level : ℕ) (is : x.schedule.phase ≡ Ready level) (shar
   pub ask_first : Stands x old → level ≡ 1 → (older : Option (List ℕ)) → older ≡ older_of x.log.root.older → CanEndFirst x.levels x.arena (freed x.pool) x.schedule.job (blocks_or_none older)
   ask_first s one older told = subst (λ os. CanEndFirst x.levels x.arena (freed x.pool) x.schedule.job os) (sym (ap blocks_or_none told ∙ older_is s))
       (subst (λ (p : Blocks). CanEndFirst x.levels x.arena p x.schedule.job s.1.1.older)
-      (sym (freed_same x.pool s.4.settles.none_leaves)) (wait.can_end_first x s.0 old s.1 s.2 s.3 s.4 level is shared known one))
+      (sym (freed_same x.pool s.4.settles.none_leaves)) (wait.can_end_first x s.0 old s.1 s.2 s.3 s.4 level k.is k.shared k.known one))
 
   pub ask_level : Stands x old → (1 ≤ level) × (level ≤ 4)
-  ask_level s = (wait.least x s.0 old s.1 s.2 s.3 s.4 level is shared known, wait.most x s.0 old s.1 s.2 s.3 s.4 level is shared known)
+  ask_level s = (wait.least x s.0 old s.1 s.2 s.3 s.4 level k.is k.shared k.known, wait.most x s.0 old s.1 s.2 s.3 s.4 level k.is k.shared k.known)
 
   pub ask_deep : Stands x old → 2 ≤ level → CanEndDeep x.levels x.arena (freed x.pool) x.schedule.job level
   ask_deep s deep = subst (λ (p : Blocks). CanEndDeep x.levels x.arena p x.schedule.job level)
-      (sym (freed_same x.pool s.4.settles.none_leaves)) (wait.can_end_deep x s.0 old s.1 s.2 s.3 s.4 level is shared known deep)
+      (sym (freed_same x.pool s.4.settles.none_leaves)) (wait.can_end_deep x s.0 old s.1 s.2 s.3 s.4 level k.is k.shared k.known deep)
 
   -- ---- what the step leaves
 
   abbrev Made : Index → BoardState → Type 0
   Made x' new = (frames : ℕ) (top : ℕ × Root) (found : Found) (m : Map) → MayWork x frames old.pages top found m → IndexMoves x frames old found m x' new × LessIsLeft x x'
 
-  pub steps_on : (x' : Index) (new : BoardState) → Made x' new → StepsOn x old x' new
+  steps_on : (x' : Index) (new : BoardState) → Made x' new → StepsOn x old x' new
   steps_on x' new made = record {
     moves = λ frames top found m may. (made frames top found m may).0;
     less = λ frames top found m may. (made frames top found m may).1;
@@ -88,13 +98,13 @@ module _ (x : Index) (level : ℕ) (is : x.schedule.phase ≡ Ready level) (shar
 
     prepared : erases_next x.log.next ≡ true → LogPrepares x.log old log' new → Made (record x { log = log' }) new
     prepared erases prepares frames top found m may =
-        let p = prepares top found m (wait.may_prepare x frames old top found m may level is shared known) in
+        let p = prepares top found m (wait.may_prepare x frames old top found m may level k.is k.shared k.known) in
         let Q : LogState → Type 0 = λ l. LogPrepared x.log old top found m l new in
         let P : LogState → Type 0 = λ l. IndexMoves x frames old found m (record x { log = l }) new × LessIsLeft x (record x { log = l }) in
         let q : Q (record x.log { next = log'.next }) = subst Q p.same_log p in
         subst P (sym p.same_log) (
-          prepared_moves x frames old top found m may level is shared known new log'.next erases q,
-          prepared_less x frames old top found m may level is shared known new log'.next erases q,
+          prepared_moves x frames old top found m may level k.is k.shared k.known new log'.next erases q,
+          prepared_less x frames old top found m may level k.is k.shared k.known new log'.next erases q,
         )
 
     pub made_prepared : erases_next x.log.next ≡ true → (r : Result Unit Fault)
@@ -111,7 +121,7 @@ module _ (x : Index) (level : ℕ) (is : x.schedule.phase ≡ Ready level) (shar
     }
     made_prepared erases (Err fault) step = record {
       ended = tt;
-      broken = λ frames top found m may. step.broken top found m (wait.may_prepare x frames old top found m may level is shared known);
+      broken = λ frames top found m may. step.broken top found m (wait.may_prepare x frames old top found m may level k.is k.shared k.known);
       works = tt;
       stops = step.stops;
       stopped = step.stopped;
@@ -124,28 +134,28 @@ module _ (x : Index) (level : ℕ) (is : x.schedule.phase ≡ Ready level) (shar
       -- what the exchange leaves, for whatever is on the flash
       abbrev Replaces : Type 0
       Replaces = (frames : ℕ) (top : ℕ × Root) (found : Found) (m : Map) (may : MayWork x frames old.pages top found m)
-          → Replaced x frames old top found m may level is shared known new levels' arena' (freed pool') schedule'.job
+          → Replaced x frames old top found m may level k.is k.shared k.known new levels' arena' (freed pool') schedule'.job
 
       pub first_replaces : level ≡ 1 → (older : Option (List ℕ)) → older ≡ older_of x.log.root.older
           → EndsFirst x.levels x.arena (freed x.pool) x.schedule.job (blocks_or_none older) levels' arena' (freed pool') schedule'.job → Replaces
       first_replaces one older told e frames top found m may =
-          let f = merges top found m (wait.may_merge x frames old top found m may level is shared known) in
+          let f = merges top found m (wait.may_merge x frames old top found m may level k.is k.shared k.known) in
           let here = subst (λ (p : Blocks). EndsFirst x.levels x.arena p x.schedule.job (blocks_or_none older) levels' arena' (freed pool') schedule'.job)
           (freed_same x.pool may.settles.none_leaves) e in
           let e' = subst (λ os. EndsFirst x.levels x.arena x.pool x.schedule.job os levels' arena' (freed pool') schedule'.job) (ap blocks_or_none told ∙ older_is (frames, top, found, m, may)) here in
-          replaced_one x frames old top found m may level is shared known new f.behind one levels' arena' (freed pool') schedule'.job e'
+          replaced_one x frames old top found m may level k.is k.shared k.known new f.behind one levels' arena' (freed pool') schedule'.job e'
 
       pub deep_replaces : 2 ≤ level → EndsDeep x.levels x.arena (freed x.pool) x.schedule.job level levels' arena' (freed pool') schedule'.job → Replaces
       deep_replaces deep e frames top found m may =
-          let f = merges top found m (wait.may_merge x frames old top found m may level is shared known) in
-          replaced_deep x frames old top found m may level is shared known new f.behind deep levels' arena' (freed pool') schedule'.job
+          let f = merges top found m (wait.may_merge x frames old top found m may level k.is k.shared k.known) in
+          replaced_deep x frames old top found m may level k.is k.shared k.known new f.behind deep levels' arena' (freed pool') schedule'.job
           (subst (λ (p : Blocks). EndsDeep x.levels x.arena p x.schedule.job level levels' arena' (freed pool') schedule'.job) (freed_same x.pool may.settles.none_leaves) e)
 
       -- so the frames of the levels that may have none may be freed
       pub ask_release : Stands x old → Replaces → (others : List ℕ) × HasLeases levels'.shape (length arena'.used) levels' arena' others
       ask_release s replaces = (
         [],
-        leases_are x s.0 old s.1 s.2 s.3 s.4 level is shared known new levels' arena' (freed pool') schedule'.job (replaces s.0 s.1 s.2 s.3 s.4),
+        leases_are x s.0 old s.1 s.2 s.3 s.4 level k.is k.shared k.known new levels' arena' (freed pool') schedule'.job (replaces s.0 s.1 s.2 s.3 s.4),
       )
 
       module _ (programs : programs_next x.log.next ≡ true) (rest : schedule' ≡ record x.schedule { job = schedule'.job; phase = Idle })
@@ -156,14 +166,14 @@ module _ (x : Index) (level : ℕ) (is : x.schedule.phase ≡ Ready level) (shar
         abbrev ended_schedule : Schedule
         ended_schedule = record x.schedule { job = schedule'.job; phase = Idle }
 
-        pub made_release : Replaces → used_by Values pool'.states ≡ used_by Values x.pool.states → Made (then_index log' schedule') new
-        made_release replaces counted frames top found m may =
-            let f = merges top found m (wait.may_merge x frames old top found m may level is shared known) in
+        pub made_release : Replaces → used_by Values pool'.states ≡ used_by Values x.pool.states → StepsOn x old (then_index log' schedule') new
+        made_release replaces counted = steps_on (then_index log' schedule') new (λ frames top found m may.
+            let f = merges top found m (wait.may_merge x frames old top found m may level k.is k.shared k.known) in
             let was = replaces frames top found m may in
-            let r = released x frames old top found m may level is shared known new levels' arena' (freed pool') schedule'.job was levels_last arena_last e in
-            let has = released_arena x frames old top found m may level is shared known new levels' arena' (freed pool') schedule'.job was levels_last arena_last e in
+            let r = released x frames old top found m may level k.is k.shared k.known new levels' arena' (freed pool') schedule'.job was levels_last arena_last e in
+            let has = released_arena x frames old top found m may level k.is k.shared k.known new levels' arena' (freed pool') schedule'.job was levels_last arena_last e in
             let P : LogState → Schedule → Type 0 = λ l s. IndexMoves x frames old found m (then_index l s) new × LessIsLeft x (then_index l s) in
             subst (λ s. P log' s) (sym rest) (subst (λ l. P l ended_schedule) (sym f.merged_is) (
-              installed_moves x frames old top found m may level is shared known new log' programs f levels_last arena_last pool' schedule'.job r has counted,
-              installed_less x frames old top found m may level is shared known new log' programs f levels_last arena_last pool' schedule'.job r has counted,
-            ))
+              installed_moves x frames old top found m may level k.is k.shared k.known new log' programs f levels_last arena_last pool' schedule'.job r has counted,
+              installed_less x frames old top found m may level k.is k.shared k.known new log' programs f levels_last arena_last pool' schedule'.job r has counted,
+            )))

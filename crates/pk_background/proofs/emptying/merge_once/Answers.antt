@@ -1,7 +1,32 @@
 use Rattle.std.proofs.Common.{arith}
 use Rattle.pk_schedule.specs.Index.{index}
-use Rattle.pk_background.{proofs.Inside.some_work, proofs.Inside.merges_once, proofs.MergeTicks.merge_does, proofs.MergeTicks.merge_fails}
+use Rattle.pk_background.{proofs.Inside.MergeStep, proofs.Inside.some_work, proofs.Inside.merges_once, proofs.MergeTicks.merge_does, proofs.MergeTicks.merge_fails}
+use Rattle.pk_background.proofs.emptying.merge_once.Given as given
 use Rattle.pk_background.proofs.emptying.merge_once.Goals as goal
+use Rattle.pk_background.proofs.emptying.merge_once.Goals.{After-step}
+
+-- what the step of the schedule did
+did : (g : given.Over) (c : After-step g)
+    → MergeStep (index c.parts.inside.log c.parts.inside.levels c.parts.inside.arena c.parts.inside.pool c.parts.inside.schedule) (g.B.Nand.state c.args.board.now)
+    (index c.step.new.log c.step.new.levels c.step.new.arena c.step.new.pool c.step.new.self) (g.B.Nand.state c.step.new.board) c.step.result
+did g c =
+    let e = c.step.ensures in
+    record {
+      idle = e.idle;
+      moves = e.moves;
+      less = e.less;
+      active = e.active;
+      running = e.running;
+      unmoved = λ was. ((e.unread was).unmoved, (e.unread was).only);
+      again = λ was. (e.unread was).again;
+      unread = λ was. ((e.unread was).read, (e.unread was).flash);
+      broken = e.broken;
+      sound = e.sound;
+      calls = e.calls.calls;
+      rest = e.calls.rest;
+      installs = e.calls.installs;
+      ready = e.calls.ready;
+    }
 
 pub step-requires-clause-may : goal.step-requires-clause-may
 step-requires-clause-may g c =
@@ -10,26 +35,10 @@ step-requires-clause-may g c =
 
 pub returns-clause-once : goal.returns-clause-once
 returns-clause-once g c =
-    let e = c.step.ensures in
     let may = rw (← c.parts.view_is) at c.requires in
     let x = index c.step.new.log c.step.new.levels c.step.new.arena c.step.new.pool c.step.new.self in
     rw (← c.parts.view_is) (merges_once _ (g.B.Nand.state c.args.board.now) may x (g.B.Nand.state c.step.new.board) c.step.result
-    (record {
-      idle = e.idle;
-      moves = e.moves;
-      less = e.less;
-      active = e.active;
-      running = e.running;
-      unmoved = λ was. ((e.unread was).unmoved, (e.unread was).only);
-      again = λ was. (e.unread was).again;
-      unread = λ was. ((e.unread was).read, (e.unread was).flash);
-      broken = e.broken;
-      sound = e.sound;
-      calls = e.calls.calls;
-      rest = e.calls.rest;
-      installs = e.calls.installs;
-      ready = e.calls.ready;
-    }) c.read_count.ensures.faults (omega (arith, c.read_count.ensures.value, c.read_count.type_inv)))
+    (did g (goal.at.returns-clause-once g c).After-step) c.read_count.ensures.faults (omega (arith, c.read_count.ensures.value, c.read_count.type_inv)))
 
 pub returns-clause-does : goal.returns-clause-does
 returns-clause-does g c =
@@ -37,22 +46,7 @@ returns-clause-does g c =
     let may = rw (← c.parts.view_is) at c.requires in
     let x = index c.step.new.log c.step.new.levels c.step.new.arena c.step.new.pool c.step.new.self in
     rw (← c.parts.view_is) (merge_does _ (g.B.Nand.state c.args.board.now) may x (g.B.Nand.state c.step.new.board) e.same_freeze c.step.result
-    (record {
-      idle = e.idle;
-      moves = e.moves;
-      less = e.less;
-      active = e.active;
-      running = e.running;
-      unmoved = λ was. ((e.unread was).unmoved, (e.unread was).only);
-      again = λ was. (e.unread was).again;
-      unread = λ was. ((e.unread was).read, (e.unread was).flash);
-      broken = e.broken;
-      sound = e.sound;
-      calls = e.calls.calls;
-      rest = e.calls.rest;
-      installs = e.calls.installs;
-      ready = e.calls.ready;
-    }) e.works)
+    (did g (goal.at.returns-clause-does g c).After-step) e.works)
 
 pub returns-clause-fails : goal.returns-clause-fails
 returns-clause-fails g c =
@@ -60,19 +54,4 @@ returns-clause-fails g c =
     let may = rw (← c.parts.view_is) at c.requires in
     let x = index c.step.new.log c.step.new.levels c.step.new.arena c.step.new.pool c.step.new.self in
     rw (← c.parts.view_is) (merge_fails _ (g.B.Nand.state c.args.board.now) may x (g.B.Nand.state c.step.new.board) e.same_freeze c.step.result
-    (record {
-      idle = e.idle;
-      moves = e.moves;
-      less = e.less;
-      active = e.active;
-      running = e.running;
-      unmoved = λ was. ((e.unread was).unmoved, (e.unread was).only);
-      again = λ was. (e.unread was).again;
-      unread = λ was. ((e.unread was).read, (e.unread was).flash);
-      broken = e.broken;
-      sound = e.sound;
-      calls = e.calls.calls;
-      rest = e.calls.rest;
-      installs = e.calls.installs;
-      ready = e.calls.ready;
-    }))
+    (did g (goal.at.returns-clause-fails g c).After-step))
