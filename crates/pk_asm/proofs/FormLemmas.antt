@@ -1,5 +1,5 @@
 -- Named lines and their forms.
-use Rattle.std.proofs.Common.{◌≡◌, ℕ, zero, suc, ◌^◌, ◌<◌, ◌≤◌, Bool, true, false, cond, List, [], ◌∷◌, length, refl, sym, ap, subst, arith, inl, inr, ◌⊎◌, Option, Some, None}
+use Rattle.std.proofs.Common.{◌≡◌, ℕ, zero, suc, ◌^◌, ◌<◌, ◌≤◌, Bool, true, false, cond, List, [], ◌∷◌, length, refl, sym, ap, subst, arith, Option, Some, None}
 use Rattle.std.specs.Prelude.{nat_lt, nat_le, ◌==◌, ◌&&◌, codes, bytes_eq, option_map, option_and_then}
 use Rattle.std.{specs.Str.Parse.digits_value, proofs.lemmas.Bool.and_parts, proofs.lemmas.Bool.Decides.nat_tests}
 use Rattle.pk_base.{specs.Fields.AreBytes, specs.Key.Key, specs.Key.IsKey, specs.Key.bytes_of as bytes_in, specs.Key.space_of}
@@ -33,9 +33,9 @@ IsForm (Tick steps) bytes = (steps < 2 ^ 32) × (bytes ≡ [])
 
 -- ---- what words are read as
 
-pub picked : {A : Type 0} (b : Bool) (x y : Option A) (z : A) → cond b x y ≡ Some z → (x ≡ Some z) ⊎ (y ≡ Some z)
-picked true x y z e = inl e
-picked false x y z e = inr e
+pub picked : {A : Type 0} (P : Type 0) (b : Bool) (x y : Option A) (z : A) → cond b x y ≡ Some z → (x ≡ Some z → P) → (y ≡ Some z → P) → P
+picked P true x y z e one other = one e
+picked P false x y z e one other = other e
 
 pub held : {A : Type 0} (b : Bool) (x : Option A) (z : A) → cond b x None ≡ Some z → (b ≡ true) × (x ≡ Some z)
 held true x z e = (refl, e)
@@ -49,7 +49,7 @@ number_is word n e =
     let below = parts.1 in
     grind (arith, nat_tests)
 
-some_is : {A B : Type 0} (f : A → B) (o : Option A) (y : B) → option_map f o ≡ Some y → (x : A) × (o ≡ Some x) × (f x ≡ y)
+pub some_is : {A B : Type 0} (f : A → B) (o : Option A) (y : B) → option_map f o ≡ Some y → (x : A) × (o ≡ Some x) × (f x ≡ y)
 some_is f (Some x) y e = (x, refl, cc)
 some_is f None y e = cc
 
@@ -68,11 +68,9 @@ both_are f (Some x) None z e = cc
 both_are f None p z e = cc
 
 from_is : (word : List ℕ) (from : Option Key) → from_of word ≡ Some from → IsFrom from
-from_is word from e =
-    elim (picked (bytes_eq word (codes "-")) (Some None) (option_map Some (key_of word)) from e) [
-      | inl none ↦ let same : None ≡ from = cc in subst IsFrom same tt
-      | inr some ↦ let h = some_is Some (key_of word) from some in subst IsFrom h.2 (key_is word h.0 h.1)
-    ]
+from_is word from e = picked (IsFrom from) (bytes_eq word (codes "-")) (Some None) (option_map Some (key_of word)) from e
+    (λ none. let same : None ≡ from = cc in subst IsFrom same tt)
+    (λ some. let h = some_is Some (key_of word) from some in subst IsFrom h.2 (key_is word h.0 h.1))
 
 -- ---- the form of a named line
 
@@ -124,35 +122,20 @@ tick_is (n ∷ x ∷ ws) form e = cc
 plain_is : (name : List ℕ) (ws : List (List ℕ)) (form : Form) → plain_of name ws ≡ Some form → IsForm form []
 unfolding plain_of
 plain_is name ws form e =
-    elim (picked (bytes_eq name (codes "retrieve")) (retrieve_of ws) _ form e) [
-      | inl h ↦ retrieve_is ws form h
-      | inr e1 ↦ elim (picked (bytes_eq name (codes "delete")) (delete_of ws) _ form e1) [
-        | inl h ↦ delete_is ws form h
-        | inr e2 ↦ elim (picked (bytes_eq name (codes "exist")) (exist_of ws) _ form e2) [
-          | inl h ↦ exist_is ws form h
-          | inr e3 ↦ elim (picked (bytes_eq name (codes "list")) (list_form ws) _ form e3) [
-            | inl h ↦ list_is ws form h
-            | inr e4 ↦ elim (picked (bytes_eq name (codes "flush")) (flush_of ws) _ form e4) [
-              | inl h ↦ flush_is ws form h
-              | inr e5 ↦ elim (picked (bytes_eq name (codes "report")) (report_of ws) _ form e5) [
-                | inl h ↦ report_is ws form h
-                | inr e6 ↦ tick_is ws form (held (bytes_eq name (codes "tick")) (tick_of ws) form e6).1
-              ]
-            ]
-          ]
-        ]
-      ]
-    ]
+    let P : Type 0 = IsForm form [] in
+    picked P (bytes_eq name (codes "retrieve")) (retrieve_of ws) _ form e (retrieve_is ws form) (λ e1.
+    picked P (bytes_eq name (codes "delete")) (delete_of ws) _ form e1 (delete_is ws form) (λ e2.
+    picked P (bytes_eq name (codes "exist")) (exist_of ws) _ form e2 (exist_is ws form) (λ e3.
+    picked P (bytes_eq name (codes "list")) (list_form ws) _ form e3 (list_is ws form) (λ e4.
+    picked P (bytes_eq name (codes "flush")) (flush_of ws) _ form e4 (flush_is ws form) (λ e5.
+    picked P (bytes_eq name (codes "report")) (report_of ws) _ form e5 (report_is ws form) (λ e6.
+    tick_is ws form (held (bytes_eq name (codes "tick")) (tick_of ws) form e6).1))))))
 
 options_are : (word : List ℕ) (n : ℕ) → options_of word ≡ Some n → n < 4
 options_are word n e =
-    elim (picked (bytes_eq word (codes "if-exists")) (Some 1) _ n e) [
-      | inl h ↦ let same : 1 ≡ n = cc in omega arith
-      | inr e1 ↦ elim (picked (bytes_eq word (codes "if-absent")) (Some 2) _ n e1) [
-        | inl h ↦ let same : 2 ≡ n = cc in omega arith
-        | inr e2 ↦ let same : 3 ≡ n = let h = (held (bytes_eq word (codes "both")) (Some 3) n e2).1 in cc in omega arith
-      ]
-    ]
+    picked (n < 4) (bytes_eq word (codes "if-exists")) (Some 1) _ n e (λ h. let same : 1 ≡ n = cc in omega arith) (λ e1.
+    picked (n < 4) (bytes_eq word (codes "if-absent")) (Some 2) _ n e1 (λ h. let same : 2 ≡ n = cc in omega arith) (λ e2.
+    let same : 3 ≡ n = let h = (held (bytes_eq word (codes "both")) (Some 3) n e2).1 in cc in omega arith))
 
 store_with_is : (k : Option Key) (b : Option (List ℕ)) (o : Option ℕ) (form : Form) (bytes : List ℕ) → ((key : Key) → k ≡ Some key → IsByteKey key) → ((n : ℕ) → o ≡ Some n → n < 4)
     → length bytes < 2 ^ 32 → store_with k b o ≡ Some (form, bytes) → IsForm form bytes
@@ -184,13 +167,9 @@ bare_is (Some f) form bytes e =
 bare_is None form bytes e = cc
 
 pub named_is : (name : List ℕ) (ws : List (List ℕ)) (form : Form) (bytes : List ℕ) → length bytes < 2 ^ 32 → named_of name ws ≡ Some (form, bytes) → IsForm form bytes
-named_is name ws form bytes few e =
-    elim (picked (bytes_eq name (codes "store")) (store_of ws) _ (form, bytes) e) [
-      | inl h ↦ store_is ws form bytes few h
-      | inr h ↦
-          let bare = bare_is (plain_of name ws) form bytes h in
-          subst (λ xs. IsForm form xs) bare.1 (plain_is name ws form bare.0)
-    ]
+named_is name ws form bytes few e = picked (IsForm form bytes) (bytes_eq name (codes "store")) (store_of ws) _ (form, bytes) e (store_is ws form bytes few) (λ h.
+    let bare = bare_is (plain_of name ws) form bytes h in
+    subst (λ xs. IsForm form xs) bare.1 (plain_is name ws form bare.0))
 
 -- ---- the named line of a form
 

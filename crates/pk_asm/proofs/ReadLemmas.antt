@@ -1,12 +1,13 @@
 -- The fields of an entry that a form gives, read again.
-use Rattle.std.proofs.Common.{◌≡◌, ℕ, zero, suc, ◌+◌, ◌-◌, ◌%◌, ◌^◌, ◌<◌, ◌≤◌, Bool, true, false, cond, List, [], ◌∷◌, ◌++◌, length, take, drop, refl, sym, ap, ◌∙◌, subst, arith, inl, inr, Option}
-use Rattle.std.proofs.Common.{Some, None, length-append, length-drop}
-use Rattle.std.{specs.Prelude.nat_le, specs.Prelude.◌==◌, specs.Prelude.◌&&◌, specs.Prelude.not, specs.Prelude.option_map, proofs.lemmas.Bool.and_parts, proofs.lemmas.Bool.Decides.nat_tests}
+use Rattle.std.proofs.Common.{◌≡◌, ℕ, zero, suc, ◌+◌, ◌-◌, ◌%◌, ◌^◌, ◌<◌, ◌≤◌, Bool, true, false, cond, List, [], ◌∷◌, ◌++◌, length, take, drop, refl, sym, ap, ◌∙◌, subst, arith, Option, Some, None}
+use Rattle.std.proofs.Common.{length-append, length-drop}
 use Rattle.std.proofs.lemmas.List.{take_at, take_all, take-append-drop, length-take-le, get_or-drop}
+use Rattle.std.{specs.Prelude.nat_le, specs.Prelude.◌==◌, specs.Prelude.◌&&◌, specs.Prelude.not, specs.Prelude.option_map, proofs.lemmas.Bool.and_parts, proofs.lemmas.Bool.Decides.nat_tests}
 use Rattle.pk_base.{specs.Fields.AreBytes, specs.Fields.padded, specs.Fields.zeros, specs.Fields.u16, specs.Fields.u32, specs.Key.Key, specs.Key.IsKey, specs.Key.bytes_of, specs.Key.space_of}
 use Rattle.pk_base.proofs.Tables.{spelled_stand, stands_byte, stands_number, length-padded, number_fits, ◌⊕◌}
 use Rattle.pk_nvme.specs.Command.{Command, command}
-use Rattle.pk_asm.{specs.Form.entry_with, specs.Form.form_entry, specs.declared.form.Form.Form, proofs.FormLemmas.IsByteKey, proofs.FormLemmas.IsForm, proofs.FormLemmas.picked, proofs.FormLemmas.held}
+use Rattle.pk_asm.{specs.Form.entry_with, specs.Form.form_entry, specs.declared.form.Form.Form}
+use Rattle.pk_asm.proofs.FormLemmas.{IsByteKey, IsForm, picked, held, some_is}
 use Rattle.pk_asm.specs.Printed.{candidate, key_at, store_candidate, retrieve_candidate, delete_candidate, exist_candidate, list_candidate}
 use Rattle.pk_asm.specs.declared.form.Form.TheVariants.{Store, Retrieve, Delete, Exist, ListFrom, Flush, Report, Tick}
 use Rattle.pk_asm.proofs.TextLemmas.{in_first}
@@ -137,20 +138,15 @@ unheld : {A : Type 0} (b : Bool) (y : Option A) (z : A) → cond b None y ≡ So
 unheld true y z e = cc
 unheld false y z e = (refl, e)
 
-mapped : {A : Type 0} (f : A → Form) (o : Option A) (form : Form) → option_map f o ≡ Some form → (x : A) × (o ≡ Some x) × (f x ≡ form)
-mapped f (Some x) form e = (x, refl, cc)
-mapped f None form e = cc
-
 no_bytes : (bytes : List ℕ) → not (length bytes == 0) ≡ false → bytes ≡ []
 no_bytes [] e = refl
 no_bytes (x ∷ xs) e = let some : (suc (length xs) == 0) ≡ false = grind (arith, nat_tests) in cc
 
 list_candidate_is : (key_len : ℕ) (place : List ℕ) (size : ℕ) (form : Form) → length place ≡ 16 → AreBytes place → size < 2 ^ 32 → list_candidate key_len place size ≡ Some form → IsForm form []
 list_candidate_is key_len place size form full fits small is =
-    elim (picked (key_len == 0) (Some (ListFrom None size)) (option_map (λ k. ListFrom (Some k) size) (key_at key_len place)) form is) [
-      | inl h ↦ let same : ListFrom None size ≡ form = cc in subst (λ f. IsForm f []) same (tt, small, refl)
-      | inr h ↦ let m = mapped (λ k. ListFrom (Some k) size) (key_at key_len place) form h in subst (λ f. IsForm f []) m.2 (key_at_is key_len place m.0 full fits m.1, small, refl)
-    ]
+    picked (IsForm form []) (key_len == 0) (Some (ListFrom None size)) (option_map (λ k. ListFrom (Some k) size) (key_at key_len place)) form is
+    (λ h. let same : ListFrom None size ≡ form = cc in subst (λ f. IsForm f []) same (tt, small, refl))
+    (λ h. let m = some_is (λ k. ListFrom (Some k) size) (key_at key_len place) form h in subst (λ f. IsForm f []) m.2 (key_at_is key_len place m.0 full fits m.1, small, refl))
 
 plain_candidate : (opcode key_len : ℕ) (place : List ℕ) (size : ℕ) (form : Form) → length place ≡ 16 → AreBytes place → size < 2 ^ 32
     → cond (opcode == 0x02) (retrieve_candidate key_len place size)
@@ -160,25 +156,18 @@ plain_candidate : (opcode key_len : ℕ) (place : List ℕ) (size : ℕ) (form :
     (cond (opcode == 0x00) (Some Flush) (cond (opcode == 0xC2) (Some Report) (cond (opcode == 0xC0) (Some (Tick size)) None)))))) ≡ Some form
     → IsForm form []
 plain_candidate opcode key_len place size form full fits small is =
-    elim (picked (opcode == 0x02) (retrieve_candidate key_len place size) _ form is) [
-      | inl h ↦ let m = mapped (λ k. Retrieve k size) (key_at key_len place) form h in subst (λ f. IsForm f []) m.2 (key_at_is key_len place m.0 full fits m.1, small, refl)
-      | inr e1 ↦ elim (picked (opcode == 0x10) (delete_candidate key_len place) _ form e1) [
-        | inl h ↦ let m = mapped Delete (key_at key_len place) form h in subst (λ f. IsForm f []) m.2 (key_at_is key_len place m.0 full fits m.1, refl)
-        | inr e2 ↦ elim (picked (opcode == 0x14) (exist_candidate key_len place) _ form e2) [
-          | inl h ↦ let m = mapped Exist (key_at key_len place) form h in subst (λ f. IsForm f []) m.2 (key_at_is key_len place m.0 full fits m.1, refl)
-          | inr e3 ↦ elim (picked (opcode == 0x06) (list_candidate key_len place size) _ form e3) [
-            | inl h ↦ list_candidate_is key_len place size form full fits small h
-            | inr e4 ↦ elim (picked (opcode == 0x00) (Some Flush) _ form e4) [
-              | inl h ↦ let same : Flush ≡ form = cc in subst (λ f. IsForm f []) same refl
-              | inr e5 ↦ elim (picked (opcode == 0xC2) (Some Report) _ form e5) [
-                | inl h ↦ let same : Report ≡ form = cc in subst (λ f. IsForm f []) same refl
-                | inr e6 ↦ let h = (held (opcode == 0xC0) (Some (Tick size)) form e6).1 in let same : Tick size ≡ form = cc in subst (λ f. IsForm f []) same (small, refl)
-              ]
-            ]
-          ]
-        ]
-      ]
-    ]
+    let P : Type 0 = IsForm form [] in
+    let key_of : (key : Key) → key_at key_len place ≡ Some key → IsByteKey key = λ key h. key_at_is key_len place key full fits h in
+    picked P (opcode == 0x02) (retrieve_candidate key_len place size) _ form is
+    (λ h. let m = some_is (λ k. Retrieve k size) (key_at key_len place) form h in subst (λ f. IsForm f []) m.2 (key_of m.0 m.1, small, refl)) (λ e1.
+    picked P (opcode == 0x10) (delete_candidate key_len place) _ form e1
+    (λ h. let m = some_is Delete (key_at key_len place) form h in subst (λ f. IsForm f []) m.2 (key_of m.0 m.1, refl)) (λ e2.
+    picked P (opcode == 0x14) (exist_candidate key_len place) _ form e2
+    (λ h. let m = some_is Exist (key_at key_len place) form h in subst (λ f. IsForm f []) m.2 (key_of m.0 m.1, refl)) (λ e3.
+    picked P (opcode == 0x06) (list_candidate key_len place size) _ form e3 (list_candidate_is key_len place size form full fits small) (λ e4.
+    picked P (opcode == 0x00) (Some Flush) _ form e4 (λ h. let same : Flush ≡ form = cc in subst (λ f. IsForm f []) same refl) (λ e5.
+    picked P (opcode == 0xC2) (Some Report) _ form e5 (λ h. let same : Report ≡ form = cc in subst (λ f. IsForm f []) same refl) (λ e6.
+    let h = (held (opcode == 0xC0) (Some (Tick size)) form e6).1 in let same : Tick size ≡ form = cc in subst (λ f. IsForm f []) same (small, refl)))))))
 
 pub candidate_is : (e bytes : List ℕ) (form : Form) → length e ≡ 64 → AreBytes e → candidate (command e bytes) ≡ Some form → IsForm form bytes
 unfolding candidate
@@ -188,15 +177,14 @@ candidate_is e bytes form sized fits is =
     let full : length place ≡ 16 = place_size e sized in
     let of_bytes : AreBytes place = bytes_append (take 8 (drop 8 e)) (take 8 (drop 56 e)) (bytes_take 8 (drop 8 e) (bytes_drop 8 e fits)) (bytes_take 8 (drop 56 e) (bytes_drop 56 e fits)) in
     let small : c.size < 2 ^ 32 = number_fits 4 40 e fits in
-    elim (picked (c.opcode == 0x01) (store_candidate c.key_len place c.size c.options (length bytes)) _ form is) [
-      | inl s ↦
-          let h = held (c.size == length bytes && nat_le c.options 3) (option_map (λ k. Store k c.size c.options) (key_at c.key_len place)) form s in
-          let parts = and_parts (c.size == length bytes) (nat_le c.options 3) h.0 in
-          let m = mapped (λ k. Store k c.size c.options) (key_at c.key_len place) form h.1 in
-          let same : c.size ≡ length bytes = let t = parts.0 in grind (arith, nat_tests) in
-          let few : c.options < 4 = let t = parts.1 in grind (arith, nat_tests) in
-          subst (λ f. IsForm f bytes) m.2 (key_at_is c.key_len place m.0 full of_bytes m.1, same, small, few)
-      | inr more ↦
-          let rest = unheld (not (length bytes == 0)) _ form more in
-          subst (λ xs. IsForm form xs) (sym (no_bytes bytes rest.0)) (plain_candidate c.opcode c.key_len place c.size form full of_bytes small rest.1)
-    ]
+    picked (IsForm form bytes) (c.opcode == 0x01) (store_candidate c.key_len place c.size c.options (length bytes)) _ form is
+    (λ s.
+    let h = held (c.size == length bytes && nat_le c.options 3) (option_map (λ k. Store k c.size c.options) (key_at c.key_len place)) form s in
+    let parts = and_parts (c.size == length bytes) (nat_le c.options 3) h.0 in
+    let m = some_is (λ k. Store k c.size c.options) (key_at c.key_len place) form h.1 in
+    let same : c.size ≡ length bytes = let t = parts.0 in grind (arith, nat_tests) in
+    let few : c.options < 4 = let t = parts.1 in grind (arith, nat_tests) in
+    subst (λ f. IsForm f bytes) m.2 (key_at_is c.key_len place m.0 full of_bytes m.1, same, small, few))
+    (λ more.
+    let rest = unheld (not (length bytes == 0)) _ form more in
+    subst (λ xs. IsForm form xs) (sym (no_bytes bytes rest.0)) (plain_candidate c.opcode c.key_len place c.size form full of_bytes small rest.1))

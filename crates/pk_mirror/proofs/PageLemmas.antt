@@ -5,15 +5,15 @@ use Rattle.std.{proofs.lemmas.Bool.ltb-true, specs.List.AllByRecursion, specs.Or
 use Rattle.pk_base.{specs.Key.Key, specs.Key.IsKey, specs.Key.IsBelow, specs.Key.key_cmp, specs.Key.bytes_of, specs.Map.Map}
 use Rattle.pk_nvme.specs.Command.{Command, key_or_none}
 use Rattle.pk_host.{specs.declared.types.HostError.HostError, specs.declared.types.HostError.TheVariants.Refused as HostRefused, specs.declared.types.HostError.TheVariants.Port as HostPort}
-use Rattle.pk_host.{specs.Port.PortState, specs.Port.Took, specs.Outcomes.Gives, specs.Outcomes.TookSome, proofs.PageLemmas.next_page, proofs.PageLemmas.nothing_above, specs.Calls.IsOwnKey}
+use Rattle.pk_host.{specs.Port.PortState, specs.Port.Took, specs.Outcomes.Gives, proofs.PageLemmas.next_page, proofs.PageLemmas.nothing_above, specs.Calls.IsOwnKey}
 use Rattle.pk_host.specs.Listing.{above, page_after, Pages, Follows, TellsKeys, listed_by}
 use Rattle.pk_host.proofs.RisingLemmas.{are_above, all_middle, snoc_of}
-use Rattle.pk_mirror.{specs.Ranks.IsText, specs.Ranks.keys_left, specs.declared.error.MirrorError.MirrorError, specs.Pair.Mirrored, specs.Pair.IsPair, specs.Causes.AreAsking, specs.Causes.IsReadError}
-use Rattle.pk_mirror.{specs.Agreement.NoOther, specs.Agreement.HaveSame, specs.Agreement.AreAny, specs.Agreement.IsPart, specs.Spending.Spent, proofs.MapLemmas.key_of, proofs.MapLemmas.same_by_keys}
+use Rattle.pk_mirror.{specs.Ranks.IsText, specs.Ranks.keys_left, specs.declared.error.MirrorError.MirrorError, specs.Pair.Mirrored, specs.Pair.IsPair, specs.Causes.IsReadError}
+use Rattle.pk_mirror.{specs.Agreement.NoOther, specs.Agreement.HaveSame, specs.Agreement.AreAny, specs.Agreement.IsPart, specs.Progress.Progress, proofs.MapLemmas.key_of, proofs.MapLemmas.same_by_keys}
 use Rattle.pk_mirror.specs.Visits.{Visits, VisitsAll, VisitsUpTo, IsUpTo, Turns, OnlyReadsFail}
-use Rattle.pk_mirror.{proofs.PairLemmas.by_map, proofs.PairLemmas.none_tells, proofs.PairLemmas.other_tells, proofs.PairLemmas.still_pair, proofs.SpendLemmas.spent_none, proofs.SpendLemmas.took_spent}
-use Rattle.pk_mirror.proofs.VisitLemmas.{all_map, all_append, asking_none, asking_more}
+use Rattle.pk_mirror.proofs.VisitLemmas.{all_map, all_append, TakesBoth, goes_on, no_progress}
 use Rattle.pk_mirror.proofs.RankLemmas.{after_first, after_key}
+use Rattle.pk_mirror.{proofs.PairLemmas.by_map, proofs.PairLemmas.none_tells, proofs.PairLemmas.other_tells, proofs.PairLemmas.still_pair}
 
 -- ---- lists of keys
 
@@ -143,47 +143,29 @@ module _ (Keeps : Map → Map → Type 0) (Done : Map → Map → Key → Type 0
   turned_all first1 second1 second' last same h g a b ea eb keeps =
       let (b1, e1, k1, up) = h a b ea eb keeps in g a b1 (same ∙ ea) e1 k1 up
 
-module _ (Keeps : Map → Map → Type 0) (Done : Map → Map → Key → Type 0) (room : Map → Map → ℕ) (opcode : ℕ) {P Q : Type 0}
-    (stateP : P → PortState) (tookP : P → List Command → P → Type 0) (stateQ : Q → PortState) (tookQ : Q → List Command → Q → Type 0) where
+module _ {P Q : Type 0} (stateP : P → PortState) (tookP : P → List Command → P → Type 0) (stateQ : Q → PortState) (tookQ : Q → List Command → Q → Type 0)
+    (Keeps : Map → Map → Type 0) (room : Map → Map → ℕ) (opcode : ℕ) (Done : Map → Map → Key → Type 0) where
   -- All keys up to the last were visited, from two ports on to two others.
   pub record IsTurning (first first' : P) (second second' : Q) (last : Option Key) : Type 0 where
-    pub took_first : TookSome tookP AreAsking first first'
-    pub took_second : TookSome tookQ (Spent Keeps room opcode (stateP first) (stateQ second) (stateQ second')) second second'
-    pub same : (stateP first').map ≡ (stateP first).map
+    pub progress : Progress stateP tookP stateQ tookQ Keeps room opcode first first' second second'
     pub visits : VisitsUpTo Keeps Done (stateP first) (stateQ second) (stateQ second') last
     pub text : (k : Key) → last ≡ Some k → IsText k
 
   pub turning_begins : (first : P) (second : Q) → tookP first [] first → tookQ second [] second → IsTurning first first second second None
   turning_begins first second p q = record {
-    took_first = asking_none tookP first p;
-    took_second = ([], spent_none Keeps room opcode (stateP first) (stateQ second), q);
-    same = refl;
+    progress = no_progress stateP tookP stateQ tookQ Keeps room opcode first second p q;
     visits = turned_none Keeps Done (stateP first) (stateQ second);
     text = λ k e. absurd (let clash : ◌≡◌ {A = Option Key} None (Some k) = e in cc);
   }
 
-  -- the result of the pages so far on the second
-  pub turning_keeps : (first first' : P) (second second' : Q) (last : Option Key) → IsTurning first first' second second' last
-      → (a b : Map) → (stateP first).map ≡ Some a → (stateQ second).map ≡ Some b → Keeps a b → (b' : Map) × ((stateQ second').map ≡ Some b') × Keeps a b'
-  turning_keeps first first' second second' last h a b ea eb keeps = let (b', e, k, up) = h.visits a b ea eb keeps in (b', e, k)
-
-  pub turning_goes : ((p : P) (cs : List Command) (q : P) (ds : List Command) (r : P) → tookP p cs q → tookP q ds r → tookP p (cs ++ ds) r)
-      → ((p : Q) (cs : List Command) (q : Q) (ds : List Command) (r : Q) → tookQ p cs q → tookQ q ds r → tookQ p (cs ++ ds) r)
-      → (first mid first' : P) (second halfway second' : Q) (last : Option Key) (next : Key) → IsTurning first mid second halfway last → TookSome tookP AreAsking mid first'
-      → TookSome tookQ (Spent Keeps room opcode (stateP mid) (stateQ halfway) (stateQ second')) halfway second'
-      → (stateP first').map ≡ (stateP mid).map → Turns Keeps Done (stateP mid) (stateQ halfway) (stateQ second') last (Some next) → IsText next → IsTurning first first' second second' (Some next)
-  turning_goes bothP bothQ first mid first' second halfway second' last next h p q same turns text = record {
-    took_first = asking_more tookP bothP first mid first' h.took_first p;
-    took_second = took_spent Keeps room opcode stateQ tookQ bothQ (stateP first) (stateP mid) second halfway second' h.same (turning_keeps first mid second halfway last h) h.took_second q;
-    same = same ∙ h.same;
-    visits = turned_more Keeps Done (stateP first) (stateQ second) (stateP mid) (stateQ halfway) (stateQ second') last next h.same h.visits turns;
+  pub turning_goes : TakesBoth tookP → TakesBoth tookQ → (first mid first' : P) (second halfway second' : Q) (last : Option Key) (next : Key)
+      → IsTurning first mid second halfway last → Progress stateP tookP stateQ tookQ Keeps room opcode mid first' halfway second'
+      → Turns Keeps Done (stateP mid) (stateQ halfway) (stateQ second') last (Some next) → IsText next → IsTurning first first' second second' (Some next)
+  turning_goes bothP bothQ first mid first' second halfway second' last next h g turns text = record {
+    progress = goes_on bothP bothQ first mid first' second halfway second' h.progress g;
+    visits = turned_more Keeps Done (stateP first) (stateQ second) (stateP mid) (stateQ halfway) (stateQ second') last next h.progress.same h.visits turns;
     text = λ k e. subst IsText (let is : next ≡ k = cc in is) text;
   }
-
-  -- a failure after the pages
-  pub turning_fails : (first mid : P) (second halfway : Q) (last : Option Key) (e : MirrorError) → IsTurning first mid second halfway last
-      → OnlyReadsFail Keeps (stateP mid) (stateQ halfway) e → OnlyReadsFail Keeps (stateP first) (stateQ second) e
-  turning_fails first mid second halfway last e h fails a b ea eb keeps = let (b1, e1, k1, up) = h.visits a b ea eb keeps in fails a b1 (h.same ∙ ea) e1 k1
 
 -- ---- places of pages
 

@@ -25,7 +25,7 @@ count_both opcode [] ds = omega arith
 count_both opcode (c ∷ cs) ds = let e = count_both opcode cs ds in omega (arith, e)
 
 -- these commands have another opcode
-abbrev IsOther : ℕ → Command → Type 0
+abbrev pub IsOther : ℕ → Command → Type 0
 IsOther opcode c = (c.opcode == opcode) ≡ false
 
 one_if : Bool → ℕ
@@ -59,10 +59,10 @@ no_delete c (inr e) = ap (λ (n : ℕ). n == DELETE) e
 
 -- ---- maps
 
-pub maps_between : PortState → PortState → Type 0
+maps_between : PortState → PortState → Type 0
 maps_between old new = (m : Map) → old.map ≡ Some m → (m' : Map) × (new.map ≡ Some m')
 
-pub between : (old new : PortState) (cs : List Command) → Took old new cs → maps_between old new
+between : (old new : PortState) (cs : List Command) → Took old new cs → maps_between old new
 unfolding maps_between
 between old new cs t m e = let (m', told, by) = t.told m e in (m', told)
 
@@ -108,7 +108,7 @@ module _ (Keeps : Map → Map → Type 0) (room : Map → Map → ℕ) (opcode :
         omega (arith, none, one);
   }
 
-  pub spent_more : (first first1 second second1 second' : PortState) (cs ds : List Command) → first1.map ≡ first.map → Goes first second second1 → Spent Keeps room opcode first second second1 cs
+  spent_more : (first first1 second second1 second' : PortState) (cs ds : List Command) → first1.map ≡ first.map → Goes first second second1 → Spent Keeps room opcode first second second1 cs
       → Spent Keeps room opcode first1 second1 second' ds → Spent Keeps room opcode first second second' (cs ++ ds)
   spent_more first first1 second second1 second' cs ds same goes h g = record {
     only = both_only (LooksOr opcode) cs ds h.only g.only;
@@ -120,7 +120,7 @@ module _ (Keeps : Map → Map → Type 0) (room : Map → Map → ℕ) (opcode :
         omega (arith, one, two, sum);
   }
 
-  pub spending_more : (first first1 second second1 : PortState) (cs ds : List Command) → first1.map ≡ first.map → Goes first second second1 → Spent Keeps room opcode first second second1 cs
+  spending_more : (first first1 second second1 : PortState) (cs ds : List Command) → first1.map ≡ first.map → Goes first second second1 → Spent Keeps room opcode first second second1 cs
       → Spending Keeps room opcode first1 second1 ds → Spending Keeps room opcode first second (cs ++ ds)
   spending_more first first1 second second1 cs ds same goes h g = record {
     only = both_only (LooksOr opcode) cs ds h.only g.only;
@@ -132,7 +132,7 @@ module _ (Keeps : Map → Map → Type 0) (room : Map → Map → ℕ) (opcode :
         omega (arith, one, two, sum);
   }
 
-  pub spending_spent : (first second second' : PortState) (cs : List Command) → maps_between second second'
+  spending_spent : (first second second' : PortState) (cs : List Command) → maps_between second second'
       → Spent Keeps room opcode first second second' cs → Spending Keeps room opcode first second cs
   unfolding maps_between
   spending_spent first second second' cs to h = record {
@@ -163,14 +163,6 @@ module _ (Keeps : Map → Map → Type 0) (room : Map → Map → ℕ) (opcode :
     pub took_spending : TookSome took (Spending Keeps room opcode first1 (state q)) q r → TookSome took (Spending Keeps room opcode first (state p)) p r
     took_spending g = (h.0 ++ g.0, spending_more first first1 (state p) (state q) h.0 g.0 same goes h.1 g.1, both p h.0 q g.0 r h.2 g.2)
 
-  -- from another state of the first drive that has the same map
-  module _ {Q : Type 0} (state : Q → PortState) (took : Q → List Command → Q → Type 0) (first first1 : PortState) (p q : Q) (same : first1.map ≡ first.map) where
-    pub moved_first : TookSome took (Spending Keeps room opcode first1 (state p)) p q → TookSome took (Spending Keeps room opcode first (state p)) p q
-    moved_first h = (h.0, record { only = h.1.only; most = λ a b ea eb keeps. h.1.most a b (same ∙ ea) eb keeps }, h.2)
-
-    pub moved_first_spent : TookSome took (Spent Keeps room opcode first1 (state p) (state q)) p q → TookSome took (Spent Keeps room opcode first (state p) (state q)) p q
-    moved_first_spent h = (h.0, record { only = h.1.only; left = λ a b b' ea eb eb' keeps. h.1.left a b b' (same ∙ ea) eb eb' keeps }, h.2)
-
 -- a phase that goes on keeps what it keeps
 pub goes_same : (Keeps : Map → Map → Type 0) (first second second' : PortState) → second'.map ≡ second.map → (a b : Map)
     → first.map ≡ Some a → second.map ≡ Some b → Keeps a b → (b' : Map) × (second'.map ≡ Some b') × Keeps a b'
@@ -181,9 +173,6 @@ pub goes_visits : (Keeps : Map → Map → Type 0) (Done : Map → Map → Key �
 goes_visits Keeps Done first second second' keys h a b ea eb keeps = let (b', e, v) = h a b ea eb keeps in (b', e, v.keeps)
 
 -- ---- one change
-
-pub asking_looks : (cs : List Command) → AreAsking cs → AllByRecursion OnlyLooks cs
-asking_looks cs h = only_map OnlyAsks OnlyLooks (λ c a. inl a) cs h
 
 -- the value that was found is one of a key that the drive has
 pub found_there : (q : PortState) (k : Key) (len : ℕ) (into : List ℕ) → Fetches q k (Some len) into → (b : Map) → q.map ≡ Some b → contains_key b k ≡ true
@@ -232,7 +221,7 @@ found_has p k len into f a b q ea eb = let (v, ev, front) = found_some (get a k)
 
 -- ---- both phases
 
-pub goes_all : (first second second1 : PortState) → VisitsAll AreAny NoOther first second second1
+goes_all : (first second second1 : PortState) → VisitsAll AreAny NoOther first second second1
     → (a b : Map) → first.map ≡ Some a → second.map ≡ Some b → (b1 : Map) × (second1.map ≡ Some b1) × IsPart a b1
 goes_all first second second1 h a b ea eb = let (b1, e1, k1, part) = h a b ea eb tt in (b1, e1, part)
 
@@ -246,7 +235,7 @@ of_store : (c : Command) → LooksOr STORE c → OfResync c
 of_store c (inl looks) = inl (inl looks)
 of_store c (inr e) = inr e
 
-pub resync_both : (first first1 second second1 : PortState) → first1.map ≡ first.map → ((a b : Map) → first.map ≡ Some a → second.map ≡ Some b → (b1 : Map) × (second1.map ≡ Some b1) × IsPart a b1)
+resync_both : (first first1 second second1 : PortState) → first1.map ≡ first.map → ((a b : Map) → first.map ≡ Some a → second.map ≡ Some b → (b1 : Map) × (second1.map ≡ Some b1) × IsPart a b1)
     → (cs ds : List Command) → Deleting first second cs → Storing first1 second1 ds → AreOfResync first second (cs ++ ds)
 resync_both first first1 second second1 same goes cs ds h g = record {
   only = both_only OfResync cs ds (only_map (LooksOr DELETE) OfResync of_delete cs h.only) (only_map (LooksOr STORE) OfResync of_store ds g.only);
@@ -269,3 +258,11 @@ resync_first first second cs h = record {
   deletes = λ a b ea eb. h.most a b ea eb tt;
   stores = λ a b ea eb. let none = count_none STORE cs (only_map (LooksOr DELETE) (IsOther STORE) no_store cs h.only) in omega (arith, none);
 }
+
+-- what both phases asked of the second
+pub resync_took : {Q : Type 0} (state : Q → PortState) (took : Q → List Command → Q → Type 0)
+    → ((p : Q) (cs : List Command) (q : Q) (ds : List Command) (r : Q) → took p cs q → took q ds r → took p (cs ++ ds) r) → (first first1 : PortState) (p q r : Q)
+    → first1.map ≡ first.map → VisitsAll AreAny NoOther first (state p) (state q)
+    → TookSome took (Deleting first (state p)) p q → TookSome took (Storing first1 (state q)) q r → TookSome took (AreOfResync first (state p)) p r
+resync_took state took both first first1 p q r same all h g =
+    (h.0 ++ g.0, resync_both first first1 (state p) (state q) same (goes_all first (state p) (state q) all) h.0 g.0 h.1 g.1, both p h.0 q g.0 r h.2 g.2)

@@ -1,13 +1,14 @@
 -- One visit after another.
-use Rattle.std.proofs.Common.{◌≡◌, ◌≢◌, ℕ, List, [], ◌∷◌, ◌++◌, Some, Result, Err, refl, sym, subst, ◌∙◌}
+use Rattle.std.proofs.Common.{◌≡◌, ◌≢◌, ℕ, List, [], ◌∷◌, ◌++◌, Result, Ok, Err, OnOk, IfErr, refl, sym, subst, ◌∙◌}
 use Rattle.std.specs.List.{AllByRecursion}
 use Rattle.pk_base.{specs.Key.Key, specs.Map.Map}
 use Rattle.pk_nvme.specs.Command.{Command}
 use Rattle.pk_host.{specs.Port.PortState, specs.Port.Took, specs.TookLaws.took_both, specs.Outcomes.TookSome}
-use Rattle.pk_mirror.{specs.declared.error.Side.TheVariants.First, specs.declared.error.Side.TheVariants.Second, specs.declared.error.MirrorError.MirrorError, specs.Spending.Spent}
+use Rattle.pk_mirror.{specs.declared.error.Side.TheVariants.First, specs.declared.error.Side.TheVariants.Second, specs.declared.error.MirrorError.MirrorError, specs.Spending.Spending, specs.Spending.OnlyLooks, specs.Progress.Looked, specs.Progress.Progress, specs.Progress.Failure}
 use Rattle.pk_mirror.specs.declared.error.MirrorError.TheVariants.{Refused, Port, Split}
+use Rattle.pk_mirror.proofs.SpendLemmas.{IsOther, spent_none, spent_looks, spending_looks, took_spent, took_spending, took_settled, goes_same}
 use Rattle.pk_mirror.{specs.Causes.RefusedBy, specs.Causes.IsCause, specs.Causes.OnlyAsks, specs.Causes.AreAsking, specs.Causes.NotEmpty, specs.Visits.Visits, specs.Visits.OnlyReadsFail}
-use Rattle.pk_mirror.{proofs.PairLemmas.rose_later, proofs.SpendLemmas.spent_none, proofs.SpendLemmas.took_spent, proofs.SpendLemmas.goes_visits}
+use Rattle.pk_mirror.{proofs.PairLemmas.rose_later}
 
 pub all_map : (P Q : Key → Type 0) → ((k : Key) → P k → Q k) → (ks : List Key) → AllByRecursion P ks → AllByRecursion Q ks
 all_map P Q f [] h = tt
@@ -37,16 +38,6 @@ module _ (Keeps : Map → Map → Type 0) (Done : Map → Map → Key → Type 0
           still = λ k d. w.2.still k (v.2.still k d);
         },
       )
-
-  -- a failure after visits
-  pub fails_later : (first first1 second second1 : PortState) (ks : List Key) (e : MirrorError) → first1.map ≡ first.map
-      → Visits Keeps Done first second second1 ks → OnlyReadsFail Keeps first1 second1 e → OnlyReadsFail Keeps first second e
-  fails_later first first1 second second1 ks e same h g a b ea eb keeps = let v = h a b ea eb keeps in g a v.0 (same ∙ ea) v.1 v.2.keeps
-
--- a failure if nothing was done to the maps before
-pub fails_kept : (Keeps : Map → Map → Type 0) (first first1 second second1 : PortState) (e : MirrorError)
-    → first1.map ≡ first.map → second1.map ≡ second.map → OnlyReadsFail Keeps first1 second1 e → OnlyReadsFail Keeps first second e
-fails_kept Keeps first first1 second second1 e same too g a b ea eb keeps = g a b (same ∙ ea) (too ∙ eb) keeps
 
 -- ---- causes
 
@@ -119,45 +110,102 @@ module _ {P : Type 0} (took : P → List Command → P → Type 0) (both : (p : 
   pub asked_later : (p q r : P) (cs : List Command) → took p cs q → TookSome took NotEmpty q r → TookSome took NotEmpty p r
   asked_later p q r cs h g = (cs ++ g.0, then_some cs g.0 g.1, both p cs q g.0 r h g.2)
 
+-- ---- how far a resync has come
+
+-- the commands of one call and of the next are those of both
+abbrev pub TakesBoth : {P : Type 0} → (P → List Command → P → Type 0) → Type 0
+TakesBoth {P} took = (p : P) (cs : List Command) (q : P) (ds : List Command) (r : P) → took p cs q → took q ds r → took p (cs ++ ds) r
+
+abbrev pub TellsTook : {P : Type 0} → (P → PortState) → (P → List Command → P → Type 0) → Type 0
+TellsTook {P} state took = (p : P) (cs : List Command) (q : P) → took p cs q → Took (state p) (state q) cs
+
+module _ {P Q : Type 0} {stateP : P → PortState} {tookP : P → List Command → P → Type 0} {stateQ : Q → PortState} {tookQ : Q → List Command → Q → Type 0}
+    {Keeps : Map → Map → Type 0} {room : Map → Map → ℕ} {opcode : ℕ} where
+  -- after a look at both
+  module _ (other : (c : Command) → OnlyLooks c → IsOther opcode c) (first first' : P) (second second' : Q) (h : Looked stateP tookP stateQ tookQ first first' second second') where
+    pub looked_goes : Progress stateP tookP stateQ tookQ Keeps room opcode first first' second second'
+    looked_goes = record {
+      took_first = h.took_first;
+      took_second = (
+        h.took_second.0,
+        spent_looks Keeps room opcode other (stateP first) (stateQ second) (stateQ second') h.took_second.0 h.took_second.1 h.second_keeps,
+        h.took_second.2,
+      );
+      same = h.first_keeps;
+      goes = goes_same Keeps (stateP first) (stateQ second) (stateQ second') h.second_keeps;
+    }
+
+    pub looked_fails : (e : MirrorError) → IsCause (stateP first) (stateP first') (stateQ second) (stateQ second') e
+        → OnlyReadsFail Keeps (stateP first) (stateQ second) e → Failure stateP tookP stateQ tookQ Keeps room opcode first first' second second' e
+    looked_fails e causes unread = record {
+      took_first = h.took_first;
+      took_second = (h.took_second.0, spending_looks Keeps room opcode other (stateP first) (stateQ second) h.took_second.0 h.took_second.1, h.took_second.2);
+      same = h.first_keeps;
+      causes = causes;
+      unread = unread;
+    }
+
+  -- after a part of the phase
+  module _ (bothP : TakesBoth tookP) (bothQ : TakesBoth tookQ) (first mid first' : P) (second halfway second' : Q)
+      (h : Progress stateP tookP stateQ tookQ Keeps room opcode first mid second halfway) where
+    pub goes_on : Progress stateP tookP stateQ tookQ Keeps room opcode mid first' halfway second' → Progress stateP tookP stateQ tookQ Keeps room opcode first first' second second'
+    goes_on g = record {
+      took_first = asking_more tookP bothP first mid first' h.took_first g.took_first;
+      took_second = took_spent Keeps room opcode stateQ tookQ bothQ (stateP first) (stateP mid) second halfway second' h.same h.goes h.took_second g.took_second;
+      same = g.same ∙ h.same;
+      goes = λ a b ea eb keeps. let (b1, e1, k1) = h.goes a b ea eb keeps in g.goes a b1 (h.same ∙ ea) e1 k1;
+    }
+
+    pub fails_on : TellsTook stateP tookP → TellsTook stateQ tookQ → (e : MirrorError) → Failure stateP tookP stateQ tookQ Keeps room opcode mid first' halfway second' e
+        → Failure stateP tookP stateQ tookQ Keeps room opcode first first' second second' e
+    fails_on tellsP tellsQ e g = record {
+      took_first = asking_more tookP bothP first mid first' h.took_first g.took_first;
+      took_second = took_spending Keeps room opcode stateQ tookQ bothQ (stateP first) (stateP mid) second halfway second' h.same h.goes h.took_second g.took_second;
+      same = g.same ∙ h.same;
+      causes = cause_later (stateP first) (stateP mid) (stateP first') (stateQ second) (stateQ halfway) (stateQ second') h.took_first.0 h.took_second.0 e
+          (tellsP first h.took_first.0 mid h.took_first.2) (tellsQ second h.took_second.0 halfway h.took_second.2) g.causes;
+      unread = λ a b ea eb keeps. let (b1, e1, k1) = h.goes a b ea eb keeps in g.unread a b1 (h.same ∙ ea) e1 k1;
+    }
+
 -- ---- a page of visits
 
-module _ (Keeps : Map → Map → Type 0) (Done : Map → Map → Key → Type 0) (room : Map → Map → ℕ) (opcode : ℕ) {P Q : Type 0}
-    (stateP : P → PortState) (tookP : P → List Command → P → Type 0) (stateQ : Q → PortState) (tookQ : Q → List Command → Q → Type 0) where
-  -- These keys were visited, from two ports on to two others.
-  pub record IsVisiting (first first' : P) (second second' : Q) (keys : List Key) : Type 0 where
-    pub took_first : TookSome tookP AreAsking first first'
-    pub took_second : TookSome tookQ (Spent Keeps room opcode (stateP first) (stateQ second) (stateQ second')) second second'
-    pub same : (stateP first').map ≡ (stateP first).map
-    pub visits : Visits Keeps Done (stateP first) (stateQ second) (stateQ second') keys
-
-  pub visiting_begins : (first : P) (second : Q) → tookP first [] first → tookQ second [] second → IsVisiting first first second second []
-  visiting_begins first second p q = record {
+module _ {P Q : Type 0} (stateP : P → PortState) (tookP : P → List Command → P → Type 0) (stateQ : Q → PortState) (tookQ : Q → List Command → Q → Type 0)
+    (Keeps : Map → Map → Type 0) (room : Map → Map → ℕ) (opcode : ℕ) where
+  pub no_progress : (first : P) (second : Q) → tookP first [] first → tookQ second [] second → Progress stateP tookP stateQ tookQ Keeps room opcode first first second second
+  no_progress first second p q = record {
     took_first = asking_none tookP first p;
     took_second = ([], spent_none Keeps room opcode (stateP first) (stateQ second), q);
     same = refl;
-    visits = visits_none Keeps Done (stateP first) (stateQ second);
+    goes = λ a b ea eb keeps. (b, eb, keeps);
   }
 
-  pub visiting_goes : ((p : P) (cs : List Command) (q : P) (ds : List Command) (r : P) → tookP p cs q → tookP q ds r → tookP p (cs ++ ds) r)
-      → ((p : Q) (cs : List Command) (q : Q) (ds : List Command) (r : Q) → tookQ p cs q → tookQ q ds r → tookQ p (cs ++ ds) r)
-      → (first mid first' : P) (second halfway second' : Q) (keys : List Key) (k : Key) (more : List Key) → IsVisiting first mid second halfway keys → TookSome tookP AreAsking mid first'
-      → TookSome tookQ (Spent Keeps room opcode (stateP mid) (stateQ halfway) (stateQ second')) halfway second'
-      → (stateP first').map ≡ (stateP mid).map → Visits Keeps Done (stateP mid) (stateQ halfway) (stateQ second') (k ∷ []) → more ≡ keys ++ k ∷ [] → IsVisiting first first' second second' more
-  visiting_goes bothP bothQ first mid first' second halfway second' keys k more h p q same visits is = record {
-    took_first = asking_more tookP bothP first mid first' h.took_first p;
-    took_second = took_spent Keeps room opcode stateQ tookQ bothQ (stateP first) (stateP mid) second halfway second' h.same
-        (goes_visits Keeps Done (stateP first) (stateQ second) (stateQ halfway) keys h.visits) h.took_second q;
-    same = same ∙ h.same;
-    visits = subst (Visits Keeps Done (stateP first) (stateQ second) (stateQ second')) (sym is)
-        (visits_more Keeps Done (stateP first) (stateP mid) (stateQ second) (stateQ halfway) (stateQ second') keys (k ∷ []) h.same h.visits visits);
-  }
+  -- at any exit
+  pub any_exit : {X : Type 0} → TellsTook stateQ tookQ → (first first' : P) (second second' : Q) (r : Result X MirrorError)
+      → OnOk r (Progress stateP tookP stateQ tookQ Keeps room opcode first first' second second')
+      → IfErr r (Failure stateP tookP stateQ tookQ Keeps room opcode first first' second second')
+      → ((stateP first').map ≡ (stateP first).map) × TookSome tookP AreAsking first first' × TookSome tookQ (Spending Keeps room opcode (stateP first) (stateQ second)) second second'
+  any_exit tells first first' second second' (Ok x) h g = (h.same, h.took_first, took_settled Keeps room opcode stateQ tookQ tells (stateP first) second second' h.took_second)
+  any_exit tells first first' second second' (Err e) h g = (g.same, g.took_first, g.took_second)
 
-  -- the result of the keys so far on the second
-  pub visiting_keeps : (first first' : P) (second second' : Q) (keys : List Key) → IsVisiting first first' second second' keys
-      → (a b : Map) → (stateP first).map ≡ Some a → (stateQ second).map ≡ Some b → Keeps a b → (b' : Map) × ((stateQ second').map ≡ Some b') × Keeps a b'
-  visiting_keeps first first' second second' keys h = goes_visits Keeps Done (stateP first) (stateQ second) (stateQ second') keys h.visits
+  module _ (Done : Map → Map → Key → Type 0) where
+    -- These keys were visited, from two ports on to two others.
+    pub record IsVisiting (first first' : P) (second second' : Q) (keys : List Key) : Type 0 where
+      pub progress : Progress stateP tookP stateQ tookQ Keeps room opcode first first' second second'
+      pub visits : Visits Keeps Done (stateP first) (stateQ second) (stateQ second') keys
 
-  -- all of them
-  pub visiting_all : (first first' : P) (second second' : Q) (keys all : List Key) → keys ≡ all
-      → IsVisiting first first' second second' keys → Visits Keeps Done (stateP first) (stateQ second) (stateQ second') all
-  visiting_all first first' second second' keys all is h = subst (Visits Keeps Done (stateP first) (stateQ second) (stateQ second')) is h.visits
+    pub visiting_begins : (first : P) (second : Q) → tookP first [] first → tookQ second [] second → IsVisiting first first second second []
+    visiting_begins first second p q = record { progress = no_progress first second p q; visits = visits_none Keeps Done (stateP first) (stateQ second) }
+
+    pub visiting_goes : TakesBoth tookP → TakesBoth tookQ → (first mid first' : P) (second halfway second' : Q) (keys : List Key) (k : Key) (more : List Key)
+        → IsVisiting first mid second halfway keys → Progress stateP tookP stateQ tookQ Keeps room opcode mid first' halfway second'
+        → Visits Keeps Done (stateP mid) (stateQ halfway) (stateQ second') (k ∷ []) → more ≡ keys ++ k ∷ [] → IsVisiting first first' second second' more
+    visiting_goes bothP bothQ first mid first' second halfway second' keys k more h g visits is = record {
+      progress = goes_on bothP bothQ first mid first' second halfway second' h.progress g;
+      visits = subst (Visits Keeps Done (stateP first) (stateQ second) (stateQ second')) (sym is)
+          (visits_more Keeps Done (stateP first) (stateP mid) (stateQ second) (stateQ halfway) (stateQ second') keys (k ∷ []) h.progress.same h.visits visits);
+    }
+
+    -- all of them
+    pub visiting_all : (first first' : P) (second second' : Q) (keys all : List Key) → keys ≡ all
+        → IsVisiting first first' second second' keys → Visits Keeps Done (stateP first) (stateQ second) (stateQ second') all
+    visiting_all first first' second second' keys all is h = subst (Visits Keeps Done (stateP first) (stateQ second) (stateQ second')) is h.visits

@@ -6,3 +6,4 @@ pub mod Agreement
 pub mod Visits
 pub mod Spending
 pub mod Ranks
+pub mod Progress

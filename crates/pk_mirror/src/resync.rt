@@ -10,7 +10,8 @@ ghost use Rattle.pk_mirror.specs.Causes.{IsCause, IsReadError, AreAsking, NotEmp
 ghost use Rattle.pk_mirror.specs.Agreement.{NoOther, HaveSame, AreAny, IsPart};
 ghost use Rattle.pk_mirror.specs.Ranks.{IsText, keys_left};
 ghost use Rattle.pk_mirror.specs.Visits.{Turns, VisitsAll, OnlyReadsFail};
-ghost use Rattle.pk_mirror.specs.Spending.{AreOfResync, Deleted, Deleting, Stored, Storing};
+ghost use Rattle.pk_mirror.specs.Spending.{AreOfResync};
+ghost use Rattle.pk_mirror.specs.Progress.{Dropped, DropFails, Copied, CopyFails};
 
 use crate::buffers::last_of;
 use crate::error::{MirrorError, Side, on};
@@ -153,16 +154,10 @@ fn drop_page<P: Port, Q: Port>(
         (Q.state second.old) (Q.state second.new) (option_copied last.entry) next) }
     ensures falls { IfOk result (λ next. (key : List ℕ) → next ≡ Some key → IsText key
         × (keys_left next < keys_left (option_copied last.entry))) }
-    ensures keeps { (P.state first.new).map ≡ (P.state first.old).map }
-    ensures causes { IfErr result (λ e. IsCause (P.state first.old) (P.state first.new)
-        (Q.state second.old) (Q.state second.new) e) }
-    ensures unread { IfErr result (λ e.
-        OnlyReadsFail AreAny (P.state first.old) (Q.state second.old) e) }
-    ensures took_first { TookSome P.took AreAsking first.old first.new }
-    ensures took_second { TookSome Q.took (Deleting (P.state first.old) (Q.state second.old))
-        second.old second.new }
-    ensures deleted { OnOk result (TookSome Q.took (Deleted (P.state first.old)
-        (Q.state second.old) (Q.state second.new)) second.old second.new) }
+    ensures dropped { OnOk result (Dropped P.state P.took Q.state Q.took first.old
+        first.new second.old second.new) }
+    ensures fails { IfErr result (DropFails P.state P.took Q.state Q.took first.old
+        first.new second.old second.new) }
     ensures asked_second { OnOk result (TookSome Q.took NotEmpty second.old second.new) }
 {
     match host.list_page(second, last, page) {
@@ -191,16 +186,10 @@ fn drop_all<P: Port, Q: Port>(
     requires room_two { greatest (P.state first.old).shape ≤ length two.old }
     ensures visits { OnOk result (VisitsAll AreAny NoOther (P.state first.old)
         (Q.state second.old) (Q.state second.new)) }
-    ensures keeps { (P.state first.new).map ≡ (P.state first.old).map }
-    ensures causes { IfErr result (λ e. IsCause (P.state first.old) (P.state first.new)
-        (Q.state second.old) (Q.state second.new) e) }
-    ensures unread { IfErr result (λ e.
-        OnlyReadsFail AreAny (P.state first.old) (Q.state second.old) e) }
-    ensures took_first { TookSome P.took AreAsking first.old first.new }
-    ensures took_second { TookSome Q.took (Deleting (P.state first.old) (Q.state second.old))
-        second.old second.new }
-    ensures deleted { OnOk result (TookSome Q.took (Deleted (P.state first.old)
-        (Q.state second.old) (Q.state second.new)) second.old second.new) }
+    ensures dropped { OnOk result (Dropped P.state P.took Q.state Q.took first.old
+        first.new second.old second.new) }
+    ensures fails { IfErr result (DropFails P.state P.took Q.state Q.took first.old
+        first.new second.old second.new) }
     ensures asked_second { OnOk result (TookSome Q.took NotEmpty second.old second.new) }
 {
     let mut last = None;
@@ -231,16 +220,10 @@ fn copy_page<P: Port, Q: Port>(
         (Q.state second.old) (Q.state second.new) (option_copied last.entry) next) }
     ensures falls { IfOk result (λ next. (key : List ℕ) → next ≡ Some key → IsText key
         × (keys_left next < keys_left (option_copied last.entry))) }
-    ensures keeps { (P.state first.new).map ≡ (P.state first.old).map }
-    ensures causes { IfErr result (λ e. IsCause (P.state first.old) (P.state first.new)
-        (Q.state second.old) (Q.state second.new) e) }
-    ensures unread { IfErr result (λ e.
-        OnlyReadsFail IsPart (P.state first.old) (Q.state second.old) e) }
-    ensures took_first { TookSome P.took AreAsking first.old first.new }
-    ensures took_second { TookSome Q.took (Storing (P.state first.old) (Q.state second.old))
-        second.old second.new }
-    ensures stored { OnOk result (TookSome Q.took (Stored (P.state first.old)
-        (Q.state second.old) (Q.state second.new)) second.old second.new) }
+    ensures copied { OnOk result (Copied P.state P.took Q.state Q.took first.old
+        first.new second.old second.new) }
+    ensures fails { IfErr result (CopyFails P.state P.took Q.state Q.took first.old
+        first.new second.old second.new) }
     ensures asked_first { OnOk result (TookSome P.took NotEmpty first.old first.new) }
 {
     match host.list_page(first, last, page) {
@@ -266,16 +249,10 @@ fn copy_all<P: Port, Q: Port>(
     requires room_one { greatest (P.state first.old).shape ≤ length one.old }
     ensures visits { OnOk result (VisitsAll IsPart HaveSame (P.state first.old)
         (Q.state second.old) (Q.state second.new)) }
-    ensures keeps { (P.state first.new).map ≡ (P.state first.old).map }
-    ensures causes { IfErr result (λ e. IsCause (P.state first.old) (P.state first.new)
-        (Q.state second.old) (Q.state second.new) e) }
-    ensures unread { IfErr result (λ e.
-        OnlyReadsFail IsPart (P.state first.old) (Q.state second.old) e) }
-    ensures took_first { TookSome P.took AreAsking first.old first.new }
-    ensures took_second { TookSome Q.took (Storing (P.state first.old) (Q.state second.old))
-        second.old second.new }
-    ensures stored { OnOk result (TookSome Q.took (Stored (P.state first.old)
-        (Q.state second.old) (Q.state second.new)) second.old second.new) }
+    ensures copied { OnOk result (Copied P.state P.took Q.state Q.took first.old
+        first.new second.old second.new) }
+    ensures fails { IfErr result (CopyFails P.state P.took Q.state Q.took first.old
+        first.new second.old second.new) }
     ensures asked_first { OnOk result (TookSome P.took NotEmpty first.old first.new) }
 {
     let mut last = None;

@@ -8,11 +8,11 @@ ghost use Rattle.pk_host.specs.Calls.{IsOwnKey};
 ghost use Rattle.pk_host.specs.Outcomes.{TookSome};
 ghost use Rattle.pk_host.specs.Port.{PortState};
 ghost use Rattle.pk_mirror.specs.Pair.{Alike};
-ghost use Rattle.pk_mirror.specs.Asks.{KeepsMaps};
 ghost use Rattle.pk_mirror.specs.Causes.{IsCause, AreAsking};
 ghost use Rattle.pk_mirror.specs.Agreement.{NoOther, HaveSame, AreAny, IsPart};
 ghost use Rattle.pk_mirror.specs.Visits.{Visits, OnlyReadsFail};
 ghost use Rattle.pk_mirror.specs.Spending.{Deleted, Deleting, Stored, Storing};
+ghost use Rattle.pk_mirror.specs.Progress.{Looked, Dropped, DropFails, Copied, CopyFails};
 
 use crate::buffers::{front, same_fronts};
 use crate::error::{MirrorError, Side, on};
@@ -40,14 +40,10 @@ fn has_other<P: Port, Q: Port>(
         → (Q.state second.old).map ≡ Some b → other ≡ false → NoOther a b key.now) }
     ensures there { IfOk result (λ other. (b : Map) → (Q.state second.old).map ≡ Some b
         → other ≡ true → map.contains_key b key.now ≡ true) }
-    ensures keeps { KeepsMaps (P.state first.old) (P.state first.new) (Q.state second.old)
-        (Q.state second.new) }
-    ensures causes { IfErr result (λ e. IsCause (P.state first.old) (P.state first.new)
-        (Q.state second.old) (Q.state second.new) e) }
-    ensures unread { IfErr result (λ e.
-        OnlyReadsFail AreAny (P.state first.old) (Q.state second.old) e) }
-    ensures took_first { TookSome P.took AreAsking first.old first.new }
-    ensures took_second { TookSome Q.took AreAsking second.old second.new }
+    ensures looks { OnOk result (Looked P.state P.took Q.state Q.took first.old
+        first.new second.old second.new) }
+    ensures fails { IfErr result (DropFails P.state P.took Q.state Q.took first.old
+        first.new second.old second.new) }
 {
     // so that the key is known to be one
     let _ = key.bytes();
@@ -79,16 +75,10 @@ fn drop_other<P: Port, Q: Port>(
     requires room_two { greatest (P.state first.old).shape ≤ length two.old }
     ensures visits { OnOk result (Visits AreAny NoOther (P.state first.old)
         (Q.state second.old) (Q.state second.new) (key.now ∷ [])) }
-    ensures keeps { (P.state first.new).map ≡ (P.state first.old).map }
-    ensures causes { IfErr result (λ e. IsCause (P.state first.old) (P.state first.new)
-        (Q.state second.old) (Q.state second.new) e) }
-    ensures unread { IfErr result (λ e.
-        OnlyReadsFail AreAny (P.state first.old) (Q.state second.old) e) }
-    ensures took_first { TookSome P.took AreAsking first.old first.new }
-    ensures took_second { TookSome Q.took (Deleting (P.state first.old) (Q.state second.old))
-        second.old second.new }
-    ensures deleted { OnOk result (TookSome Q.took (Deleted (P.state first.old)
-        (Q.state second.old) (Q.state second.new)) second.old second.new) }
+    ensures dropped { OnOk result (Dropped P.state P.took Q.state Q.took first.old
+        first.new second.old second.new) }
+    ensures fails { IfErr result (DropFails P.state P.took Q.state Q.took first.old
+        first.new second.old second.new) }
 {
     // so that the key is known to be one
     let _ = key.bytes();
@@ -156,16 +146,10 @@ fn copy<P: Port, Q: Port>(
         → map.contains_key b key.now ≡ false }
     ensures visits { OnOk result (Visits IsPart HaveSame (P.state first.old)
         (Q.state second.old) (Q.state second.new) (key.now ∷ [])) }
-    ensures keeps { (P.state first.new).map ≡ (P.state first.old).map }
-    ensures causes { IfErr result (λ e. IsCause (P.state first.old) (P.state first.new)
-        (Q.state second.old) (Q.state second.new) e) }
-    ensures unread { IfErr result (λ e.
-        OnlyReadsFail IsPart (P.state first.old) (Q.state second.old) e) }
-    ensures took_first { TookSome P.took AreAsking first.old first.new }
-    ensures took_second { TookSome Q.took (Storing (P.state first.old) (Q.state second.old))
-        second.old second.new }
-    ensures stored { OnOk result (TookSome Q.took (Stored (P.state first.old)
-        (Q.state second.old) (Q.state second.new)) second.old second.new) }
+    ensures copied { OnOk result (Copied P.state P.took Q.state Q.took first.old
+        first.new second.old second.new) }
+    ensures fails { IfErr result (CopyFails P.state P.took Q.state Q.took first.old
+        first.new second.old second.new) }
 {
     // so that the key is known to be one
     let _ = key.bytes();
@@ -193,16 +177,10 @@ fn copy_missing<P: Port, Q: Port>(
     requires room { greatest (P.state first.old).shape ≤ length one.old }
     ensures visits { OnOk result (Visits IsPart HaveSame (P.state first.old)
         (Q.state second.old) (Q.state second.new) (key.now ∷ [])) }
-    ensures keeps { (P.state first.new).map ≡ (P.state first.old).map }
-    ensures causes { IfErr result (λ e. IsCause (P.state first.old) (P.state first.new)
-        (Q.state second.old) (Q.state second.new) e) }
-    ensures unread { IfErr result (λ e.
-        OnlyReadsFail IsPart (P.state first.old) (Q.state second.old) e) }
-    ensures took_first { TookSome P.took AreAsking first.old first.new }
-    ensures took_second { TookSome Q.took (Storing (P.state first.old) (Q.state second.old))
-        second.old second.new }
-    ensures stored { OnOk result (TookSome Q.took (Stored (P.state first.old)
-        (Q.state second.old) (Q.state second.new)) second.old second.new) }
+    ensures copied { OnOk result (Copied P.state P.took Q.state Q.took first.old
+        first.new second.old second.new) }
+    ensures fails { IfErr result (CopyFails P.state P.took Q.state Q.took first.old
+        first.new second.old second.new) }
 {
     // so that the key is known to be one
     let _ = key.bytes();

@@ -3,7 +3,7 @@ use Rattle.pk_nvme.specs.declared.opcode.TheConstants.{STORE}
 use Rattle.pk_mirror.proofs.resync.copy_all.Given as goal
 
 abbrev pub invariant-loop-next : goal.invariant-loop-next
-invariant-loop-next g l = IsTurning IsPart HaveSame to_store STORE g.P.Port.state g.P.Port.took g.Q.Port.state g.Q.Port.took l.initial.first l.first l.initial.second l.second l.last
+invariant-loop-next g l = IsTurning g.P.Port.state g.P.Port.took g.Q.Port.state g.Q.Port.took IsPart to_store STORE HaveSame l.initial.first l.first l.initial.second l.second l.last
 
 abbrev pub decreases-loop-next : goal.decreases-loop-next
 decreases-loop-next g l = keys_left l.last

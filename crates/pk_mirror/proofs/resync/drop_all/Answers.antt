@@ -1,83 +1,51 @@
 use Rattle.std.proofs.Common.{◌≤◌, length, Some, None, sym, subst, ◌∙◌, arith}
 use Rattle.pk_base.specs.Shape.{Shape, greatest}
 use Rattle.pk_mirror.{specs.Agreement.AreAny, specs.Agreement.NoOther, specs.Spending.to_delete, proofs.PairLemmas.still_alike}
-use Rattle.pk_mirror.proofs.VisitLemmas.{asking_more, cause_later, asked_later}
-use Rattle.pk_mirror.proofs.SpendLemmas.{took_spent, took_spending, took_settled}
-use Rattle.pk_mirror.proofs.PageLemmas.{turning_begins, turning_goes, turning_keeps, turning_fails, turned_all, turns_as, smaller_as}
+use Rattle.pk_mirror.proofs.VisitLemmas.{goes_on, fails_on, asked_later}
+use Rattle.pk_mirror.proofs.PageLemmas.{turning_begins, turning_goes, turned_all, turns_as, smaller_as}
 use Rattle.pk_nvme.specs.declared.opcode.TheConstants.{DELETE}
 use Rattle.pk_mirror.proofs.resync.drop_all.Goals as goal
 
 pub loop-next-init : goal.loop-next-init
-loop-next-init g c = turning_begins AreAny NoOther to_delete DELETE g.P.Port.state g.P.Port.took g.Q.Port.state g.Q.Port.took c.args.first.now c.args.second.now
+loop-next-init g c = turning_begins g.P.Port.state g.P.Port.took g.Q.Port.state g.Q.Port.took AreAny to_delete DELETE NoOther c.args.first.now c.args.second.now
     (g.met.P.Port.took_none c.args.first.now) (g.met.Q.Port.took_none c.args.second.now)
 
 pub drop_page-requires-clause-alike : goal.drop_page-requires-clause-alike
-drop_page-requires-clause-alike g c = still_alike _ _ _ _ _ _ (g.met.P.Port.took_state _ _ _ c.loop-next.invariant.took_first.2)
-    (g.met.Q.Port.took_state _ _ _ c.loop-next.invariant.took_second.2) c.requires.alike
+drop_page-requires-clause-alike g c = still_alike _ _ _ _ _ _ (g.met.P.Port.took_state _ _ _ c.loop-next.invariant.progress.took_first.2)
+    (g.met.Q.Port.took_state _ _ _ c.loop-next.invariant.progress.took_second.2) c.requires.alike
 
 pub drop_page-requires-clause-text : goal.drop_page-requires-clause-text
 drop_page-requires-clause-text g c = λ k e. c.loop-next.invariant.text k (sym c.as_ref.ensures.value ∙ e)
+
+pub drop_page-requires-clause-room_one : goal.drop_page-requires-clause-room_one
+drop_page-requires-clause-room_one g c = subst (λ (s : Shape). greatest s ≤ length c.loop-next.one)
+    (sym (g.met.P.Port.took_state _ _ _ c.loop-next.invariant.progress.took_first.2).shape) (omega (arith, c.requires.room_one, c.loop-next.auto.one))
+
+pub drop_page-requires-clause-room_two : goal.drop_page-requires-clause-room_two
+drop_page-requires-clause-room_two g c = subst (λ (s : Shape). greatest s ≤ length c.loop-next.two)
+    (sym (g.met.P.Port.took_state _ _ _ c.loop-next.invariant.progress.took_first.2).shape) (omega (arith, c.requires.room_two, c.loop-next.auto.two))
 
 pub loop-next-smaller : goal.loop-next-smaller
 loop-next-smaller g c = (smaller_as _ c.loop-next.last _ c.in-Ok-Some.next c.as_ref.ensures.value c.in-Ok-Some.field-0-is c.in-Ok-Some.ensures.falls).1
 
 pub loop-next-preserved : goal.loop-next-preserved
-loop-next-preserved g c = turning_goes AreAny NoOther to_delete DELETE g.P.Port.state g.P.Port.took g.Q.Port.state g.Q.Port.took g.met.P.Port.took_both g.met.Q.Port.took_both
-    _ _ _ _ _ _ c.loop-next.last c.in-Ok-Some.next c.loop-next.invariant c.drop_page.ensures.took_first c.in-Ok-Some.ensures.deleted c.drop_page.ensures.keeps
+loop-next-preserved g c = turning_goes g.P.Port.state g.P.Port.took g.Q.Port.state g.Q.Port.took AreAny to_delete DELETE NoOther g.met.P.Port.took_both g.met.Q.Port.took_both
+    _ _ _ _ _ _ c.loop-next.last c.in-Ok-Some.next c.loop-next.invariant c.in-Ok-Some.ensures.dropped
     (turns_as AreAny NoOther (g.P.Port.state c.loop-next.first) (g.Q.Port.state c.loop-next.second) (g.Q.Port.state c.drop_page.new.second) _ c.loop-next.last _
     (Some c.in-Ok-Some.next) c.as_ref.ensures.value c.in-Ok-Some.field-0-is c.in-Ok-Some.ensures.turns)
     (smaller_as _ c.loop-next.last _ c.in-Ok-Some.next c.as_ref.ensures.value c.in-Ok-Some.field-0-is c.in-Ok-Some.ensures.falls).0
 
 pub returns-in-Ok-None-clause-visits : goal.returns-in-Ok-None-clause-visits
 returns-in-Ok-None-clause-visits g c = turned_all AreAny NoOther (g.P.Port.state c.args.first.now) (g.Q.Port.state c.args.second.now) (g.P.Port.state c.loop-next.first)
-    (g.Q.Port.state c.loop-next.second) (g.Q.Port.state c.drop_page.new.second) c.loop-next.last c.loop-next.invariant.same c.loop-next.invariant.visits
+    (g.Q.Port.state c.loop-next.second) (g.Q.Port.state c.drop_page.new.second) c.loop-next.last c.loop-next.invariant.progress.same c.loop-next.invariant.visits
     (turns_as AreAny NoOther (g.P.Port.state c.loop-next.first) (g.Q.Port.state c.loop-next.second)
     (g.Q.Port.state c.drop_page.new.second) _ c.loop-next.last _ None c.as_ref.ensures.value c.in-Ok-None.field-0-is c.in-Ok-None.ensures.turns)
 
-pub returns-in-Err-clause-causes : goal.returns-in-Err-clause-causes
-returns-in-Err-clause-causes g c = cause_later (g.P.Port.state c.args.first.now) (g.P.Port.state c.loop-next.first) (g.P.Port.state c.drop_page.new.first)
-    (g.Q.Port.state c.args.second.now) (g.Q.Port.state c.loop-next.second) (g.Q.Port.state c.drop_page.new.second) _ _ c.in-Err.error
-    (g.met.P.Port.took_state _ _ _ c.loop-next.invariant.took_first.2) (g.met.Q.Port.took_state _ _ _ c.loop-next.invariant.took_second.2) c.in-Err.ensures.causes
-
-pub returns-in-Err-clause-unread : goal.returns-in-Err-clause-unread
-returns-in-Err-clause-unread g c = turning_fails AreAny NoOther to_delete DELETE g.P.Port.state g.P.Port.took g.Q.Port.state g.Q.Port.took
-    c.args.first.now c.loop-next.first c.args.second.now c.loop-next.second c.loop-next.last c.in-Err.error c.loop-next.invariant c.in-Err.ensures.unread
-
-pub returns-in-Ok-None-clause-keeps : goal.returns-in-Ok-None-clause-keeps
-returns-in-Ok-None-clause-keeps g c = c.drop_page.ensures.keeps ∙ c.loop-next.invariant.same
-
-pub returns-in-Ok-None-clause-took_first : goal.returns-in-Ok-None-clause-took_first
-returns-in-Ok-None-clause-took_first g c = asking_more g.P.Port.took g.met.P.Port.took_both _ _ _ c.loop-next.invariant.took_first c.drop_page.ensures.took_first
-
-pub returns-in-Ok-None-clause-deleted : goal.returns-in-Ok-None-clause-deleted
-returns-in-Ok-None-clause-deleted g c = took_spent AreAny to_delete DELETE g.Q.Port.state g.Q.Port.took g.met.Q.Port.took_both (g.P.Port.state c.args.first.now)
-    (g.P.Port.state c.loop-next.first) _ _ _ c.loop-next.invariant.same
-    (turning_keeps AreAny NoOther to_delete DELETE g.P.Port.state g.P.Port.took g.Q.Port.state g.Q.Port.took _ _ _ _ _ c.loop-next.invariant)
-    c.loop-next.invariant.took_second c.in-Ok-None.ensures.deleted
-
-pub returns-in-Ok-None-clause-took_second : goal.returns-in-Ok-None-clause-took_second
-returns-in-Ok-None-clause-took_second g c = took_settled AreAny to_delete DELETE g.Q.Port.state g.Q.Port.took g.met.Q.Port.took_state
-    (g.P.Port.state c.args.first.now) _ _ (returns-in-Ok-None-clause-deleted g c)
-
-pub returns-in-Err-clause-keeps : goal.returns-in-Err-clause-keeps
-returns-in-Err-clause-keeps g c = c.drop_page.ensures.keeps ∙ c.loop-next.invariant.same
-
-pub returns-in-Err-clause-took_first : goal.returns-in-Err-clause-took_first
-returns-in-Err-clause-took_first g c = asking_more g.P.Port.took g.met.P.Port.took_both _ _ _ c.loop-next.invariant.took_first c.drop_page.ensures.took_first
-
-pub returns-in-Err-clause-took_second : goal.returns-in-Err-clause-took_second
-returns-in-Err-clause-took_second g c = took_spending AreAny to_delete DELETE g.Q.Port.state g.Q.Port.took g.met.Q.Port.took_both (g.P.Port.state c.args.first.now)
-    (g.P.Port.state c.loop-next.first) _ _ _ c.loop-next.invariant.same
-    (turning_keeps AreAny NoOther to_delete DELETE g.P.Port.state g.P.Port.took g.Q.Port.state g.Q.Port.took _ _ _ _ _ c.loop-next.invariant)
-    c.loop-next.invariant.took_second c.drop_page.ensures.took_second
-
-pub drop_page-requires-clause-room_one : goal.drop_page-requires-clause-room_one
-drop_page-requires-clause-room_one g c = subst (λ (s : Shape). greatest s ≤ length c.loop-next.one)
-    (sym (g.met.P.Port.took_state _ _ _ c.loop-next.invariant.took_first.2).shape) (omega (arith, c.requires.room_one, c.loop-next.auto.one))
-
-pub drop_page-requires-clause-room_two : goal.drop_page-requires-clause-room_two
-drop_page-requires-clause-room_two g c = subst (λ (s : Shape). greatest s ≤ length c.loop-next.two)
-    (sym (g.met.P.Port.took_state _ _ _ c.loop-next.invariant.took_first.2).shape) (omega (arith, c.requires.room_two, c.loop-next.auto.two))
+pub returns-in-Ok-None-clause-dropped : goal.returns-in-Ok-None-clause-dropped
+returns-in-Ok-None-clause-dropped g c = goes_on g.met.P.Port.took_both g.met.Q.Port.took_both _ _ _ _ _ _ c.loop-next.invariant.progress c.in-Ok-None.ensures.dropped
 
 pub returns-in-Ok-None-clause-asked_second : goal.returns-in-Ok-None-clause-asked_second
-returns-in-Ok-None-clause-asked_second g c = asked_later g.Q.Port.took g.met.Q.Port.took_both _ _ _ _ c.loop-next.invariant.took_second.2 c.in-Ok-None.ensures.asked_second
+returns-in-Ok-None-clause-asked_second g c = asked_later g.Q.Port.took g.met.Q.Port.took_both _ _ _ _ c.loop-next.invariant.progress.took_second.2 c.in-Ok-None.ensures.asked_second
+
+pub returns-in-Err-clause-fails : goal.returns-in-Err-clause-fails
+returns-in-Err-clause-fails g c = fails_on g.met.P.Port.took_both g.met.Q.Port.took_both _ _ _ _ _ _ c.loop-next.invariant.progress g.met.P.Port.took_state g.met.Q.Port.took_state _ c.in-Err.ensures.fails

@@ -3,7 +3,7 @@ use Rattle.pk_nvme.specs.declared.opcode.TheConstants.{DELETE}
 use Rattle.pk_mirror.proofs.resync.drop_all.Given as goal
 
 abbrev pub invariant-loop-next : goal.invariant-loop-next
-invariant-loop-next g l = IsTurning AreAny NoOther to_delete DELETE g.P.Port.state g.P.Port.took g.Q.Port.state g.Q.Port.took l.initial.first l.first l.initial.second l.second l.last
+invariant-loop-next g l = IsTurning g.P.Port.state g.P.Port.took g.Q.Port.state g.Q.Port.took AreAny to_delete DELETE NoOther l.initial.first l.first l.initial.second l.second l.last
 
 abbrev pub decreases-loop-next : goal.decreases-loop-next
 decreases-loop-next g l = keys_left l.last

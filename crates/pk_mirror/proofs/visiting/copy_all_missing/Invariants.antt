@@ -4,4 +4,4 @@ use Rattle.pk_nvme.specs.declared.opcode.TheConstants.{STORE}
 use Rattle.pk_mirror.proofs.visiting.copy_all_missing.Given as goal
 
 abbrev pub invariant-loop-i : goal.invariant-loop-i
-invariant-loop-i g l = IsVisiting IsPart HaveSame to_store STORE g.P.Port.state g.P.Port.took g.Q.Port.state g.Q.Port.took l.initial.first l.first l.initial.second l.second (take l.i l.page)
+invariant-loop-i g l = IsVisiting g.P.Port.state g.P.Port.took g.Q.Port.state g.Q.Port.took IsPart to_store STORE HaveSame l.initial.first l.first l.initial.second l.second (take l.i l.page)

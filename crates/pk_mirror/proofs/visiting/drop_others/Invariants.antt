@@ -4,4 +4,4 @@ use Rattle.pk_nvme.specs.declared.opcode.TheConstants.{DELETE}
 use Rattle.pk_mirror.proofs.visiting.drop_others.Given as goal
 
 abbrev pub invariant-loop-i : goal.invariant-loop-i
-invariant-loop-i g l = IsVisiting AreAny NoOther to_delete DELETE g.P.Port.state g.P.Port.took g.Q.Port.state g.Q.Port.took l.initial.first l.first l.initial.second l.second (take l.i l.page)
+invariant-loop-i g l = IsVisiting g.P.Port.state g.P.Port.took g.Q.Port.state g.Q.Port.took AreAny to_delete DELETE NoOther l.initial.first l.first l.initial.second l.second (take l.i l.page)
