@@ -1,7 +1,7 @@
 -- Pages that are read into memory, one after another.
 use Rattle.std.proofs.Common.{◌≡◌, ◌<◌, ◌+◌, ℕ, List, length, zero, suc, arith, take, ◌++◌, [], ◌∷◌, All, refl, sym, ◌∙◌, ap}
 use Rattle.std.{proofs.Math.Numerals.add-one, proofs.lemmas.List.map-append, proofs.lemmas.List.Elements.All-append, proofs.lemmas.Option.unwrap_or-slice_get}
-use Rattle.pk_scan.proofs.Exact.{take_next}
+use Rattle.std.proofs.Math.Seq.{take-suc}
 use Rattle.pk_base.{specs.Shape.Shape, specs.Page.Page, specs.Page.Flash, specs.Page.page_at, specs.Page.erased, specs.Page.whole, specs.Page.torn, specs.Page.IsFlash}
 use Rattle.pk_nand.{specs.Seen.answer, specs.Seen.state, specs.Seen.states, specs.Operations.filled, specs.declared.types.PageState.PageState, specs.declared.types.PageRead.PageRead}
 use Rattle.pk_dump.specs.Pages.{IsFullPage, AreFull, read_as}
@@ -25,7 +25,7 @@ pub states_next : (pages : List PageState) (p : PageState) (flash : Flash) (k : 
     → states (pages ++ p ∷ []) ≡ take (k + 1) flash
 states_next pages p flash k inside so_far is =
     map-append state pages (p ∷ []) ∙ ap (λ (xs : Flash). xs ++ state p ∷ []) so_far ∙ ap (λ (x : Page). take k flash ++ x ∷ []) (is ∙ unwrap_or-slice_get flash k torn)
-    ∙ sym (take_next flash k torn inside) ∙ ap (λ (n : ℕ). take n flash) (sym (add-one k))
+    ∙ sym (take-suc flash k torn inside) ∙ ap (λ (n : ℕ). take n flash) (sym (add-one k))
 
 pub full_next : (shape : Shape) (pages : List PageState) (p : PageState) → AreFull shape pages → IsFullPage shape (state p) → AreFull shape (pages ++ p ∷ [])
 full_next shape pages p full one = All-append (λ page. IsFullPage shape (state page)) pages (p ∷ []) full alone

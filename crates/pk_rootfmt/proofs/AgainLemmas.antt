@@ -1,26 +1,24 @@
 -- The page of a root passes the check, and is read as the root.
-use Rattle.std.proofs.Common.{◌≡◌, ℕ, ◌+◌, ◌-◌, ◌*◌, ◌^◌, ◌<◌, ◌≤◌, Bool, true, false, List, [], ◌∷◌, ◌++◌, length, drop, map, refl, sym, ap, subst, ◌∙◌, arith, length-append, Some, None, lit<}
+use Rattle.std.proofs.Common.{◌≡◌, take, ℕ, ◌+◌, ◌-◌, ◌*◌, ◌^◌, ◌<◌, ◌≤◌, Bool, true, false, List, [], ◌∷◌, ◌++◌, length, drop, map, refl, sym, ap, subst, ◌∙◌, arith, length-append, Some, None, lit<}
 use Rattle.std.specs.Prelude.{nat_eq, nat_le, nat_lt, ◌&&◌, ◌||◌, if◌then◌else◌, bytes_eq, sum, zip}
+use Rattle.std.{proofs.lemmas.Bool.eqb-true, proofs.lemmas.List.take_at, proofs.lemmas.List.drop_at}
 use Rattle.std.{specs.List.list_all, specs.List.concat, proofs.lemmas.Bool.Decides.nat_tests, proofs.lemmas.List.append_assoc, proofs.lemmas.List.length-replicate}
 use Rattle.pk_base.{specs.Fields.u16_at, specs.Fields.u32_at, specs.Fields.zeros, specs.FieldFaults.u64_at, specs.FieldFaults.unlike, specs.FieldFaults.unless, proofs.Logic.both_true}
 use Rattle.pk_base.specs.Shape.{Shape, IsShape, page_entries, cap, caps, run_blocks, limit}
 use Rattle.pk_base.proofs.Tables.{◌⊕◌, first_none, true_unless, stands_unlike, stands_number, Stand, AreSized, spelled_stand}
 use Rattle.pk_rootfmt.specs.Root.{Root, root_bytes, root_at, root_page, is_root, u16s_at, parts, version_of, limit_bytes, are_limits, fit_in, has_limits_room, list_from}
 use Rattle.pk_rootfmt.specs.Fault.{root_magic, is_epoch, is_run_count, shape_checks, number_checks, list_checks, listed, blocks_fault, shape_fault, number_fault, space_fault, list_fault, root_fault}
-use Rattle.pk_rootfmt.{specs.Held.total, proofs.RoomLemmas.runs_most, proofs.RoomLemmas.entries_small}
 use Rattle.pk_rootfmt.proofs.BlockLemmas.{length-numbers, numbers_again, parts_again, are_blocks, are_other, check_from_others}
 use Rattle.pk_rootfmt.proofs.LimitLemmas.{by_test, Passes, passes, limits_room}
 use Rattle.pk_rootfmt.proofs.PageLemmas.{Parts, root_parts, bytes_same, same_bytes, rows, rows_root, journal_is, older_at, sum_four}
+use Rattle.pk_rootfmt.{specs.Held.total, proofs.RoomLemmas.runs_most, proofs.RoomLemmas.entries_small}
 
 append_same : (xs ys zs ws : List ℕ) → xs ++ ys ≡ zs ++ ws → length xs ≡ length zs → (xs ≡ zs) × (ys ≡ ws)
-append_same [] ys [] ws e f = (refl, e)
-append_same [] ys (z ∷ zs) ws e f = absurd (omega arith)
-append_same (x ∷ xs) ys [] ws e f = absurd (omega arith)
-append_same (x ∷ xs) ys (z ∷ zs) ws e f =
-    let first : x ≡ z = cc in
-    let rest : xs ++ ys ≡ zs ++ ws = cc in
-    let more = append_same xs ys zs ws rest (omega arith) in
-    (ap (λ (n : ℕ). n ∷ xs) first ∙ ap (λ (r : List ℕ). z ∷ r) more.0, more.1)
+append_same xs ys zs ws e f =
+    let same : length zs ≡ length xs = sym f in (
+      sym (take_at xs ys (length xs) refl) ∙ ap (take (length xs)) e ∙ take_at zs ws (length xs) same,
+      sym (drop_at xs ys (length xs) refl) ∙ ap (drop (length xs)) e ∙ drop_at zs ws (length xs) same,
+    )
 
 length_three : (xs ys zs : List ℕ) → (length xs + length ys) + length zs ≡ length (xs ++ ys ++ zs)
 length_three xs ys zs = omega (arith, length-append (xs ++ ys) zs, length-append xs ys)
@@ -310,13 +308,10 @@ four (a ∷ b ∷ c ∷ d ∷ e' ∷ es) e = absurd (omega arith)
 -- the counts of a root of the grammar are four
 four_counts : (g : Shape) (root : Root) → Parts g root → length root.counts ≡ 4
 four_counts g root h =
-    let test = first_true (nat_eq (length root.counts) 4) (list_all (λ p. nat_le p.0 (p.1 * page_entries g)) (zip root.counts (caps g)))
-    (bytes_eq (map length root.runs) (map (run_blocks g) root.counts)) h.runs in
-    grind (arith, nat_tests)
-  where
-    first_true : (p q r : Bool) → (p && q && r) ≡ true → p ≡ true
-    first_true true q r t = refl
-    first_true false q r t = cc
+    let sized : Bool = nat_eq (length root.counts) 4 in
+    let fit : Bool = list_all (λ p. nat_le p.0 (p.1 * page_entries g)) (zip root.counts (caps g)) in
+    let front = both_true (sized && fit) (bytes_eq (map length root.runs) (map (run_blocks g) root.counts)) h.runs in
+    eqb-true (length root.counts) 4 (both_true sized fit front.0).0
 
 -- the page of a root of the grammar is read as the root
 pub root_read : (g : Shape) (root : Root) → IsShape g → is_root g root ≡ true → Read g (root_bytes g root) root

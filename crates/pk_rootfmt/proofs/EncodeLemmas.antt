@@ -1,15 +1,11 @@
 -- The bytes that are written one after another are those of a root's page.
-use Rattle.std.proofs.Common.{◌≡◌, ℕ, ◌+◌, ◌-◌, ◌*◌, ◌≤◌, true, List, [], ◌∷◌, ◌++◌, length, take, drop, refl, sym, ap, subst, ◌∙◌, arith, length-append}
-use Rattle.std.specs.List.{flat_map, concat}
+use Rattle.std.proofs.Common.{◌≡◌, ℕ, ◌+◌, ◌-◌, ◌*◌, ◌≤◌, true, List, [], ◌∷◌, ◌++◌, length, take, drop, sym, ap, subst, ◌∙◌, arith, length-append}
+use Rattle.std.{specs.List.flat_map, specs.List.concat, proofs.lemmas.Grind.flat_map-append}
 use Rattle.std.proofs.lemmas.List.{append_assoc, append-nil, take_all, take-append-drop, length-take-le}
 use Rattle.pk_base.{specs.Fields.u16, specs.Fields.u32, specs.Fields.u64, specs.Fields.spelled, specs.Fields.zeros, specs.Shape.Shape, specs.Shape.IsShape}
 use Rattle.pk_rootfmt.{specs.Root.Root, specs.Root.root_bytes, specs.Root.is_root, specs.Root.parts, specs.Root.version_of, specs.Root.limit_bytes, specs.Fault.root_magic, specs.Held.total}
 use Rattle.pk_rootfmt.{proofs.BlockLemmas.parts_same, proofs.BlockLemmas.parts_joined, proofs.PageLemmas.before_blocks, proofs.PageLemmas.rows_root}
 use Rattle.pk_rootfmt.proofs.AgainLemmas.{four, root_room}
-
-flat_append : (xs ys : List ℕ) → flat_map u16 (xs ++ ys) ≡ flat_map u16 xs ++ flat_map u16 ys
-flat_append [] ys = refl
-flat_append (x ∷ xs) ys = ap (λ (r : List ℕ). u16 x ++ r) (flat_append xs ys) ∙ sym (append_assoc (u16 x) (flat_map u16 xs) (flat_map u16 ys))
 
 pub encoded : (g : Shape) (number epoch : ℕ) (newest older : List ℕ) (a b c d : ℕ) (runs : List (List ℕ)) (limits : List ℕ)
     → spelled (root_magic ∷ u16 (version_of limits) ∷ u16 g.block_pages ∷ u32 g.page_bytes ∷ u16 g.blocks ∷ u16
@@ -27,7 +23,7 @@ encoded g number epoch newest older a b c d runs limits =
     let front : ℕ → List ℕ → List ℕ = λ j. before_blocks g (version_of limits) (length limits) w j number epoch a b c d in
     ap (λ (x : List ℕ). plain (x ++ zeros k)) (append_assoc w (flat_map u16 e) (flat_map u16 r))
     ∙ ap plain (append_assoc w (flat_map u16 e ++ flat_map u16 r) (zeros k))
-    ∙ ap (λ (x : List ℕ). front (length e) (x ++ zeros k)) (sym (flat_append e r))
+    ∙ ap (λ (x : List ℕ). front (length e) (x ++ zeros k)) (sym (flat_map-append u16 e r))
     ∙ ap (λ (n : ℕ). front (length e) (flat_map u16 (e ++ r) ++ zeros n)) size
     ∙ ap (λ (x : List ℕ). front (length e) (flat_map u16 (e ++ r) ++ x)) (sym (append-nil (zeros (g.page_bytes - ((64 + length w) + 2 * length (e ++ r))))))
     ∙ ap (λ (j : ℕ). front j (flat_map u16 (e ++ r) ++ (zeros (g.page_bytes - ((64 + length w) + 2 * length (e ++ r))) ++ []))) (length-append newest older)

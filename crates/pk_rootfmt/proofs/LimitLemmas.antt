@@ -1,9 +1,10 @@
 -- Limits in a page: what is read of them, and what passes.
 use Rattle.std.proofs.Common.{◌≡◌, ℕ, zero, suc, ◌+◌, ◌-◌, ◌*◌, ◌/◌, ◌^◌, ◌<◌, ◌≤◌, Bool, true, false, List, [], ◌∷◌, ◌++◌, length, take, drop, get_or, refl, sym, ap, subst, ◌∙◌, arith, length-append}
 use Rattle.std.proofs.Common.{length-drop, get_or-drop, None, le-leb}
-use Rattle.std.{specs.Prelude.nat_eq, specs.Prelude.nat_le, specs.Prelude.nat_lt, specs.Prelude.◌==◌, specs.Prelude.◌&&◌, specs.Prelude.◌||◌, specs.Prelude.if◌then◌else◌, proofs.Math.Nat.mul-le-mul}
-use Rattle.std.{specs.List.list_all, specs.List.flat_map, proofs.lemmas.Bool.Decides.nat_tests, proofs.lemmas.Grind.flat_map-append}
 use Rattle.std.proofs.lemmas.List.{drop-drop, take_at, append_assoc, length-replicate}
+use Rattle.std.proofs.lemmas.Bool.{and_from, eqb-true, leb-true}
+use Rattle.std.{specs.Prelude.nat_le, specs.Prelude.nat_lt, specs.Prelude.◌==◌, specs.Prelude.◌&&◌, specs.Prelude.◌||◌, specs.Prelude.if◌then◌else◌, proofs.Math.Nat.mul-le-mul}
+use Rattle.std.{specs.List.list_all, specs.List.flat_map, proofs.lemmas.Bool.Decides.nat_tests, proofs.lemmas.Grind.flat_map-append}
 use Rattle.pk_base.{specs.Fields.u32, specs.Fields.u16_at, specs.Fields.u32_at, specs.Fields.zeros, specs.Fields.padded, specs.FieldFaults.unless, proofs.Logic.both_true}
 use Rattle.pk_base.specs.Shape.{Shape, IsShape, meta_blocks, data_blocks, limit}
 use Rattle.pk_base.proofs.Tables.{all_none, unless_true, number_stands, stands_number, stands_next}
@@ -13,15 +14,6 @@ use Rattle.pk_rootfmt.{specs.Fault.is_version, specs.Fault.is_space_count, specs
 pub by_test : (b : Bool) (P : Type 0) → (b ≡ true → P) → (b ≡ false → P) → P
 by_test true P at_true at_false = at_true refl
 by_test false P at_true at_false = at_false refl
-
-both : (a b : Bool) → a ≡ true → b ≡ true → (a && b) ≡ true
-both a b p q = rw (p, q) refl
-
-equal : (x y : ℕ) → nat_eq x y ≡ true → x ≡ y
-equal x y e = grind (arith, nat_tests)
-
-at_most : (x y : ℕ) → nat_le x y ≡ true → x ≤ y
-at_most x y e = grind (arith, nat_tests)
 
 -- ---- numbers of four bytes, one after another
 
@@ -65,7 +57,7 @@ limits_taken zero zero at left bytes few good = let none : 0 ≡ 0 - 0 = omega a
 limits_taken zero (suc k) at left bytes few good = absurd (omega (arith, few))
 limits_taken (suc n) zero at left bytes few good =
     let faults = all_none (unless at (u32_at bytes 0 == 0) ∷ limits_fault (at + 4) left zero (u32s_at n (drop 4 bytes)) ∷ []) good in
-    let first : u32_at bytes 0 ≡ 0 = equal (u32_at bytes 0) 0 (unless_true at (u32_at bytes 0 == 0) faults.0) in
+    let first : u32_at bytes 0 ≡ 0 = eqb-true (u32_at bytes 0) 0 (unless_true at (u32_at bytes 0 == 0) faults.0) in
     let more = limits_taken n zero (at + 4) left (drop 4 bytes) (omega arith) faults.1.0 in
     let same : suc (n - 0) ≡ suc n - 0 = omega arith in
     (ap (λ (x : ℕ). x ∷ u32s_at n (drop 4 bytes)) first ∙ ap (λ (r : List ℕ). 0 ∷ r) more.0 ∙ ap zeros same, refl)
@@ -75,7 +67,7 @@ limits_taken (suc n) (suc k) at left bytes few good =
     let test = unless_true at (nat_le 1 x && nat_le x left) faults.0 in
     let more = limits_taken n k (at + 4) (left - x) (drop 4 bytes) (omega (arith, few)) faults.1.0 in
     let same : n - k ≡ suc n - suc k = omega arith in
-    (ap (λ (r : List ℕ). x ∷ r) (more.0 ∙ ap (λ (m : ℕ). u32s_at k (drop 4 bytes) ++ zeros m) same), both (nat_le 1 x && nat_le x left) (fit_in (left - x) (u32s_at k (drop 4 bytes))) test more.1)
+    (ap (λ (r : List ℕ). x ∷ r) (more.0 ∙ ap (λ (m : ℕ). u32s_at k (drop 4 bytes) ++ zeros m) same), and_from (nat_le 1 x && nat_le x left) (fit_in (left - x) (u32s_at k (drop 4 bytes))) test more.1)
 
 zeros_pass : (n at left : ℕ) → limits_fault at left zero (zeros n) ≡ None
 zeros_pass zero at left = refl
@@ -104,16 +96,16 @@ small_limits : (left : ℕ) (ls : List ℕ) → left < 4294967296 → fit_in lef
 small_limits left [] small fit = refl
 small_limits left (l ∷ ls) small fit =
     let tests = both_true (nat_le 1 l && nat_le l left) (fit_in (left - l) ls) fit in
-    let within : l ≤ left = at_most l left (both_true (nat_le 1 l) (nat_le l left) tests.0).1 in
+    let within : l ≤ left = leb-true l left (both_true (nat_le 1 l) (nat_le l left) tests.0).1 in
     let own : nat_lt l 4294967296 ≡ true = grind (arith, nat_tests) in
-    both (nat_lt l 4294967296) (list_all (λ b. nat_lt b 4294967296) ls) own (small_limits (left - l) ls (omega (arith, small)) tests.1)
+    and_from (nat_lt l 4294967296) (list_all (λ b. nat_lt b 4294967296) ls) own (small_limits (left - l) ls (omega (arith, small)) tests.1)
 
 small_zeros : (n : ℕ) (ls : List ℕ) → list_all (λ b. nat_lt b 4294967296) ls ≡ true → list_all (λ b. nat_lt b 4294967296) (ls ++ zeros n) ≡ true
 small_zeros zero [] small = refl
 small_zeros (suc n) [] small = small_zeros n [] refl
 small_zeros n (l ∷ ls) small =
     let tests = both_true (nat_lt l 4294967296) (list_all (λ b. nat_lt b 4294967296) ls) small in
-    both (nat_lt l 4294967296) (list_all (λ b. nat_lt b 4294967296) (ls ++ zeros n)) tests.0 (small_zeros n ls tests.1)
+    and_from (nat_lt l 4294967296) (list_all (λ b. nat_lt b 4294967296) (ls ++ zeros n)) tests.0 (small_zeros n ls tests.1)
 
 words_zero : (n : ℕ) → flat_map u32 (zeros n) ≡ zeros (4 * n)
 words_zero zero = let none : 0 ≡ 4 * 0 = omega arith in ap zeros none
@@ -166,15 +158,15 @@ module _ (g : Shape) (shape : IsShape g) where
   limits_room (l ∷ ls) e =
       let tests = both_true (has_limits_room g && nat_le (length (l ∷ ls)) 8) (fit_in (limit g) (l ∷ ls)) e in
       let own = both_true (has_limits_room g) (nat_le (length (l ∷ ls)) 8) tests.0 in
-      let room : 64 + 32 + 2 * (meta_blocks g + 4) ≤ g.page_bytes = at_most (64 + 32 + 2 * (meta_blocks g + 4)) g.page_bytes own.0 in
-      let few : length (l ∷ ls) ≤ 8 = at_most (length (l ∷ ls)) 8 own.1 in
+      let room : 64 + 32 + 2 * (meta_blocks g + 4) ≤ g.page_bytes = leb-true (64 + 32 + 2 * (meta_blocks g + 4)) g.page_bytes own.0 in
+      let few : length (l ∷ ls) ≤ 8 = leb-true (length (l ∷ ls)) 8 own.1 in
       omega (arith, room, padded_words (l ∷ ls) few)
 
   pub limits_few : (ls : List ℕ) → are_limits g ls ≡ true → length ls ≤ 8
   limits_few [] e = omega arith
   limits_few (l ∷ ls) e =
       let tests = both_true (has_limits_room g && nat_le (length (l ∷ ls)) 8) (fit_in (limit g) (l ∷ ls)) e in
-      at_most (length (l ∷ ls)) 8 (both_true (has_limits_room g) (nat_le (length (l ∷ ls)) 8) tests.0).1
+      leb-true (length (l ∷ ls)) 8 (both_true (has_limits_room g) (nat_le (length (l ∷ ls)) 8) tests.0).1
 
   -- limits that are kept are those of the namespaces
   pub limits_kept : (n : ℕ) (ls : List ℕ) → 1 ≤ n → n ≤ length ls → limits_of g (take n ls) ≡ take n ls
@@ -208,8 +200,8 @@ module _ (g : Shape) (shape : IsShape g) where
       (counted : is_space_count (u16_at page 8) (u32_at page 20) ≡ true) (good : space_fault g page ≡ None) where
     none_limited : has_limits page ≡ false → Limited page []
     none_limited off = record {
-      version = equal (u16_at page 8) 2 (plain (u16_at page 8 == 2) (u16_at page 8 == 3) (has_limits_room g) off version);
-      count = equal (u32_at page 20) 0 (sym (ap (λ (t : Bool). if t then nat_le 1 (u32_at page 20) && nat_le (u32_at page 20) 8 else u32_at page 20 == 0) off) ∙ counted);
+      version = eqb-true (u16_at page 8) 2 (plain (u16_at page 8 == 2) (u16_at page 8 == 3) (has_limits_room g) off version);
+      count = eqb-true (u32_at page 20) 0 (sym (ap (λ (t : Bool). if t then nat_le 1 (u32_at page 20) && nat_le (u32_at page 20) 8 else u32_at page 20 == 0) off) ∙ counted);
       from = ap (λ (t : Bool). if t then 64 + 32 else 64) off;
       stand = refl;
       good = refl;
@@ -228,12 +220,12 @@ module _ (g : Shape) (shape : IsShape g) where
         let k : ℕ = u32_at page 20 in
         let behind : List ℕ = drop 64 page in
         let least = shape.page_least in
-        let is : u16_at page 8 ≡ 3 = equal (u16_at page 8) 3 on in
+        let is : u16_at page 8 ≡ 3 = eqb-true (u16_at page 8) 3 on in
         let counts = both_true (nat_le 1 k) (nat_le k 8) (sym (ap (λ (t : Bool). if t then nat_le 1 k && nat_le k 8 else k == 0) on) ∙ counted) in
-        let few : k ≤ 8 = at_most k 8 counts.1 in
+        let few : k ≤ 8 = leb-true k 8 counts.1 in
         let fault : limits_fault 64 (limit g) k (u32s_at 8 behind) ≡ None = sym (ap (λ (t : Bool). if t then limits_fault 64 (limit g) k (u32s_at 8 behind) else None) on) ∙ good in
         let taken = limits_taken 8 k 64 (limit g) behind few fault in
-        let own = some_limits k behind (at_most 1 k counts.0) in
+        let own = some_limits k behind (leb-true 1 k counts.0) in
         let len = length-u32s k behind in
         let eight : u32s_at 8 behind ≡ padded 8 (u32s_at k behind) = taken.0 ∙ ap (λ (m : ℕ). u32s_at k behind ++ zeros (8 - m)) (sym len) in
         let words : limit_bytes (u32s_at k behind) ≡ flat_map u32 (u32s_at 8 behind) = own.spelled ∙ ap (flat_map u32) (sym eight) in
@@ -247,8 +239,8 @@ module _ (g : Shape) (shape : IsShape g) where
               words_stand 8 behind (λ i. rw (get_or-drop 64 page i 0) (fits (64 + i))) (omega (arith, length-drop 64 page, sized))
               ∙ ap (λ (r : List ℕ). r ++ drop 32 behind) (sym words)
               ∙ ap (λ (r : List ℕ). limit_bytes (u32s_at k behind) ++ r) (drop-drop 32 64 page ∙ ap (λ (w : ℕ). drop (64 + w) page) (sym wide));
-          good = own.test ∙ both (has_limits_room g && nat_le (length (u32s_at k behind)) 8) (fit_in (limit g) (u32s_at k behind))
-              (both (has_limits_room g) (nat_le (length (u32s_at k behind)) 8) room (ap (λ (m : ℕ). nat_le m 8) len ∙ counts.1)) taken.1;
+          good = own.test ∙ and_from (has_limits_room g && nat_le (length (u32s_at k behind)) 8) (fit_in (limit g) (u32s_at k behind))
+              (and_from (has_limits_room g) (nat_le (length (u32s_at k behind)) 8) room (ap (λ (m : ℕ). nat_le m 8) len ∙ counts.1)) taken.1;
           read = ap (λ (t : Bool). if t then u32s_at k behind else []) on;
           kept = ap (λ (r : List ℕ). take (length (u32s_at k behind)) r) taken.0 ∙ take_at (u32s_at k behind) (zeros (8 - k)) (length (u32s_at k behind)) refl;
         }
@@ -287,7 +279,7 @@ module _ (g : Shape) (shape : IsShape g) where
       let all : List ℕ = l ∷ ls in
       let tests = both_true (has_limits_room g && nat_le (length all) 8) (fit_in (limit g) all) e in
       let own = both_true (has_limits_room g) (nat_le (length all) 8) tests.0 in
-      let few : length all ≤ 8 = at_most (length all) 8 own.1 in
+      let few : length all ≤ 8 = leb-true (length all) 8 own.1 in
       let rest : List ℕ = drop (64 + length (limit_bytes all)) page in
       let small = small_limits (limit g) all (limit_small g shape) tests.1 in
       let eight : u32s_at 8 (drop 64 page) ≡ padded 8 all =
@@ -299,7 +291,7 @@ module _ (g : Shape) (shape : IsShape g) where
       ∙ words_again all (flat_map u32 (zeros (8 - length all)) ++ rest) small in
       record {
         version = ap (is_version g) v ∙ own.0;
-        count = (λ i. is_space_count (v i) (k i)) ∙ both (nat_le 1 (length all)) (nat_le (length all) 8) (le-leb 1 (length all) (omega arith)) own.1;
+        count = (λ i. is_space_count (v i) (k i)) ∙ and_from (nat_le 1 (length all)) (nat_le (length all) 8) (le-leb 1 (length all) (omega arith)) own.1;
         fault =
             ap (λ (n : ℕ). if n == 3 then limits_fault 64 (limit g) (u32_at page 20) (u32s_at 8 (drop 64 page)) else None) v
             ∙ (λ i. limits_fault 64 (limit g) (k i) (eight i)) ∙ limits_pass 64 (limit g) (8 - length all) all tests.1;

@@ -1,16 +1,16 @@
 -- The check of a page passes exactly the pages of roots.
-use Rattle.std.proofs.Common.{◌≡◌, ℕ, ◌+◌, ◌-◌, ◌*◌, ◌^◌, ◌<◌, ◌≤◌, Bool, true, false, List, [], ◌∷◌, ◌++◌, length, take, drop, get_or, map, refl, sym, ap, subst, ◌∙◌, arith, length-append}
-use Rattle.std.proofs.Common.{length-drop, get_or-drop, Some, None}
+use Rattle.std.proofs.Common.{◌≡◌, ℕ, ◌+◌, ◌-◌, ◌*◌, ◌^◌, ◌<◌, ◌≤◌, Bool, true, List, [], ◌∷◌, ◌++◌, length, take, drop, get_or, map, refl, sym, ap, subst, ◌∙◌, arith, length-append, length-drop}
+use Rattle.std.proofs.Common.{get_or-drop, Some, None}
 use Rattle.std.specs.Prelude.{nat_eq, nat_le, ◌==◌, ◌&&◌, ◌||◌, if◌then◌else◌, bytes_eq, sum}
-use Rattle.std.{specs.List.flat_map, specs.List.concat, proofs.Math.Dec.eqb_refl, proofs.lemmas.Bool.Decides.nat_tests}
 use Rattle.std.proofs.lemmas.List.{drop_all, drop-drop, length-replicate, append-nil, append_assoc}
+use Rattle.std.{specs.List.flat_map, specs.List.concat, proofs.Math.Dec.eqb_refl, proofs.lemmas.Bool.Decides.nat_tests}
 use Rattle.pk_base.{specs.Fields.u16, specs.Fields.u32, specs.Fields.u64, specs.Fields.u16_at, specs.Fields.u32_at, specs.Fields.spelled, specs.Fields.zeros, specs.FieldFaults.u64_at}
 use Rattle.pk_base.{specs.Shape.Shape, specs.Shape.IsShape, specs.Shape.run_blocks, specs.Shape.meta_blocks, proofs.Logic.both_true, proofs.Logic.is_true}
 use Rattle.pk_base.proofs.Tables.{◌⊕◌, fields_of, AllNone, all_none, unless_true, unlike_stands, number_stands, number_fits, Stand, stand_spelled}
 use Rattle.pk_rootfmt.specs.Root.{Root, named, root_bytes, root_at, root_page, is_root, is_number, has_runs, differ, u16s_at, parts, version_of, limit_bytes, are_limits, page_limits, list_from}
 use Rattle.pk_rootfmt.specs.Fault.{root_magic, is_epoch, is_run_count, shape_checks, number_checks, list_checks, listed, shape_fault, number_fault, space_fault, list_fault}
-use Rattle.pk_rootfmt.{specs.Held.total, proofs.RoomLemmas.runs_most, proofs.LimitLemmas.by_test, proofs.LimitLemmas.Limited, proofs.LimitLemmas.limited, proofs.LimitLemmas.limits_room}
 use Rattle.pk_rootfmt.proofs.BlockLemmas.{length-u16s, length-numbers, numbers_stand, numbers_split, parts_lengths, parts_joined, are_blocks, Others, others_from_check}
+use Rattle.pk_rootfmt.{specs.Held.total, proofs.RoomLemmas.runs_most, proofs.LimitLemmas.by_test, proofs.LimitLemmas.Limited, proofs.LimitLemmas.limited, proofs.LimitLemmas.limits_room}
 
 -- ---- tests, one after another
 
@@ -32,34 +32,17 @@ pub record Parts (g : Shape) (root : Root) : Type 0 where
 pub parts_root : (g : Shape) (root : Root) → Parts g root → is_root g root ≡ true
 parts_root g root h = all_true _ _ _ _ _ _ _ _ _ h.number h.some h.most h.two h.older h.runs h.blocks h.differs h.limits
 
-record Nine (a b c d e f g h k : Bool) : Type 0 where
-  pub p1 : a ≡ true
-  pub p2 : b ≡ true
-  pub p3 : c ≡ true
-  pub p4 : d ≡ true
-  pub p5 : e ≡ true
-  pub p6 : f ≡ true
-  pub p7 : g ≡ true
-  pub p8 : h ≡ true
-  pub p9 : k ≡ true
-
-nine : (a b c d e f g h k : Bool) → (a && b && c && d && e && f && g && h && k) ≡ true → Nine a b c d e f g h k
-nine true true true true true true true true true e0 = record { p1 = refl; p2 = refl; p3 = refl; p4 = refl; p5 = refl; p6 = refl; p7 = refl; p8 = refl; p9 = refl }
-nine true true true true true true true true false e0 = cc
-nine true true true true true true true false k e0 = cc
-nine true true true true true true false h k e0 = cc
-nine true true true true true false g h k e0 = cc
-nine true true true true false f g h k e0 = cc
-nine true true true false e f g h k e0 = cc
-nine true true false d e f g h k e0 = cc
-nine true false c d e f g h k e0 = cc
-nine false b c d e f g h k e0 = cc
-
 pub root_parts : (g : Shape) (root : Root) → is_root g root ≡ true → Parts g root
 root_parts g root e =
-    let own = nine (is_number root.number) (nat_le 1 root.epoch) (nat_le root.epoch root.number) (nat_eq (length root.newest) 2)
-    (nat_eq (length root.older) 0 || (nat_eq (length root.older) 2 && nat_le 2 root.epoch)) (has_runs g root) (are_blocks g (named root)) (differ (named root)) (are_limits g root.limits) e in
-    record { number = own.p1; some = own.p2; most = own.p3; two = own.p4; older = own.p5; runs = own.p6; blocks = own.p7; differs = own.p8; limits = own.p9 }
+    let nine = both_true _ (are_limits g root.limits) e in
+    let eight = both_true _ (differ (named root)) nine.0 in
+    let seven = both_true _ (are_blocks g (named root)) eight.0 in
+    let six = both_true _ (has_runs g root) seven.0 in
+    let five = both_true _ (nat_eq (length root.older) 0 || (nat_eq (length root.older) 2 && nat_le 2 root.epoch)) six.0 in
+    let four = both_true _ (nat_eq (length root.newest) 2) five.0 in
+    let three = both_true _ (nat_le root.epoch root.number) four.0 in
+    let two = both_true (is_number root.number) (nat_le 1 root.epoch) three.0 in
+    record { number = two.0; some = two.1; most = three.1; two = four.1; older = five.1; runs = six.1; blocks = seven.1; differs = eight.1; limits = nine.1 }
 
 pub bytes_same : (xs : List ℕ) → bytes_eq xs xs ≡ true
 bytes_same [] = refl
@@ -325,14 +308,11 @@ module _ (g : Shape) (page : List ℕ) (fits : (i : ℕ) → get_or page i 0 < 2
         number_test : (n : ℕ) → nat_le 1 n ≡ true → n < 256 ^ 8 → is_number n ≡ true
         number_test n e f = grind (arith, nat_tests)
 
-        split : (p q r : Bool) → (p && q && r) ≡ true → (p ≡ true) × (q ≡ true) × (r ≡ true)
-        split true true true e = (refl, refl, refl)
-        split true true false e = cc
-        split true false r e = cc
-        split false q r e = cc
-
         epoch_tests : (j n e : ℕ) → is_epoch j n e ≡ true → (nat_le 1 e ≡ true) × (nat_le e n ≡ true) × ((nat_eq j 2 || nat_le 2 e) ≡ true)
-        epoch_tests j n e t = split (nat_le 1 e) (nat_le e n) (nat_eq j 2 || nat_le 2 e) t
+        epoch_tests j n e t =
+            let front = both_true (nat_le 1 e && nat_le e n) (nat_eq j 2 || nat_le 2 e) t in
+            let parts = both_true (nat_le 1 e) (nat_le e n) front.0 in
+            (parts.0, parts.1, front.1)
 
     pub bytes_taken : page ≡ root_bytes g (root_at g page)
     bytes_taken =

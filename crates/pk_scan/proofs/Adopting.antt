@@ -1,6 +1,8 @@
 -- Blocks that become an owner's one after another.
-use Rattle.std.proofs.Common.{◌≡◌, inl, inr, ℕ, zero, suc, ◌+◌, ◌<◌, ◌≤◌, Bool, true, false, not, ◌&&◌, ◌||◌, ◌==◌, cond, List, [], ◌∷◌, ◌++◌, length, take, drop, refl, sym, ap, subst, ◌∙◌, arith}
-use Rattle.std.proofs.Common.{Option, Some, None, option_map, length-append, append_assoc, append-nil}
+use Rattle.std.proofs.Common.{◌≡◌, inl, inr, ℕ, ◌+◌, ◌<◌, ◌≤◌, Bool, true, false, not, ◌||◌, ◌==◌, cond, List, [], ◌∷◌, ◌++◌, length, take, drop, refl, sym, ap, subst, ◌∙◌, arith, Option, Some, None}
+use Rattle.std.proofs.Common.{option_map, length-append, append-nil}
+use Rattle.std.proofs.lemmas.Bool.{and_parts, and_from, or_parts, or_from, not-true, not_from_false}
+use Rattle.std.{proofs.lemmas.List.drop_more, proofs.lemmas.List.Folds.concat-append, proofs.lemmas.Option.slice_get_within, proofs.lemmas.Option.get_or_from_slice_get}
 use Rattle.std.{specs.Prelude.slice_get, specs.List.list_any, specs.List.concat, specs.List.AllByRecursion, proofs.Math.ListN.set, proofs.lemmas.Bool.false≢true, proofs.lemmas.Bool.Decides.eqb_tells}
 use Rattle.std.{proofs.lemmas.List.Folds.list_any-append, proofs.lemmas.List.take_all}
 use Rattle.pk_base.specs.Page.{Flash}
@@ -17,32 +19,9 @@ all_of : {P : ℕ → Type 0} (each : (b : ℕ) → P b) (bs : List ℕ) → All
 all_of each [] = tt
 all_of each (b ∷ bs) = (each b, all_of each bs)
 
-and_left : (a b : Bool) → (a && b) ≡ true → a ≡ true
-and_left true b e = refl
-and_left false b e = e
-
-and_right : (a b : Bool) → (a && b) ≡ true → b ≡ true
-and_right true b e = e
-and_right false b e = absurd (false≢true e)
-
-not_true : (a : Bool) → not a ≡ true → a ≡ false
-not_true true e = absurd (false≢true e)
-not_true false e = refl
-
-or_both : (a b : Bool) → a ≡ false → b ≡ false → (a || b) ≡ false
-or_both a b p q = rw (p, q) refl
-
 none_is : (x : ℕ) (bs : List ℕ) → list_any (λ c. x == c) bs ≡ false → AllByRecursion (λ b. (x == b) ≡ false) bs
 none_is x [] e = tt
-none_is x (b ∷ bs) e = (left (x == b) (list_any (λ c. x == c) bs) e, none_is x bs (right (x == b) (list_any (λ c. x == c) bs) e))
-  where
-    left : (p q : Bool) → (p || q) ≡ false → p ≡ false
-    left true q e = e
-    left false q e = refl
-
-    right : (p q : Bool) → (p || q) ≡ false → q ≡ false
-    right true q e = absurd (false≢true (sym e))
-    right false q e = e
+none_is x (b ∷ bs) e = let parts = or_parts (x == b) (list_any (λ c. x == c) bs) e in (parts.0, none_is x bs parts.1)
 
 none_back : (x : ℕ) (xs ys : List ℕ) → AllByRecursion (λ b. (x == b) ≡ false) (xs ++ ys) → AllByRecursion (λ b. (x == b) ≡ false) ys
 none_back x [] ys all = all
@@ -50,29 +29,24 @@ none_back x (z ∷ xs) ys all = none_back x xs ys all.1
 
 both_none : (x : ℕ) (xs ys : List ℕ) → AllByRecursion (λ b. (x == b) ≡ false) ys → AllByRecursion (λ b. is_among xs b ≡ false) ys → AllByRecursion (λ b. is_among (x ∷ xs) b ≡ false) ys
 both_none x xs [] p q = tt
-both_none x xs (y ∷ ys) p q = (or_both (x == y) (is_among xs y) p.0 q.0, both_none x xs ys p.1 q.1)
+both_none x xs (y ∷ ys) p q = (or_from (x == y) (is_among xs y) p.0 q.0, both_none x xs ys p.1 q.1)
 
 -- if all differ, none of the later ones is among the earlier ones
 pub apart : (xs ys : List ℕ) → differ (xs ++ ys) ≡ true → AllByRecursion (λ b. is_among xs b ≡ false) ys
 apart [] ys e = all_of (λ b. refl) ys
 apart (x ∷ xs) ys e =
-    both_none x xs ys (none_back x xs ys (none_is x (xs ++ ys) (not_true _ (and_left _ _ e)))) (apart xs ys (and_right _ _ e))
+    both_none x xs ys (none_back x xs ys (none_is x (xs ++ ys) (not-true _ (and_parts _ _ e).0))) (apart xs ys (and_parts _ _ e).1)
 
 pub differ_back : (xs ys : List ℕ) → differ (xs ++ ys) ≡ true → differ ys ≡ true
 differ_back [] ys e = e
-differ_back (x ∷ xs) ys e = differ_back xs ys (and_right _ _ e)
+differ_back (x ∷ xs) ys e = differ_back xs ys (and_parts _ _ e).1
 
 pub differ_front : (xs ys : List ℕ) → differ (xs ++ ys) ≡ true → differ xs ≡ true
 differ_front [] ys e = refl
-differ_front (x ∷ xs) ys e = two _ _ (front (list_any (λ c. x == c) xs) (list_any (λ c. x == c) ys) (ap not (sym (list_any-append (λ c. x == c) xs ys)) ∙ and_left _ _ e))
-    (differ_front xs ys (and_right _ _ e))
-  where
-    front : (p q : Bool) → not (p || q) ≡ true → not p ≡ true
-    front true q e = e
-    front false q e = refl
-
-    two : (p q : Bool) → p ≡ true → q ≡ true → (p && q) ≡ true
-    two p q e f = rw (e, f) refl
+differ_front (x ∷ xs) ys e =
+    let parts = and_parts _ _ e in
+    let fresh = not-true _ (ap not (sym (list_any-append (λ c. x == c) xs ys)) ∙ parts.0) in
+    and_from _ _ (not_from_false _ (or_parts (list_any (λ c. x == c) xs) (list_any (λ c. x == c) ys) fresh).0) (differ_front xs ys parts.1)
 
 -- ---- adopting
 
@@ -202,12 +176,7 @@ adopts_block o p q b spare is counted fits = adopts_same (λ c. sym (or_false (b
 
 -- the first of those that remain
 pub drop_next : {X : Type 0} (xs : List X) (i : ℕ) (x : X) → slice_get xs i ≡ Some x → drop i xs ≡ x ∷ drop (i + 1) xs
-drop_next {X = X} xs i x got = let k : i + 1 ≡ suc i = omega arith in rw k (at_suc xs i got)
-  where
-    at_suc : (xs : List X) (i : ℕ) → slice_get xs i ≡ Some x → drop i xs ≡ x ∷ drop (suc i) xs
-    at_suc [] i got = cc
-    at_suc (y ∷ xs) zero got = let same : y ≡ x = cc in ap (λ (z : X). z ∷ xs) same
-    at_suc (y ∷ xs) (suc i) got = at_suc xs i got
+drop_next xs i x got = drop_more xs i x (slice_get_within xs i x got) ∙ ap (λ y. y ∷ drop (i + 1) xs) (get_or_from_slice_get xs i x x got)
 
 -- this many of these blocks were adopted, and the others may be
 pub record Adopting (o : Owner) (blocks : List ℕ) (old now : Blocks) (i : ℕ) : Type 0 where
@@ -240,10 +209,6 @@ module _ (o : Owner) (blocks : List ℕ) (old now : Blocks) (i : ℕ) (a : Adopt
 
 -- ---- lists of lists
 
-pub concat_lists : (xs ys : List (List ℕ)) → concat (xs ++ ys) ≡ concat xs ++ concat ys
-concat_lists [] ys = refl
-concat_lists (x ∷ xs) ys = ap (λ (bs : List ℕ). x ++ bs) (concat_lists xs ys) ∙ sym (append_assoc x (concat xs) (concat ys))
-
 -- the blocks of this many runs were adopted, and the others may be
 pub record RunsAdopting (runs : List (List ℕ)) (old now : Blocks) (i : ℕ) : Type 0 where
   pub done : Adopts Meta (is_among (concat (take i runs))) (length (concat (take i runs))) old now
@@ -262,7 +227,7 @@ module _ (runs : List (List ℕ)) (old now : Blocks) (i : ℕ) (a : RunsAdopting
   pub RunsAdopting-next : (run : List ℕ) (new : Blocks) → slice_get runs i ≡ Some run → Adopts Meta (is_among run) (length run) now new → RunsAdopting runs old new (i + 1)
   RunsAdopting-next run new got one =
       let lists : concat (take i runs) ++ run ≡ concat (take (i + 1) runs) =
-      ap (λ (bs : List ℕ). concat (take i runs) ++ bs) (sym (append-nil run)) ∙ sym (concat_lists (take i runs) (run ∷ [])) ∙ ap concat (sym (take_more runs i run got)) in
+      ap (λ (bs : List ℕ). concat (take i runs) ++ bs) (sym (append-nil run)) ∙ sym (concat-append (take i runs) (run ∷ [])) ∙ ap concat (sym (take_more runs i run got)) in
       record {
         done = subst (λ (bs : List ℕ). Adopts Meta (is_among bs) (length bs) old new) lists (adopts_lists (concat (take i runs)) run a.done one);
         left = may_back run (concat (drop (i + 1) runs)) (next_may run got) one;

@@ -1,8 +1,9 @@
 -- The blocks of live values: a root does not name them, so they are free, and they are not too many.
 use Rattle.std.proofs.Common.{◌≡◌, ◌≢◌, inl, inr, ℕ, zero, suc, ◌+◌, ◌-◌, ◌/◌, ◌<◌, ◌≤◌, Bool, true, false, not, ◌&&◌, ◌||◌, ◌==◌, cond, List, [], ◌∷◌, ◌++◌, length, take, drop, get_or, map, refl}
 use Rattle.std.proofs.Common.{sym, ap, subst, ◌∙◌, arith, Option, Some, None, option_map}
+use Rattle.std.proofs.lemmas.Bool.{false≢true, or_parts, or_cases, and_parts, eqb-true, cases_eq, or_right, not-true}
+use Rattle.std.proofs.lemmas.List.{get_or_push}
 use Rattle.std.{specs.Prelude.slice_get, specs.Prelude.count_by, specs.Prelude.nat_le, specs.List.list_any, specs.List.list_all, specs.List.concat, specs.List.range_with_len}
-use Rattle.std.proofs.lemmas.Bool.{false≢true, or_parts, or_cases, and_parts, eqb-true, cases_eq}
 use Rattle.std.{proofs.lemmas.Bool.Decides.nat_tests, proofs.lemmas.Bool.Decides.eqb_tells, proofs.lemmas.List.FromFn.length-map-range_with_len, proofs.lemmas.List.FromFn.get_or-map-range_with_len}
 use Rattle.std.{proofs.lemmas.List.take_all, proofs.lemmas.List.length-take-le, proofs.lemmas.List.take-append-drop, proofs.lemmas.List.get_or_past, proofs.lemmas.List.Folds.list_any-append}
 use Rattle.std.{proofs.lemmas.Option.slice_get-get_or, proofs.lemmas.List.Sums.sum_by-append, proofs.lemmas.List.Sums.sum_by-cons, proofs.lemmas.List.Sums.length-filter}
@@ -20,10 +21,6 @@ use Rattle.pk_scan.proofs.Naming.{unused_free, unused_none}
 
 -- ---- flags, one more after another
 
-flag_here : (xs : List Bool) (c : Bool) → get_or (xs ++ c ∷ []) (length xs) false ≡ c
-flag_here [] c = refl
-flag_here (x ∷ xs) c = flag_here xs c
-
 flag_other : (xs : List Bool) (c : Bool) (b : ℕ) → b ≢ length xs → get_or (xs ++ c ∷ []) b false ≡ get_or xs b false
 flag_other [] c zero ne = absurd (ne refl)
 flag_other [] c (suc b) ne = refl
@@ -32,7 +29,7 @@ flag_other (x ∷ xs) c (suc b) ne = flag_other xs c b (λ e. ne (ap suc e))
 
 flag_same : (xs : List Bool) (b : ℕ) → get_or (xs ++ false ∷ []) b false ≡ get_or xs b false
 flag_same xs b = elim (cases_eq b (length xs)) [
-  | inl e ↦ ap (λ k. get_or (xs ++ false ∷ []) k false) e ∙ flag_here xs false ∙ sym (get_or_past xs b false (omega (arith, e)))
+  | inl e ↦ ap (λ k. get_or (xs ++ false ∷ []) k false) e ∙ get_or_push xs false false (length xs) refl ∙ sym (get_or_past xs b false (omega (arith, e)))
   | inr ne ↦ flag_other xs false b ne
 ]
 
@@ -40,16 +37,12 @@ flag_more : (xs : List Bool) (i b : ℕ) → length xs ≡ i → (get_or xs b fa
 flag_more xs i b many = elim (eqb_tells i b) [
   | inl e ↦
       let here : b ≡ length xs = sym e.1 ∙ sym many in
-      both (get_or xs b false) (i == b) e.0 ∙ sym (ap (λ k. get_or (xs ++ true ∷ []) k false) here ∙ flag_here xs true)
+      or_right (get_or xs b false) (i == b) e.0 ∙ sym (ap (λ k. get_or (xs ++ true ∷ []) k false) here ∙ get_or_push xs true false (length xs) refl)
   | inr ne ↦
       let other : b ≢ length xs = λ e. ne.1 (sym (e ∙ many)) in
       left (get_or xs b false) (i == b) ne.0 ∙ sym (flag_other xs true b other)
 ]
   where
-    both : (p q : Bool) → q ≡ true → (p || q) ≡ true
-    both true q e = refl
-    both false q e = e
-
     left : (p q : Bool) → q ≡ false → (p || q) ≡ p
     left true q e = refl
     left false q e = e
@@ -78,13 +71,9 @@ any_outside n names [] b out has = absurd (false≢true has)
 any_outside n names (p ∷ pages) b out has =
     let parts = and_parts (not (list_any (λ c. c == p / n) names)) (list_all (λ p. not (list_any (λ c. c == p / n) names)) pages) out in
     elim (or_cases (p / n == b) (list_any (λ p. p / n == b) pages) has) [
-      | inl here ↦ subst (λ (k : ℕ). is_among names k ≡ false) (eqb-true (p / n) b here) (not_true (list_any (λ c. c == p / n) names) parts.0)
+      | inl here ↦ subst (λ (k : ℕ). is_among names k ≡ false) (eqb-true (p / n) b here) (not-true (list_any (λ c. c == p / n) names) parts.0)
       | inr later ↦ any_outside n names pages b parts.1 later
     ]
-  where
-    not_true : (a : Bool) → not a ≡ true → a ≡ false
-    not_true true e = absurd (false≢true e)
-    not_true false e = refl
 
 module _ (shape : Shape) (is_shape : IsShape shape) where
   -- a block with a page of a value is after the root blocks

@@ -1,8 +1,8 @@
 -- Epochs that were replayed, as the reading of a flash has them.
 use Rattle.std.proofs.Common.{◌≡◌, ℕ, ◌-◌, ◌*◌, ◌/◌, ◌<◌, ◌≤◌, Bool, true, false, ◌||◌, ◌==◌, List, [], ◌∷◌, length, refl, sym, ap, subst, ◌∙◌, arith, Option, Some, None, Result, Ok, Err}
-use Rattle.std.{specs.Prelude.nat_le, specs.Prelude.slice_index, proofs.Math.Nat.zero-div, proofs.Math.Nat.zero-mod, proofs.lemmas.Bool.Decides.nat_tests}
 use Rattle.std.specs.declared.cmp.Ordering.TheVariants.{Less, Equal, Greater}
-use Rattle.std.specs.FinMap.Entries.{put, by_order}
+use Rattle.std.{specs.FinMap.Entries.put, specs.FinMap.Entries.by_order, proofs.lemmas.Bool.or_right, proofs.lemmas.Bool.or_from}
+use Rattle.std.{specs.Prelude.nat_le, specs.Prelude.slice_index, proofs.Math.Nat.zero-div, proofs.Math.Nat.zero-mod, proofs.lemmas.Bool.Decides.nat_tests}
 use Rattle.pk_base.{specs.Key.Key, specs.Key.key_cmp, specs.Shape.Shape, specs.Shape.epoch_commits, specs.Entry.Entry, specs.Entry.Place, specs.Firsts.firsts}
 use Rattle.pk_base.specs.Page.{Page, Flash, page_at, page_in, commits_of}
 use Rattle.pk_base.specs.Refusal.{Refusal, damaged, ensure, ◌>>=◌}
@@ -53,10 +53,6 @@ module _ (shape : Shape) (at : ℕ → Page) (root : Root) where
   refuses_with true es e = cc
   refuses_with false es e = refl
 
-  or_true : (a b : Bool) → b ≡ true → (a || b) ≡ true
-  or_true true b e = refl
-  or_true false b e = e
-
 abbrev refusal_at : ℕ → Result (List Entry) Refusal
 refusal_at page = Err (damaged page)
 
@@ -96,7 +92,7 @@ module _ (shape : Shape) (flash : Flash) (root : Root) where
           r.entries,
           record {
             finds = read_of shape at root r.entries (read_older r.read)
-                ∙ passes_with shape at root (length root.older == 0 || nat_le 1 (length r.entries)) r.entries (or_true shape at root (length root.older == 0) (nat_le 1 (length r.entries)) test);
+                ∙ passes_with shape at root (length root.older == 0 || nat_le 1 (length r.entries)) r.entries (or_right (length root.older == 0) (nat_le 1 (length r.entries)) test);
             held = r.held;
             each = r.each;
           },
@@ -105,10 +101,6 @@ module _ (shape : Shape) (flash : Flash) (root : Root) where
     first_of_some : (os : List ℕ) → Some bs ≡ older_of os → (length os == 0) ≡ false
     first_of_some [] e = cc
     first_of_some (o ∷ os) e = grind (arith, nat_tests)
-
-    both_false : (a b : Bool) → a ≡ false → b ≡ false → (a || b) ≡ false
-    both_false true b e f = cc
-    both_false false b e f = f
 
     first_page : slice_index bs 0 * shape.block_pages ≡ page_in shape root.older 0
     first_page = ap (λ (os : List ℕ). slice_index os 0 * shape.block_pages) (older_is root.older bs is) ∙ first_in shape root.older
@@ -121,7 +113,7 @@ module _ (shape : Shape) (flash : Flash) (root : Root) where
         let test : nat_le 1 (length r.entries) ≡ false = grind (arith, nat_tests) in
         read_of shape at root r.entries (read_older r.read)
         ∙ refuses_with shape at root (length root.older == 0 || nat_le 1 (length r.entries)) r.entries
-        (both_false (length root.older == 0) (nat_le 1 (length r.entries)) (first_of_some root.older is) test)
+        (or_from (length root.older == 0) (nat_le 1 (length r.entries)) (first_of_some root.older is) test)
         ∙ sym (ap refusal_at first_page)
 
     pub older_refused : (page : ℕ) → epoch shape (root_spaces shape root) at (root.epoch - 1) bs ≡ Err (damaged page) → older_epoch shape at root ≡ Err (damaged page)

@@ -1,5 +1,6 @@
 -- How many pages are read: of an epoch, and of runs.
-use Rattle.std.proofs.Common.{◌≡◌, ℕ, zero, suc, ◌+◌, ◌-◌, ◌*◌, ◌/◌, ◌<◌, ◌≤◌, List, [], ◌∷◌, ◌++◌, length, take, get_or, refl, sym, ap, subst, ◌∙◌, arith, Some, None}
+use Rattle.std.proofs.Common.{◌≡◌, ℕ, suc, ◌+◌, ◌-◌, ◌*◌, ◌/◌, ◌<◌, ◌≤◌, List, [], ◌∷◌, ◌++◌, length, take, get_or, refl, sym, ap, subst, ◌∙◌, arith, Some, None}
+use Rattle.std.proofs.Math.Seq.{take-suc}
 use Rattle.std.{specs.Prelude.slice_index, proofs.lemmas.List.take_all}
 use Rattle.pk_base.{specs.Shape.Shape, specs.Shape.run_pages, specs.Page.Flash, specs.Page.page_at}
 use Rattle.pk_nand.{specs.BoardState.BoardState, specs.Counts.after_reads}
@@ -28,11 +29,6 @@ module _ (shape : Shape) (flash : Flash) (root : Root) where
 
 -- ---- runs
 
-pub take_next : {X : Type 0} (xs : List X) (k : ℕ) (d : X) → k < length xs → take (suc k) xs ≡ take k xs ++ get_or xs k d ∷ []
-take_next [] k d h = absurd (omega (arith, h))
-take_next (x ∷ xs) zero d h = refl
-take_next (x ∷ xs) (suc k) d h = ap (λ (ys : List _). x ∷ ys) (take_next xs k d (omega (arith, h)))
-
 pages_more : (shape : Shape) (counts : List ℕ) (count : ℕ) → pages_of_runs shape (counts ++ count ∷ []) ≡ run_pages shape count + pages_of_runs shape counts
 pages_more shape [] count = refl
 pages_more shape (c ∷ counts) count =
@@ -48,7 +44,7 @@ pub runs_exact_next : (shape : Shape) (counts : List ℕ) (k level : ℕ) (old n
     → new ≡ after_reads (pages_of_runs shape (take (suc k) counts)) old
 runs_exact_next shape counts k level old now new inside place before more =
     reads_sum old now new (pages_of_runs shape (take k counts)) (run_pages shape (slice_index counts (level - 1))) (pages_of_runs shape (take (suc k) counts))
-    (sym (ap (pages_of_runs shape) (take_next counts k 0 inside) ∙ pages_more shape (take k counts) (get_or counts k 0)
+    (sym (ap (pages_of_runs shape) (take-suc counts k 0 inside) ∙ pages_more shape (take k counts) (get_or counts k 0)
     ∙ ap (λ (j : ℕ). run_pages shape (slice_index counts j) + pages_of_runs shape (take k counts)) (sym place)))
     before more
 

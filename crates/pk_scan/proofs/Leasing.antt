@@ -1,8 +1,8 @@
 -- Frames that are leased one after another.
-use Rattle.std.proofs.Common.{◌≡◌, ◌≢◌, ℕ, zero, suc, ◌+◌, ◌<◌, ◌≤◌, nat_le, Bool, true, false, not, cond, List, [], ◌∷◌, ◌++◌, length, replicate, refl, ap, sym, subst, ◌∙◌, arith, Option, Some, None}
+use Rattle.std.proofs.Common.{◌≡◌, ◌≢◌, ℕ, suc, ◌+◌, ◌<◌, ◌≤◌, nat_le, Bool, true, false, not, cond, List, [], ◌∷◌, ◌++◌, length, replicate, refl, ap, sym, subst, ◌∙◌, arith, Option, Some, None}
 use Rattle.std.proofs.Common.{is_some, get_or-set_other, length-set, length-append}
-use Rattle.std.{specs.Prelude.slice_get, proofs.Math.ListN.set, proofs.lemmas.Bool.Decides.nat_tests, proofs.lemmas.List.length-replicate, proofs.lemmas.List.Sums.sum_by-set}
 use Rattle.std.proofs.lemmas.Option.{slice_get_within, get_or_from_slice_get}
+use Rattle.std.{specs.Prelude.slice_get, proofs.lemmas.Bool.Decides.nat_tests, proofs.lemmas.List.length-replicate, proofs.lemmas.List.Sums.sum_by-set}
 use Rattle.pk_base.specs.Shape.{Shape, pinned}
 use Rattle.pk_pin.specs.Frames.{Frames, leased, filled, times, AreLeases, KeepsPage}
 use Rattle.pk_pin.proofs.Leases.{times-append, leases_none, leases_taken}
@@ -10,16 +10,10 @@ use Rattle.pk_run.{specs.Kept.Kept, proofs.Standing.RunOnFlash-elsewhere}
 use Rattle.pk_level.{specs.Levels.Levels, specs.Arenas.HasArena, specs.Arenas.AreBareAbove, specs.Arenas.IsPinnedIf, specs.Arenas.last_level, specs.Arenas.leases_of, specs.Arenas.page_counts}
 use Rattle.pk_adapt.proofs.Fitting.{adapted_least}
 use Rattle.pk_scan.{specs.Runs.LeasedMore, specs.Runs.RunsStand, specs.Runs.listed, specs.OpeningParts.HaveFrames}
+use Rattle.pk_pool.proofs.States.{get-set_other}
 
 pub leased_none : (a : Frames) → LeasedMore a a []
 leased_none a = record { page = refl; size = refl; kept = λ i is. (is, refl); free = omega arith; leases = λ ls all. all }
-
-get-set_other : (us : List Bool) (l i : ℕ) (u : Bool) → i ≢ l → slice_get (set us l u) i ≡ slice_get us i
-get-set_other [] l i u ne = refl
-get-set_other (x ∷ us) zero zero u ne = absurd (ne refl)
-get-set_other (x ∷ us) zero (suc i) u ne = refl
-get-set_other (x ∷ us) (suc l) zero u ne = refl
-get-set_other (x ∷ us) (suc l) (suc i) u ne = get-set_other us l i u (λ e. ne (ap suc e))
 
 no_clash : {A : Type 0} → Some false ≡ Some true → A
 no_clash e = cc

@@ -1,6 +1,7 @@
 -- A run whose pages are read one after another.
-use Rattle.std.proofs.Common.{◌≡◌, ℕ, zero, suc, ◌+◌, ◌-◌, ◌*◌, ◌/◌, ◌^◌, ◌<◌, ◌≤◌, min, Bool, true, false, is_some, List, [], ◌∷◌, ◌++◌, length, take, refl, ap, sym, subst, ◌∙◌, arith, Option, Some}
-use Rattle.std.proofs.Common.{not, ◌||◌, ◌==◌, None, option_map, Err, append_assoc, append-nil, length-append, suc-mul, mul-le-mul_right, mul_comm, zero-mul, div-lt_iff_lt-mul}
+use Rattle.std.proofs.Common.{◌≡◌, ℕ, suc, ◌+◌, ◌-◌, ◌*◌, ◌/◌, ◌^◌, ◌<◌, ◌≤◌, min, Bool, true, false, is_some, List, [], ◌∷◌, ◌++◌, length, take, refl, ap, sym, subst, ◌∙◌, arith, Option, Some, not}
+use Rattle.std.proofs.Common.{◌||◌, ◌==◌, None, option_map, Err, append_assoc, append-nil, length-append, suc-mul, mul-le-mul_right, mul_comm, zero-mul, div-lt_iff_lt-mul}
+use Rattle.std.{proofs.lemmas.List.take_more as more, proofs.lemmas.Option.slice_get_within, proofs.lemmas.Option.get_or_from_slice_get}
 use Rattle.std.{specs.Prelude.slice_get, specs.Prelude.slice_index, specs.List.AllByRecursion, proofs.lemmas.Grind.div_ceil_times}
 use Rattle.pk_base.{specs.Key.Key, specs.Shape.Shape, specs.Shape.IsShape, specs.Shape.page_entries, specs.Shape.run_pages, specs.Shape.run_blocks, specs.Shape.blocks_of, specs.Shape.cap}
 use Rattle.pk_base.{specs.Entry.Entry, specs.Entry.key_of, specs.EntryChecks.IsEntry, specs.Refusal.damaged, proofs.ShapeLemmas.entries_some, proofs.Logic.left_part, proofs.Logic.right_part}
@@ -303,12 +304,7 @@ module _ (shape : Shape) (spaces level count : ℕ) (blocks : List ℕ) (pins : 
 -- ---- the blocks of a run
 
 pub take_more : {X : Type 0} (xs : List X) (i : ℕ) (x : X) → slice_get xs i ≡ Some x → take (i + 1) xs ≡ take i xs ++ x ∷ []
-take_more {X = X} xs i x got = let k : i + 1 ≡ suc i = omega arith in rw k (at_suc xs i got)
-  where
-    at_suc : (xs : List X) (i : ℕ) → slice_get xs i ≡ Some x → take (suc i) xs ≡ take i xs ++ x ∷ []
-    at_suc [] i got = cc
-    at_suc (y ∷ xs) zero got = let same : y ≡ x = cc in ap (λ (z : X). z ∷ []) same
-    at_suc (y ∷ xs) (suc i) got = ap (λ (zs : List X). y ∷ zs) (at_suc xs i got)
+take_more xs i x got = more xs i x (slice_get_within xs i x got) ∙ ap (λ y. take i xs ++ y ∷ []) (get_or_from_slice_get xs i x x got)
 
 pub block_added : (old mid new : Kept) (blocks : List ℕ) (i b : ℕ) → slice_get blocks i ≡ Some b
     → mid ≡ record old { blocks = old.blocks ++ take i blocks } → new ≡ record mid { blocks = mid.blocks ++ b ∷ [] }

@@ -1,9 +1,9 @@
 -- The blocks that a root names, which a new pool has as free ones.
 use Rattle.std.proofs.Common.{◌≡◌, ◌⊎◌, inl, inr, ℕ, zero, suc, ◌+◌, ◌*◌, ◌<◌, ◌≤◌, Bool, true, false, ◌&&◌, ◌||◌, ◌==◌, cond, List, [], ◌∷◌, ◌++◌, length, map, replicate, refl, sym, ap, subst, ◌∙◌}
 use Rattle.std.proofs.Common.{arith, Option, Some, None, option_map, length-append}
+use Rattle.std.{proofs.lemmas.Slice.Eq.bytes_eq-Decides, proofs.lemmas.Bool.and_parts, proofs.lemmas.Bool.eqb-true, proofs.lemmas.Bool.leb-true, proofs.lemmas.List.length-map}
 use Rattle.std.{specs.Prelude.slice_get, specs.Prelude.nat_le, specs.Prelude.nat_lt, specs.Prelude.nat_eq, specs.Prelude.zip, specs.Prelude.bytes_eq, proofs.Math.ListN.set}
-use Rattle.std.{specs.List.list_all, specs.List.concat, specs.List.AllByRecursion, proofs.lemmas.Bool.false≢true, proofs.lemmas.Bool.Decides.nat_tests, proofs.lemmas.List.Sums.sum_by-cons}
-use Rattle.std.proofs.lemmas.Slice.Eq.{bytes_eq-Decides}
+use Rattle.std.{specs.List.list_all, specs.List.concat, specs.List.AllByRecursion, proofs.lemmas.Bool.Decides.nat_tests, proofs.lemmas.List.Sums.sum_by-cons}
 use Rattle.pk_base.specs.Shape.{Shape, IsShape, page_entries, caps, deepest, meta_blocks, run_blocks}
 use Rattle.pk_plan.{specs.declared.owner.Owner.Owner, specs.declared.owner.Owner.TheVariants.Journal, specs.declared.owner.Owner.TheVariants.Meta, specs.declared.owner.Owner.TheVariants.Values}
 use Rattle.pk_plan.specs.Quotas.{quota_of}
@@ -13,6 +13,7 @@ use Rattle.pk_rootfmt.{specs.Root.Root, specs.Root.named, specs.Root.is_root, sp
 use Rattle.pk_rootfmt.{proofs.PageLemmas.Parts, proofs.PageLemmas.root_parts, proofs.RoomLemmas.runs_most}
 use Rattle.pk_scan.specs.Adopts.{is_among, owned_if, Adopts, NamesOwned, MayAdopt}
 use Rattle.pk_scan.proofs.Adopting.{apart, differ_front, differ_back, still_spare, spare_front, spare_back}
+use Rattle.pk_rootfmt.proofs.AgainLemmas.{length_concat}
 
 -- ---- the blocks of the epochs
 
@@ -62,26 +63,11 @@ behind shape b e = (grind (arith, nat_tests), grind (arith, nat_tests))
 all_spare : (shape : Shape) (bs : List ℕ) → list_all (λ b. nat_le 2 b && nat_lt b shape.blocks) bs ≡ true → AllByRecursion (IsSpare (unused shape)) bs
 all_spare shape [] e = tt
 all_spare shape (b ∷ bs) e =
-    let own = behind shape b (left _ _ e) in
-    (inl (unused_free shape b own.0 own.1), all_spare shape bs (right _ _ e))
-  where
-    left : (p q : Bool) → (p && q) ≡ true → p ≡ true
-    left true q e = refl
-    left false q e = e
-
-    right : (p q : Bool) → (p && q) ≡ true → q ≡ true
-    right true q e = e
-    right false q e = absurd (false≢true e)
+    let parts = and_parts _ _ e in
+    let own = behind shape b parts.0 in
+    (inl (unused_free shape b own.0 own.1), all_spare shape bs parts.1)
 
 -- ---- numbers of blocks
-
-length_concat : (xs : List (List ℕ)) → length (concat xs) ≡ total (map length xs)
-length_concat [] = refl
-length_concat (x ∷ xs) = length-append x (concat xs) ∙ ap (λ n. length x + n) (length_concat xs)
-
-length-map : {X : Type 0} (f : X → ℕ) (xs : List X) → length (map f xs) ≡ length xs
-length-map f [] = refl
-length-map f (x ∷ xs) = ap suc (length-map f xs)
 
 pub record HasFour (shape : Shape) (counts : List ℕ) (runs : List (List ℕ)) : Type 0 where
   pub four_counts : length counts ≡ 4
@@ -93,54 +79,40 @@ has_four shape root e =
     let p : Bool = length root.counts == 4 in
     let q : Bool = list_all (λ p. nat_le p.0 (p.1 * page_entries shape)) (zip root.counts (caps shape)) in
     let r : Bool = bytes_eq (map length root.runs) (map (run_blocks shape) root.counts) in
-    let three = three_true p q r e in
-    record { four_counts = is_four (length root.counts) three.0; each = three.1; sizes = (bytes_eq-Decides (map length root.runs) (map (run_blocks shape) root.counts)).0 three.2 }
-  where
-    three_true : (p q r : Bool) → (p && q && r) ≡ true → (p ≡ true) × (q ≡ true) × (r ≡ true)
-    three_true true true true e = (refl, refl, refl)
-    three_true true true false e = absurd (false≢true e)
-    three_true true false r e = absurd (false≢true e)
-    three_true false q r e = absurd (false≢true e)
-
-    is_four : (n : ℕ) → nat_eq n 4 ≡ true → n ≡ 4
-    is_four n e = grind (arith, nat_tests)
+    let front = and_parts (p && q) r e in
+    let parts = and_parts p q front.0 in
+    record { four_counts = eqb-true (length root.counts) 4 parts.0; each = parts.1; sizes = (bytes_eq-Decides (map length root.runs) (map (run_blocks shape) root.counts)).0 front.1 }
 
 pub four_runs : (shape : Shape) (counts : List ℕ) (runs : List (List ℕ)) → HasFour shape counts runs → length runs ≡ 4
-four_runs shape counts runs h = sym (length-map length runs) ∙ ap length h.sizes ∙ length-map (run_blocks shape) counts ∙ h.four_counts
+four_runs shape counts runs h = sym (length-map runs length) ∙ ap length h.sizes ∙ length-map counts (run_blocks shape) ∙ h.four_counts
 
 pub few_blocks : (shape : Shape) → IsShape shape → (counts : List ℕ) (runs : List (List ℕ)) → HasFour shape counts runs → length (concat runs) ≤ meta_blocks shape
 few_blocks shape is counts runs h = let f = four counts h.four_counts in by_four f.a f.b f.c f.d (subst (λ (cs : List ℕ). HasFour shape cs runs) f.is h)
   where
-    at_most : (x y : ℕ) → nat_le x y ≡ true → x ≤ y
-    at_most x y e = grind (arith, nat_tests)
-
-    four_true : (p q r t : Bool) → (p && (q && (r && (t && true)))) ≡ true → (p ≡ true) × (q ≡ true) × (r ≡ true) × (t ≡ true)
-    four_true true true true true e = (refl, refl, refl, refl)
-    four_true true true true false e = absurd (false≢true e)
-    four_true true true false t e = absurd (false≢true e)
-    four_true true false r t e = absurd (false≢true e)
-    four_true false q r t e = absurd (false≢true e)
-
     by_four : (a b c d : ℕ) → HasFour shape (a ∷ b ∷ c ∷ d ∷ []) runs → length (concat runs) ≤ meta_blocks shape
     by_four a b c d k =
         let size : ℕ = page_entries shape in
-        let each = four_true (nat_le a (4 * size)) (nat_le b (16 * size)) (nat_le c (64 * size)) (nat_le d (deepest shape * size)) k.each in
-        let few = runs_most shape a b c d is (at_most a (4 * size) each.0) (at_most b (16 * size) each.1) (at_most c (64 * size) each.2) (at_most d (deepest shape * size) each.3) in
+        let first = and_parts (nat_le a (4 * size)) _ k.each in
+        let second = and_parts (nat_le b (16 * size)) _ first.1 in
+        let third = and_parts (nat_le c (64 * size)) _ second.1 in
+        let fourth = and_parts (nat_le d (deepest shape * size)) true third.1 in
+        let few = runs_most shape a b c d is (leb-true a (4 * size) first.0) (leb-true b (16 * size) second.0) (leb-true c (64 * size) third.0) (leb-true d (deepest shape * size) fourth.0) in
         let sum : length (concat runs) ≡ run_blocks shape a + (run_blocks shape b + (run_blocks shape c + (run_blocks shape d + 0))) = length_concat runs ∙ ap total k.sizes in
         omega (arith, few, sum)
+
+-- of an alternative, what comes first in each part
+pub either : (p q r : Bool) → (p || (q && r)) ≡ true → (p ≡ true) ⊎ (q ≡ true)
+either true q r e = inl refl
+either false true r e = inr refl
+either false false r e = inl e
 
 pub few_epochs : (newest older : List ℕ) (epoch : ℕ) → nat_eq (length newest) 2 ≡ true → (nat_eq (length older) 0 || (nat_eq (length older) 2 && nat_le 2 epoch)) ≡ true → length (newest ++ older) ≤ 4
 few_epochs newest older epoch two is =
     let e = length-append newest older in
     let n : length newest ≡ 2 = grind (arith, nat_tests) in
-    let o = most (nat_eq (length older) 0) (nat_eq (length older) 2) (nat_le 2 epoch) is in
+    let o = either (nat_eq (length older) 0) (nat_eq (length older) 2) (nat_le 2 epoch) is in
     omega (arith, e, n, older_most (length older) o)
   where
-    most : (p q r : Bool) → (p || (q && r)) ≡ true → (p ≡ true) ⊎ (q ≡ true)
-    most true q r e = inl refl
-    most false true r e = inr refl
-    most false false r e = inl e
-
     older_most : (n : ℕ) → (nat_eq n 0 ≡ true) ⊎ (nat_eq n 2 ≡ true) → n ≤ 2
     older_most n (inl e) = let z : n ≡ 0 = grind (arith, nat_tests) in omega (arith, z)
     older_most n (inr e) = let z : n ≡ 2 = grind (arith, nat_tests) in omega (arith, z)

@@ -1,7 +1,7 @@
 -- The owners of all blocks, after those of the root's blocks and of the values'.
 use Rattle.std.proofs.Common.{◌≡◌, inl, inr, ℕ, ◌-◌, ◌<◌, ◌≤◌, Bool, true, false, ◌==◌, List, [], ◌∷◌, ◌++◌, length, get_or, refl, sym, ap, subst, ◌∙◌, arith, Option, Some, None, option_map}
-use Rattle.std.{specs.Prelude.slice_get, specs.Prelude.count_by, specs.List.concat, specs.List.AllByRecursion, proofs.lemmas.Option.slice_get_within, proofs.lemmas.Option.get_or_from_slice_get}
 use Rattle.std.proofs.lemmas.Bool.{cases_Bool, eq-eqb, or_left, or_right, false≢true, eqb-true}
+use Rattle.std.{specs.Prelude.slice_get, specs.Prelude.count_by, specs.List.concat, specs.List.AllByRecursion, proofs.lemmas.Option.slice_get_within, proofs.lemmas.Option.get_or_from_slice_get}
 use Rattle.pk_base.{specs.Key.Key, specs.Shape.Shape, specs.Shape.IsShape, specs.Shape.data_blocks, specs.Entry.Place, specs.Page.Flash}
 use Rattle.pk_plan.{specs.declared.owner.Owner.Owner, specs.declared.owner.Owner.TheVariants.Journal, specs.declared.owner.Owner.TheVariants.Meta, specs.declared.owner.Owner.TheVariants.Values}
 use Rattle.pk_pool.{specs.declared.state.BlockState.BlockState, specs.Blocks.Blocks, specs.Blocks.used_by, specs.Blocks.unused, specs.Blocks.IsSpare, specs.Blocks.PoolOnFlash}
@@ -11,8 +11,8 @@ use Rattle.pk_live.{specs.Values.Values as LiveValues, specs.Values.IsClosed, sp
 use Rattle.pk_rootfmt.specs.Root.{Root, named, is_root}
 use Rattle.pk_model.specs.Laws.{AnyByRecursion}
 use Rattle.pk_scan.specs.Adopts.{is_among, owned_if, state_of, Adopts, NamesOwned, HasOwners}
-use Rattle.pk_scan.{proofs.Adopting.apart, proofs.Adopting.spare_front, proofs.Adopting.spare_back, proofs.Naming.names_differ, proofs.Naming.names_spare}
 use Rattle.pk_scan.proofs.Closing.{flags_many, closed_is_spare, flag_at}
+use Rattle.pk_scan.{proofs.Adopting.apart, proofs.Adopting.spare_front, proofs.Adopting.spare_back, proofs.Naming.names_differ, proofs.Naming.names_spare}
 
 -- ---- lists
 
@@ -25,11 +25,6 @@ of_all : (P : ℕ → Type 0) (b : ℕ) (bs : List ℕ) → AllByRecursion P bs 
 of_all P b [] all is = absurd is
 of_all P b (c ∷ bs) all (inl e) = subst P (sym e) all.0
 of_all P b (c ∷ bs) all (inr is) = of_all P b bs all.1 is
-
-in_front : (b : ℕ) (xs ys : List ℕ) → AnyByRecursion (λ c. b ≡ c) xs → AnyByRecursion (λ c. b ≡ c) (xs ++ ys)
-in_front b [] ys is = absurd is
-in_front b (x ∷ xs) ys (inl e) = inl e
-in_front b (x ∷ xs) ys (inr is) = inr (in_front b xs ys is)
 
 none_among : (b : ℕ) (xs ys : List ℕ) → AllByRecursion (λ c. is_among xs c ≡ false) ys → AnyByRecursion (λ c. b ≡ c) xs → is_among ys b ≡ false
 none_among b xs [] none is = refl

@@ -1,37 +1,20 @@
 -- What the grammar of roots says of the blocks and the counts that a root names.
-use Rattle.std.proofs.Common.{◌≡◌, ◌⊎◌, inl, inr, ℕ, zero, suc, ◌-◌, ◌*◌, ◌<◌, ◌≤◌, Bool, true, false, ◌&&◌, ◌||◌, List, [], ◌∷◌, ◌++◌, length, get_or, map, refl, sym, ap, subst, ◌∙◌, arith, Some}
+use Rattle.std.proofs.Common.{◌≡◌, inl, inr, ℕ, zero, suc, ◌-◌, ◌*◌, ◌<◌, ◌≤◌, Bool, true, ◌&&◌, ◌||◌, List, [], ◌∷◌, ◌++◌, length, get_or, map, sym, ap, subst, ◌∙◌, arith, Some}
+use Rattle.std.proofs.lemmas.Bool.{and_parts, leb-true, ltb-true}
 use Rattle.std.{specs.Prelude.slice_get, specs.Prelude.nat_le, specs.Prelude.nat_lt, specs.Prelude.nat_eq, specs.Prelude.zip, specs.Prelude.slice_index, specs.List.list_all, specs.List.concat}
-use Rattle.std.{proofs.lemmas.Bool.false≢true, proofs.lemmas.Bool.Decides.nat_tests, proofs.lemmas.List.Folds.list_all-append}
+use Rattle.std.{proofs.lemmas.Bool.Decides.nat_tests, proofs.lemmas.List.Folds.list_all-append}
 use Rattle.pk_base.specs.Shape.{Shape, page_entries, caps, cap, run_blocks}
 use Rattle.pk_rootfmt.{specs.Root.Root, specs.Root.is_root, specs.Held.two_of, specs.Held.older_of, proofs.PageLemmas.Parts, proofs.PageLemmas.root_parts}
 use Rattle.pk_jrn.specs.Epochs.{AllExist as EpochExists}
 use Rattle.pk_scan.{specs.Runs.RunBlocksExist, proofs.Naming.HasFour, proofs.Naming.has_four, proofs.Naming.four_runs, proofs.Naming.two_is, proofs.Naming.older_is}
-
-front_true : (a b : Bool) → (a && b) ≡ true → a ≡ true
-front_true true b e = refl
-front_true false b e = absurd (false≢true e)
-
-back_true : (a b : Bool) → (a && b) ≡ true → b ≡ true
-back_true true b e = e
-back_true false b e = absurd (false≢true e)
-
-either : (p q r : Bool) → (p || (q && r)) ≡ true → (p ≡ true) ⊎ (q ≡ true)
-either true q r e = inl refl
-either false true r e = inr refl
-either false false r e = inl e
-
-at_most : (x y : ℕ) → nat_le x y ≡ true → x ≤ y
-at_most x y e = grind (arith, nat_tests)
-
-below : (x y : ℕ) → nat_lt x y ≡ true → x < y
-below x y e = grind (arith, nat_tests)
+use Rattle.pk_scan.proofs.Naming.{either}
 
 module _ (p : ℕ → Bool) where
   all_front : (xs ys : List ℕ) → list_all p (xs ++ ys) ≡ true → list_all p xs ≡ true
-  all_front xs ys e = front_true (list_all p xs) (list_all p ys) (sym (list_all-append p xs ys) ∙ e)
+  all_front xs ys e = (and_parts (list_all p xs) (list_all p ys) (sym (list_all-append p xs ys) ∙ e)).0
 
   all_back : (xs ys : List ℕ) → list_all p (xs ++ ys) ≡ true → list_all p ys ≡ true
-  all_back xs ys e = back_true (list_all p xs) (list_all p ys) (sym (list_all-append p xs ys) ∙ e)
+  all_back xs ys e = (and_parts (list_all p xs) (list_all p ys) (sym (list_all-append p xs ys) ∙ e)).1
 
   all_in : (xss : List (List ℕ)) (n : ℕ) (xs : List ℕ) → list_all p (concat xss) ≡ true → slice_get xss n ≡ Some xs → list_all p xs ≡ true
   all_in [] n xs e got = cc
@@ -40,9 +23,10 @@ module _ (p : ℕ → Bool) where
 
 exist : (shape : Shape) (bs : List ℕ) → list_all (λ b. nat_le 2 b && nat_lt b shape.blocks) bs ≡ true → RunBlocksExist shape bs
 exist shape [] e n h = absurd (omega (arith, h))
-exist shape (b ∷ bs) e zero h = below b shape.blocks
-    (back_true (nat_le 2 b) (nat_lt b shape.blocks) (front_true (nat_le 2 b && nat_lt b shape.blocks) (list_all (λ b. nat_le 2 b && nat_lt b shape.blocks) bs) e))
-exist shape (b ∷ bs) e (suc n) h = exist shape bs (back_true (nat_le 2 b && nat_lt b shape.blocks) (list_all (λ b. nat_le 2 b && nat_lt b shape.blocks) bs) e) n (omega (arith, h))
+exist shape (b ∷ bs) e zero h =
+    let first = and_parts (nat_le 2 b && nat_lt b shape.blocks) (list_all (λ b. nat_le 2 b && nat_lt b shape.blocks) bs) e in
+    ltb-true b shape.blocks (and_parts (nat_le 2 b) (nat_lt b shape.blocks) first.0).1
+exist shape (b ∷ bs) e (suc n) h = exist shape bs (and_parts (nat_le 2 b && nat_lt b shape.blocks) (list_all (λ b. nat_le 2 b && nat_lt b shape.blocks) bs) e).1 n (omega (arith, h))
 
 two_exist : (shape : Shape) (bs : List ℕ) → length bs ≡ 2 → RunBlocksExist shape bs → EpochExists shape bs
 two_exist shape bs two each n h = each n (omega (arith, two, h))
@@ -50,9 +34,9 @@ two_exist shape bs two each n h = each n (omega (arith, two, h))
 few_at : (size : ℕ) (counts caps : List ℕ) (n : ℕ) → list_all (λ p. nat_le p.0 (p.1 * size)) (zip counts caps) ≡ true → n < length counts → n < length caps → get_or counts n 0 ≤ get_or caps n 0 * size
 few_at size [] caps n e h k = absurd (omega (arith, h))
 few_at size (c ∷ counts) [] n e h k = absurd (omega (arith, k))
-few_at size (c ∷ counts) (d ∷ caps) zero e h k = at_most c (d * size) (front_true (nat_le c (d * size)) (list_all (λ p. nat_le p.0 (p.1 * size)) (zip counts caps)) e)
+few_at size (c ∷ counts) (d ∷ caps) zero e h k = leb-true c (d * size) (and_parts (nat_le c (d * size)) (list_all (λ p. nat_le p.0 (p.1 * size)) (zip counts caps)) e).0
 few_at size (c ∷ counts) (d ∷ caps) (suc n) e h k = few_at size counts caps n
-    (back_true (nat_le c (d * size)) (list_all (λ p. nat_le p.0 (p.1 * size)) (zip counts caps)) e) (omega (arith, h)) (omega (arith, k))
+    (and_parts (nat_le c (d * size)) (list_all (λ p. nat_le p.0 (p.1 * size)) (zip counts caps)) e).1 (omega (arith, h)) (omega (arith, k))
 
 sized_at : (f : ℕ → ℕ) (counts : List ℕ) (runs : List (List ℕ)) (n : ℕ) (bs : List ℕ) → map length runs ≡ map f counts → slice_get runs n ≡ Some bs → length bs ≡ f (get_or counts n 0)
 sized_at f counts [] n bs e got = cc
@@ -91,6 +75,9 @@ module _ (shape : Shape) (root : Root) (e : is_root shape root ≡ true) where
   pub older_exist : (bs : List ℕ) → Some bs ≡ older_of root.older → EpochExists shape bs
   older_exist bs is = subst (EpochExists shape) (sym (older_is root.older bs is))
       (two_exist shape root.older (older_two bs is) (exist shape root.older (all_back is_block root.newest root.older of_epochs)))
+
+  pub epoch_some : 1 ≤ root.epoch
+  epoch_some = leb-true 1 root.epoch parts.some
 
   abbrev four : HasFour shape root.counts root.runs
   four = has_four shape root parts.runs

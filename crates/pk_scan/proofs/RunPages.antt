@@ -1,6 +1,7 @@
 -- One page of a run, by what is found in it.
-use Rattle.std.proofs.Common.{◌≡◌, ℕ, zero, suc, ◌+◌, ◌<◌, ◌≤◌, ◌^◌, Bool, true, false, not, ◌&&◌, ◌||◌, ◌==◌, T, is_some, List, [], ◌∷◌, ◌++◌, length, take, refl, ap, sym, subst, ◌∙◌, arith, Option}
-use Rattle.std.proofs.Common.{Some, None, option_map, Result, Ok, Err}
+use Rattle.std.proofs.Common.{◌≡◌, ℕ, zero, suc, ◌+◌, ◌<◌, ◌≤◌, ◌^◌, Bool, true, false, ◌&&◌, T, List, [], ◌∷◌, ◌++◌, length, take, refl, ap, sym, subst, ◌∙◌, arith, Option, Some, None, option_map}
+use Rattle.std.proofs.Common.{Result, Ok, Err}
+use Rattle.std.proofs.lemmas.Bool.{and_right}
 use Rattle.std.{specs.Prelude.slice_get, specs.Ordering.is_lt, specs.FinMap.Entries.is_sorted, proofs.lemmas.List.take_all, specs.List.list_all}
 use Rattle.pk_base.{specs.Key.Key, specs.Key.key_cmp, specs.Shape.Shape, specs.Entry.Entry, specs.Entry.key_of, proofs.Logic.of_true}
 use Rattle.pk_meta.{specs.Page.meta_entries, specs.PageChecks.IsMetaPage, specs.declared.MetaHead.MetaHead, specs.declared.BadMeta.BadMeta, proofs.Reading.meta_held, proofs.Reading.sorted_true}
@@ -25,11 +26,7 @@ module _ (p : Entry → Bool) where
   pub all_not : (es : List Entry) (i : ℕ) (e : Entry) → slice_get es i ≡ Some e → p e ≡ false → false ≡ list_all p es
   all_not [] i e got fails = cc
   all_not (x ∷ es) zero e got fails = let same : e ≡ x = cc in sym (ap (λ b. b && list_all p es) (subst (λ (y : Entry). p y ≡ false) same fails))
-  all_not (x ∷ es) (suc i) e got fails = none (p x) (list_all p es) (all_not es i e got fails)
-    where
-      none : (a b : Bool) → false ≡ b → false ≡ (a && b)
-      none true b e = e
-      none false b e = refl
+  all_not (x ∷ es) (suc i) e got fails = sym (and_right (p x) (list_all p es) (sym (all_not es i e got fails)))
 
 -- ---- what was found in a page
 

@@ -1,6 +1,7 @@
 -- Runs that were read one after another, as the reading of a flash has them.
 use Rattle.std.proofs.Common.{◌≡◌, inl, inr, ℕ, zero, suc, ◌+◌, ◌-◌, ◌<◌, ◌≤◌, Bool, true, false, List, [], ◌∷◌, ◌++◌, length, get_or, take, drop, refl, sym, ap, subst, ◌∙◌, arith, Some, Result, Ok}
 use Rattle.std.proofs.Common.{Err, append-nil, append_assoc, length-take}
+use Rattle.std.{proofs.Math.Seq.take-suc, proofs.Math.Seq.drop-cons, proofs.Math.Seq.take-suc-set, proofs.lemmas.List.drop_all, proofs.lemmas.List.length-set}
 use Rattle.std.{specs.Prelude.nat_le, specs.Prelude.slice_get, specs.Prelude.slice_index, specs.Prelude.slice_index_or, proofs.Math.ListN.set, proofs.lemmas.Bool.cases_lt, proofs.lemmas.List.take_all}
 use Rattle.std.{proofs.lemmas.Bool.Decides.nat_tests, proofs.lemmas.Option.get_or_from_slice_get}
 use Rattle.pk_base.{specs.Shape.Shape, specs.Shape.caps, specs.Shape.cap, specs.Entry.Entry, specs.Page.Page, specs.Page.Flash, specs.Page.page_at}
@@ -14,32 +15,9 @@ use Rattle.pk_level.{specs.Levels.Levels, specs.Levels.RunsOnFlash, specs.Levels
 use Rattle.pk_model.{specs.Found.runs_from, specs.RootLimits.root_spaces}
 use Rattle.pk_scan.{specs.Runs.HasRun, specs.Runs.NotRead, specs.Runs.LeasedMore, specs.Runs.RunsStand, specs.Opening.OnlyReads, proofs.Boards.reads_both, proofs.Boards.counted_behind}
 use Rattle.pk_scan.specs.OpeningParts.{HaveBlocks, PartNotOpened, HaveFrames, HoldsRuns, LoadsLevel, LoadsRuns, MayLoadLevel, wanted_behind, opening_of}
-use Rattle.pk_scan.{proofs.Exact.take_next, proofs.Leasing.leased_none, proofs.Leasing.leased_more, specs.declared.errors.PageError.PageError, specs.declared.errors.OpenError.OpenError}
 use Rattle.pk_scan.specs.declared.errors.PageError.TheVariants.{Damaged as PageDamaged, Fault as PageFault}
 use Rattle.pk_scan.specs.declared.errors.OpenError.TheVariants.{NotFormatted, Damaged, Fault, Memory}
-
--- ---- lists
-
-four_at : {X : Type 0} (xs : List X) (k : ℕ) (d : X) → k < length xs → drop k xs ≡ get_or xs k d ∷ drop (suc k) xs
-four_at [] k d h = absurd (omega (arith, h))
-four_at (x ∷ xs) zero d h = refl
-four_at (x ∷ xs) (suc k) d h = four_at xs k d (omega (arith, h))
-
-past : {X : Type 0} (xs : List X) (k : ℕ) → length xs ≤ k → drop k xs ≡ []
-past [] zero h = refl
-past [] (suc k) h = refl
-past (x ∷ xs) zero h = absurd (omega (arith, h))
-past (x ∷ xs) (suc k) h = past xs k (omega (arith, h))
-
-take_set : {X : Type 0} (xs : List X) (k : ℕ) (y : X) → k < length xs → take (suc k) (set xs k y) ≡ take k xs ++ y ∷ []
-take_set [] k y h = absurd (omega (arith, h))
-take_set (x ∷ xs) zero y h = refl
-take_set (x ∷ xs) (suc k) y h = ap (λ (ys : List _). x ∷ ys) (take_set xs k y (omega (arith, h)))
-
-set_length : {X : Type 0} (xs : List X) (k : ℕ) (y : X) → length (set xs k y) ≡ length xs
-set_length [] k y = refl
-set_length (x ∷ xs) zero y = refl
-set_length (x ∷ xs) (suc k) y = ap suc (set_length xs k y)
+use Rattle.pk_scan.{proofs.Leasing.leased_none, proofs.Leasing.leased_more, specs.declared.errors.PageError.PageError, specs.declared.errors.OpenError.OpenError}
 
 -- what a pinned level needs
 wanted_one : (k p : ℕ) (xs : List ℕ) → k < p → total (drop k (take p xs)) ≡ get_or xs k 0 + total (drop (suc k) (take p xs))
@@ -210,10 +188,10 @@ module _ (shape : Shape) (root : Root) (counts : length root.counts ≡ 4) (runs
         omega (arith, one, free, same)
 
     split_counts : drop k root.counts ≡ get_or root.counts k 0 ∷ drop (suc k) root.counts
-    split_counts = four_at root.counts k 0 (omega (arith, counts, h))
+    split_counts = drop-cons root.counts k 0 (omega (arith, counts, h))
 
     split_runs : drop k root.runs ≡ get_or root.runs k [] ∷ drop (suc k) root.runs
-    split_runs = four_at root.runs k [] (omega (arith, runs, h))
+    split_runs = drop-cons root.runs k [] (omega (arith, runs, h))
 
     abbrev rest_of : List ℕ → List (List ℕ) → Result (List (List Entry)) Refusal
     rest_of cs bss = runs_from shape (root_spaces shape root) (page_at flash) (suc k) cs bss
@@ -231,7 +209,7 @@ module _ (shape : Shape) (root : Root) (counts : length root.counts ≡ 4) (runs
 
       module _ (arena' : Frames) (levels' : Levels) (l : LoadsLevel shape root level flash arena arena' levels levels') where
         taken : take (suc k) levels'.runs ≡ take k levels.runs ++ l.kept ∷ []
-        taken = ap (λ (x : Levels). take (suc k) x.runs) l.levels ∙ ap (λ (j : ℕ). take (suc k) (set levels.runs j l.kept)) d ∙ take_set levels.runs k l.kept (omega (arith, t.four, h))
+        taken = ap (λ (x : Levels). take (suc k) x.runs) l.levels ∙ ap (λ (j : ℕ). take (suc k) (set levels.runs j l.kept)) d ∙ take-suc-set levels.runs k l.kept (omega (arith, t.four, h))
 
         next_comes : runs_from shape (root_spaces shape root) (page_at flash) 1 root.counts root.runs ≡ behind (t.ess ++ l.entries ∷ [])
             (runs_from shape (root_spaces shape root) (page_at flash) (suc (suc k)) (drop (suc k) root.counts) (drop (suc k) root.runs))
@@ -274,12 +252,12 @@ module _ (shape : Shape) (root : Root) (counts : length root.counts ≡ 4) (runs
           stand = subst (λ (rs : List Kept). RunsOnFlash flash arena' rs (t.ess ++ l.entries ∷ [])) (sym taken)
               (stand_more flash arena' (take k levels.runs) t.ess l.kept l.entries (stand_kept flash arena arena' l.others (take k levels.runs) t.ess t.stand) l.stands);
           blocks_are = subst (λ (rs : List Kept). HaveBlocks shape rs (take (suc k) root.runs)) (sym taken)
-              (subst (HaveBlocks shape (take k levels.runs ++ l.kept ∷ [])) (sym (take_next root.runs k [] (omega (arith, runs, h)))) more_blocks);
+              (subst (HaveBlocks shape (take k levels.runs ++ l.kept ∷ [])) (sym (take-suc root.runs k [] (omega (arith, runs, h)))) more_blocks);
           frames_are = subst (λ (rs : List Kept). HaveFrames pinned 1 rs (take (suc k) root.counts)) (sym taken)
-              (subst (HaveFrames pinned 1 (take k levels.runs ++ l.kept ∷ [])) (sym (take_next root.counts k 0 (omega (arith, counts, h)))) more_frames);
+              (subst (HaveFrames pinned 1 (take k levels.runs ++ l.kept ∷ [])) (sym (take-suc root.counts k 0 (omega (arith, counts, h)))) more_frames);
           shape_is = ap (λ (x : Levels). x.shape) l.levels ∙ t.shape_is;
           pinned_is = ap (λ (x : Levels). x.pinned) l.levels ∙ t.pinned_is;
-          four = ap (λ (x : Levels). length x.runs) l.levels ∙ set_length levels.runs (level - 1) l.kept ∙ t.four;
+          four = ap (λ (x : Levels). length x.runs) l.levels ∙ length-set levels.runs (level - 1) l.kept ∙ t.four;
           page = l.more.page ∙ t.page;
           more = subst (λ (rs : List Kept). LeasedMore start arena' (leases_of rs)) (sym taken)
               (subst (LeasedMore start arena')
@@ -302,8 +280,8 @@ module _ (shape : Shape) (root : Root) (counts : length root.counts ≡ 4) (runs
   RunsTo-end start arena levels t = (
     t.ess,
     record {
-      finds = t.comes ∙ ap (behind t.ess) (ap (λ (cs : List ℕ). runs_from shape (root_spaces shape root) (page_at flash) 5 cs (drop 4 root.runs)) (past root.counts 4 (omega (arith, counts)))
-          ∙ ap (runs_from shape (root_spaces shape root) (page_at flash) 5 []) (past root.runs 4 (omega (arith, runs))) ∙ none_left shape (root_spaces shape root) (page_at flash) 5) ∙ ap ok_list (append-nil t.ess);
+      finds = t.comes ∙ ap (behind t.ess) (ap (λ (cs : List ℕ). runs_from shape (root_spaces shape root) (page_at flash) 5 cs (drop 4 root.runs)) (drop_all 4 root.counts (omega (arith, counts)))
+          ∙ ap (runs_from shape (root_spaces shape root) (page_at flash) 5 []) (drop_all 4 root.runs (omega (arith, runs))) ∙ none_left shape (root_spaces shape root) (page_at flash) 5) ∙ ap ok_list (append-nil t.ess);
       stand = subst (λ (rs : List Kept). RunsOnFlash flash arena rs t.ess) whole t.stand;
       run_blocks = subst (λ (rs : List Kept). HaveBlocks shape rs root.runs) whole (subst (HaveBlocks shape (take 4 levels.runs)) (take_all 4 root.runs (omega (arith, runs))) t.blocks_are);
       run_frames = subst (λ (p : ℕ). HaveFrames p 1 levels.runs root.counts) (sym t.pinned_is)

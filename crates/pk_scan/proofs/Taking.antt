@@ -1,10 +1,10 @@
 -- A value more: whether its pages may be taken, and the live map with it.
 use Rattle.std.proofs.Common.{◌≡◌, inl, inr, ℕ, ◌+◌, ◌-◌, ◌/◌, ◌%◌, ◌<◌, ◌≤◌, Bool, true, false, not, ◌&&◌, ◌||◌, cond, List, [], ◌∷◌, ◌++◌, length, get_or, map, sum, refl, sym, ap, ◌∙◌, arith, ◌==◌}
 use Rattle.std.proofs.Common.{length-append}
+use Rattle.std.proofs.lemmas.Bool.{false≢true, or_right, and_parts, eq-eqb, ne_eqb, cases_lt, and_right}
+use Rattle.std.proofs.lemmas.List.FromFn.{length-range_with_len, length-map-range_with_len, get_or-map-range_with_len}
 use Rattle.std.{specs.Prelude.count_by, specs.Prelude.nat_le, specs.Prelude.slice_get, specs.Prelude.Some, specs.Prelude.IsTrue, specs.Prelude.◌↔◌, proofs.Math.ListN.set}
 use Rattle.std.{specs.List.list_any, specs.List.list_all, specs.List.range_with_len, proofs.lemmas.Bool.Decides.same_from_decides, proofs.lemmas.Option.slice_get-get_or}
-use Rattle.std.proofs.lemmas.Bool.{false≢true, or_right, and_parts, eq-eqb, ne_eqb, cases_lt}
-use Rattle.std.proofs.lemmas.List.FromFn.{length-range_with_len, length-map-range_with_len, get_or-map-range_with_len}
 use Rattle.std.{proofs.lemmas.List.Folds.list_any-append, proofs.lemmas.List.Folds.list_all-append, proofs.lemmas.List.Sums.sum_by-set, proofs.lemmas.List.Sums.length-filter}
 use Rattle.pk_base.{specs.Key.Key, specs.Shape.Shape, specs.Shape.IsShape, specs.Shape.page_count, specs.Shape.charge, specs.Shape.limit, specs.Shape.data_blocks, specs.Entry.Place}
 use Rattle.pk_base.specs.EntryChecks.{IsPlace}
@@ -179,14 +179,10 @@ module _ (shape : Shape) (named : List ℕ) (live : Values) (taken : List (Key �
         let here = has_range place.page place.page count (omega arith) (omega (arith, charge_some shape is_shape place.len)) in
         let met : meets old own ≡ true = meets_from place.page old own there here in
         let all = fits_now shape named (old ++ own) e in
-        let clash : true ≡ false = sym all.apart ∙ differ_append old own ∙ ap (λ m. differ old && differ own && not m) met ∙ and_false (differ old && differ own) in
+        let clash : true ≡ false = sym all.apart ∙ differ_append old own ∙ ap (λ m. differ old && differ own && not m) met ∙ and_right (differ old && differ own) false refl in
         absurd (false≢true (sym clash)))
     | inr none ↦ omega (arith, none)
   ]
-    where
-      and_false : (b : Bool) → (b && false) ≡ false
-      and_false true = refl
-      and_false false = refl
 
   pub free : fits shape named (old ++ own) ≡ true → slice_get live.heads place.page ≡ Some 0
   free e = slice_get-get_or live.heads place.page 0 (omega (arith, is_place.exists, ap length heads_are, length-map-range_with_len (head_of shape taken) 0 (page_count shape)))

@@ -1,6 +1,6 @@
 -- What is used of each namespace, as values are taken.
 use Rattle.std.proofs.Common.{◌≡◌, ℕ, zero, suc, ◌+◌, ◌-◌, ◌<◌, ◌≤◌, Bool, true, false, List, [], ◌∷◌, ◌++◌, length, slice_index, replicate, ◌==◌, if◌then◌else◌, refl, sym, ap, subst, ◌∙◌, arith}
-use Rattle.std.proofs.Common.{eqb→eq, eq-eqb, nat_le, ◌&&◌}
+use Rattle.std.proofs.Common.{eqb→eq, eq-eqb, nat_le, ◌&&◌, get_or-set_same, get_or-set_other, length-set}
 use Rattle.std.specs.Prelude.{slice_set}
 use Rattle.pk_base.{specs.declared.sizes.TheConstants.MOST_SPACES, specs.Key.Key, specs.Key.space_of, specs.Shape.Shape, specs.Shape.charge, specs.Entry.Place, proofs.Logic.of_true}
 use Rattle.pk_space.specs.Uses.{Use, nothing_used, IsSpace, space_live, space_keys, value_count, used_after}
@@ -34,23 +34,6 @@ few_keys space (e ∷ es) =
 
 -- ---- one more value
 
-set_same : (xs : List ℕ) (i v : ℕ) → i < length xs → slice_index (slice_set xs i v) i ≡ v
-set_same [] i v less = absurd (omega (arith, less))
-set_same (x ∷ xs) zero v less = refl
-set_same (x ∷ xs) (suc i) v less = set_same xs i v (omega (arith, less))
-
-set_other : (xs : List ℕ) (i j v : ℕ) → (i ≡ j → ⊥) → slice_index (slice_set xs i v) j ≡ slice_index xs j
-set_other [] i j v other = refl
-set_other (x ∷ xs) zero zero v other = absurd (other refl)
-set_other (x ∷ xs) zero (suc j) v other = refl
-set_other (x ∷ xs) (suc i) zero v other = refl
-set_other (x ∷ xs) (suc i) (suc j) v other = set_other xs i j v (λ same. other (omega (arith, same)))
-
-set_length : (xs : List ℕ) (i v : ℕ) → length (slice_set xs i v) ≡ length xs
-set_length [] i v = refl
-set_length (x ∷ xs) zero v = refl
-set_length (x ∷ xs) (suc i) v = ap suc (set_length xs i v)
-
 one_value : (count : ℕ) → 0 < count → value_count count ≡ 1
 one_value zero some = absurd (omega (arith, some))
 one_value (suc n) some = refl
@@ -75,23 +58,23 @@ module _ (shape : Shape) (u : Use) (es : List (Key × Place)) (key : Key) (place
         | true ↦ λ t.
             let same : space_of key ≡ space = eqb→eq (space_of key) space (of_true _ t) in
             let place_same : space_of key - 1 ≡ space - 1 = omega (arith, same) in
-            let here = set_same xs (space_of key - 1) (slice_index xs (space_of key - 1) - 0 + more) (omega (arith, room, own_least, own_most)) in
+            let here = get_or-set_same xs (space_of key - 1) (slice_index xs (space_of key - 1) - 0 + more) 0 (omega (arith, room, own_least, own_most)) in
             let before = was (space_of key) own in
             let former_same : former (space_of key) ≡ former space = ap former same in
             let more_here : (if space_of key == space then more else 0) ≡ more = rw t refl in
             ap (slice_index (slice_set xs (space_of key - 1) (slice_index xs (space_of key - 1) - 0 + more))) (sym place_same) ∙ here ∙ omega (arith, before, former_same, now, more_here)
         | false ↦ λ t.
-            let other : space_of key - 1 ≡ space - 1 → ⊥ = λ same. let equal : space_of key ≡ space = omega (arith, same, least, own_least) in let clash : true ≡ false = sym (eq-eqb (space_of key) space equal) ∙ t in cc in
+            let other : space - 1 ≡ space_of key - 1 → ⊥ = λ same. let equal : space_of key ≡ space = omega (arith, same, least, own_least) in let clash : true ≡ false = sym (eq-eqb (space_of key) space equal) ∙ t in cc in
             let none : (if space_of key == space then more else 0) ≡ 0 = rw t refl in
             let before = was space is in
-            set_other xs (space_of key - 1) (space - 1) (slice_index xs (space_of key - 1) - 0 + more) other ∙ omega (arith, before, now, none)
+            get_or-set_other xs (space_of key - 1) (space - 1) (slice_index xs (space_of key - 1) - 0 + more) 0 other ∙ omega (arith, before, now, none)
       ] refl
 
   -- the next value is counted
   pub use_of_more : (v : Use) → v ≡ used_after u (space_of key) 0 count → IsUseOf shape v (es ++ e ∷ [])
   use_of_more v is = subst (λ (w : Use). IsUseOf shape w (es ++ e ∷ [])) (sym is) (record {
-    live_room = set_length u.live (space_of key - 1) (space_live u (space_of key) - 0 + count) ∙ uses.live_room;
-    keys_room = set_length u.keys (space_of key - 1) (space_keys u (space_of key) - value_count 0 + value_count count) ∙ uses.keys_room;
+    live_room = length-set u.live (space_of key - 1) (space_live u (space_of key) - 0 + count) ∙ uses.live_room;
+    keys_room = length-set u.keys (space_of key - 1) (space_keys u (space_of key) - value_count 0 + value_count count) ∙ uses.keys_room;
     live = rises u.live count (λ space. pages_of_space shape space es) (λ space. pages_of_space shape space (es ++ e ∷ [])) uses.live_room uses.live
         (λ space. let sum = pages_of_space-append shape space es (e ∷ []) in omega (arith, sum));
     keys = λ space in_range.

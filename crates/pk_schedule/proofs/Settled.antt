@@ -7,7 +7,7 @@ use Rattle.pk_pool.{specs.declared.state.BlockState.BlockState, specs.Blocks.Blo
 use Rattle.pk_pool.proofs.Leaving.{freed_same, freed_set, none_leaves}
 use Rattle.pk_model.{specs.Found.Found, specs.Found.older_epoch, specs.Found.newest_epoch, specs.Found.runs_from, specs.Found.found_under, proofs.StrangePages.bind_ok, specs.RootLimits.root_spaces}
 use Rattle.pk_schedule.{specs.Index.Index, specs.Index.IndexOnFlash, specs.Index.IsSettled, specs.Index.settled, specs.Steps.KeepsValues}
-use Rattle.pk_law_steps.proofs.Freezing.{no_blocks}
+use Rattle.pk_law_steps.proofs.FrozenNext.{no_blocks}
 
 -- no block leaves, also if one has another owner or is erased
 pub none_leaves_set : (p : Blocks) (b : ℕ) (s : BlockState) → freed_state s ≡ s → NoneLeaves p → NoneLeaves (with_state p b s)
