@@ -1,11 +1,16 @@
 -- What the programs of an epoch's next commit leave of the epoch, cut or not.
-use Rattle.std.proofs.Common.{◌≡◌, ◌≢◌, ◌⊎◌, inl, inr, ℕ, zero, suc, ◌+◌, ◌-◌, ◌*◌, ◌^◌, ◌<◌, ◌≤◌, refl, sym, ap, subst, ◌∙◌, arith, Bool, true, false, if◌then◌else◌, List, [], ◌∷◌, ◌++◌, length}
-use Rattle.std.proofs.Common.{Some, Ok, zero-add, below_more, le_refl}
+use Rattle.std.proofs.Common.{◌≡◌, ◌≢◌, ◌⊎◌, inl, inr, ℕ, zero, suc, ◌+◌, ◌-◌, ◌*◌, ◌^◌, ◌<◌, ◌≤◌, refl, sym, ap, subst, ◌∙◌, arith, Bool, true, false, if◌then◌else◌, List, [], ◌++◌, length, Some, Ok}
+use Rattle.std.proofs.Common.{zero-add, below_more, le_refl}
 use Rattle.std.{specs.Prelude.slice_index, specs.List.AllByRecursion, proofs.lemmas.Bool.cases_lt}
 use Rattle.pk_base.{specs.declared.entry.Entry.Entry as RustEntry, specs.Seen.entries as seen_all, specs.EntryChecks.IsEntry, specs.Entry.Entry}
+<<<<<<< ours
 use Rattle.pk_base.specs.Shape.{IsShape, epoch_pages, epoch_commits, page_entries}
 use Rattle.pk_base.specs.Page.{Page, Flash, page_at, erased, whole, page_in, page_of_pair, commit_page, commit_at, commits_of}
 use Rattle.pk_base.proofs.CommitPages.{second, only_commit}
+=======
+use Rattle.pk_base.{specs.Shape.IsShape, specs.Shape.epoch_pages, specs.Shape.epoch_commits, specs.Shape.page_entries, proofs.CommitPages.second, proofs.CommitPages.only_commit}
+use Rattle.pk_base.specs.Page.{Page, Flash, page_at, erased, whole, page_in, page_of_pair, commit_page, commit_at, commits_of}
+>>>>>>> theirs
 use Rattle.pk_nand.{specs.BoardState.BoardState, specs.Crash.Reached, specs.Crash.Went, specs.Pairs.IsPairCut}
 use Rattle.pk_nand.proofs.Pairing.{outside_pair, pair_read, read_first}
 use Rattle.pk_jrnfmt.{specs.Page.journal_entries, specs.Epoch.journal, specs.Epoch.epoch, proofs.PageLemmas.journal_entries_again, proofs.PageLemmas.length-seen}
@@ -218,34 +223,24 @@ module _ (e : JournalEpoch) (flash : Flash) (es : List Entry) (bytes : List ℕ)
 
 -- ---- the board
 
+-- what every cut leaves may be weakened
+module _ (old new : BoardState) (P Q : Flash → Type 0) (weaker : (f : Flash) → P f → Q f) where
+  pub reached_by : Reached old new (λ f _. P f) → Reached old new (λ f _. Q f)
+  reached_by (marks, run) = (marks, record { trail = run.trail; posted = run.posted; same_shape = run.same_shape; cuts = λ f q c. weaker f (run.cuts f q c); stands = run.stands })
+
+  pub went_by : Went old new (λ f _. P f) → Went old new (λ f _. Q f)
+  went_by (marks, run) = (marks, record { trail = run.trail; posted = run.posted; same_shape = run.same_shape; cuts = λ f q c. weaker f (run.cuts f q c); stands = run.stands })
+
 module _ (e : JournalEpoch) (board new : BoardState) (es : List Entry) (bytes : List ℕ) (is : IsShape e.shape) (left : 0 < left_of e) (whole_made : e.half ≡ false) (fits : EpochOnFlash e board.pages)
     (different : slice_index e.blocks 0 ≢ slice_index e.blocks 1) (spells : journal_entries e.shape e.number e.used bytes ≡ Some es) where
   cut_is : (cut : Flash) → IsPairCut (next_page e) bytes board.pages cut → IsCommitCut e es board.pages cut
   cut_is = commit_cut e board.pages es bytes is (takes_more e left) whole_made (commit_left e left) fits different spells
 
   pub Commit-reached : Reached board new (λ flash _. IsPairCut (next_page e) bytes board.pages flash) → CommitReached e es board new
-  Commit-reached run = (
-    run.0,
-    record {
-      trail = run.1.trail;
-      posted = run.1.posted;
-      same_shape = run.1.same_shape;
-      cuts = λ f q c. cut_is f (run.1.cuts f q c);
-      stands = run.1.stands;
-    },
-  )
+  Commit-reached = reached_by board new (IsPairCut (next_page e) bytes board.pages) (IsCommitCut e es board.pages) cut_is
 
   pub Commit-went : Went board new (λ flash _. IsPairCut (next_page e) bytes board.pages flash) → CommitWent e es board new
-  Commit-went run = (
-    run.0,
-    record {
-      trail = run.1.trail;
-      posted = run.1.posted;
-      same_shape = run.1.same_shape;
-      cuts = λ f q c. cut_is f (run.1.cuts f q c);
-      stands = run.1.stands;
-    },
-  )
+  Commit-went = went_by board new (IsPairCut (next_page e) bytes board.pages) (IsCommitCut e es board.pages) cut_is
 
   module _ (is_cut : IsPairCut (next_page e) bytes board.pages new.pages) (here : page_at new.pages (next_page e) ≡ whole bytes) where
     pub Commit-adds : AddsAll e es board.pages new.pages

@@ -1,14 +1,22 @@
 -- A commit that is made in two calls.
-use Rattle.std.proofs.Common.{◌≡◌, ◌≢◌, ◌⊎◌, inl, inr, ℕ, suc, ◌+◌, ◌-◌, ◌*◌, ◌^◌, ◌<◌, ◌≤◌, refl, sym, ap, subst, ◌∙◌, arith, true, false, Bool, if◌then◌else◌, List, [], ◌∷◌, length, Some, le_refl}
+use Rattle.std.proofs.Common.{◌≡◌, ◌≢◌, ℕ, ◌+◌, ◌-◌, ◌*◌, ◌^◌, ◌<◌, ◌≤◌, refl, sym, ap, subst, ◌∙◌, arith, true, false, List, length, Some}
 use Rattle.std.{specs.Prelude.slice_index, specs.List.AllByRecursion}
 use Rattle.pk_base.{specs.declared.entry.Entry.Entry as RustEntry, specs.Seen.entries as seen_all, specs.EntryChecks.IsEntry, specs.Entry.Entry, proofs.CommitPages.second}
+<<<<<<< ours
 use Rattle.pk_base.specs.Shape.{IsShape, epoch_commits, page_entries}
 use Rattle.pk_base.specs.Page.{Flash, page_at, erased, whole}
+=======
+use Rattle.pk_base.{specs.Shape.IsShape, specs.Shape.epoch_commits, specs.Shape.page_entries, specs.Page.Flash, specs.Page.page_at, specs.Page.erased, specs.Page.whole}
+>>>>>>> theirs
 use Rattle.pk_nand.{specs.BoardState.BoardState, specs.Calls.after_program, specs.Operations.InOrder, specs.Crash.Reached, specs.Crash.Went, specs.Pairs.IsPairCut, proofs.Leaving.page_at-slice_set}
 use Rattle.pk_jrnfmt.specs.Page.{journal_entries}
 use Rattle.pk_jrn.{specs.Epochs.JournalEpoch, specs.Epochs.EpochOnFlash, specs.Epochs.left_of, specs.Epochs.next_page, specs.Epochs.before_half, specs.Epochs.pages_of, proofs.Places.InOrder-place}
 use Rattle.pk_jrn.specs.Appends.{next_bytes, last_bytes, AddsAll, IsCommitCut, IsHalfMade, BeginsCommit}
+<<<<<<< ours
 use Rattle.pk_jrn.proofs.Appending.{takes_more, commit_left, next_spells, commit_cut, adds_all, both_fit, second_erased, Commit-reached, Commit-adds, Commit-half}
+=======
+use Rattle.pk_jrn.proofs.Appending.{takes_more, commit_left, next_spells, commit_cut, adds_all, both_fit, second_erased, Commit-reached, Commit-adds, Commit-half, reached_by, went_by}
+>>>>>>> theirs
 
 -- ---- the first program
 
@@ -85,28 +93,10 @@ module _ (e : JournalEpoch) (board : BoardState) (es : List Entry) (former : Fla
   cut_is = commit_cut b former es (last_bytes e es) is half.more refl (commit_left b left) half.stood different spells
 
   pub Ends-reached : (new : BoardState) → Reached board new (λ flash _. IsPairCut (next_page b) (last_bytes e es) former flash) → Reached board new (λ flash _. IsCommitCut b es former flash)
-  Ends-reached new run = (
-    run.0,
-    record {
-      trail = run.1.trail;
-      posted = run.1.posted;
-      same_shape = run.1.same_shape;
-      cuts = λ f q c. cut_is f (run.1.cuts f q c);
-      stands = run.1.stands;
-    },
-  )
+  Ends-reached new = reached_by board new (IsPairCut (next_page b) (last_bytes e es) former) (IsCommitCut b es former) cut_is
 
   pub Ends-went : (new : BoardState) → Went board new (λ flash _. IsPairCut (next_page b) (last_bytes e es) former flash) → Went board new (λ flash _. IsCommitCut b es former flash)
-  Ends-went new run = (
-    run.0,
-    record {
-      trail = run.1.trail;
-      posted = run.1.posted;
-      same_shape = run.1.same_shape;
-      cuts = λ f q c. cut_is f (run.1.cuts f q c);
-      stands = run.1.stands;
-    },
-  )
+  Ends-went new = went_by board new (IsPairCut (next_page b) (last_bytes e es) former) (IsCommitCut b es former) cut_is
 
   module _ (new : BoardState) (made : new ≡ after_program board (next_page b + 1) (last_bytes e es)) (is_cut : IsPairCut (next_page b) (last_bytes e es) former new.pages) where
     still_here : page_at new.pages (next_page b) ≡ whole (last_bytes e es)

@@ -14,6 +14,7 @@ use Rattle.pk_seg.proofs.ErasedBlocks.{order_erased}
 use Rattle.pk_root.{specs.declared.next.Next.TheVariants.Erase, specs.declared.next.Next.TheVariants.Program, specs.declared.next.Next.TheVariants.Again, proofs.Scanning.root_page_exists}
 use Rattle.pk_root.specs.Installing.{other_block, next_behind, before_pair, IsPossible, InstallerOnFlash, KeepsRoot, MayInstall}
 use Rattle.pk_root.proofs.Places.{block_below, page_below, not_other, set_back}
+use Rattle.pk_model.proofs.Growing.{weaken, weaken_went}
 
 -- ---- pages after the root blocks
 
@@ -102,29 +103,13 @@ pair_install shape page top bytes root start law install f is_cut = record {
 -- the same of all cuts of a call
 pub reached_installs : (shape : Shape) (page : ℕ) (top : ℕ × Root) (bytes : List ℕ) (root : Root) (start : Flash) → RootPair → IsInstall shape start top page bytes root
     → (old new : BoardState) → Reached old new (λ f _. IsPairCut page bytes start f) → Reached old new (λ f _. MayInstall shape page root start f)
-reached_installs shape page top bytes root start law install old new run = (
-  run.0,
-  record {
-    trail = run.1.trail;
-    posted = run.1.posted;
-    same_shape = run.1.same_shape;
-    cuts = λ f q c. pair_install shape page top bytes root start law install f (run.1.cuts f q c);
-    stands = run.1.stands;
-  },
-)
+reached_installs shape page top bytes root start law install old new (marks, run) =
+    (marks, weaken marks old new (λ f _. IsPairCut page bytes start f) (λ f _. MayInstall shape page root start f) (λ f _ c. pair_install shape page top bytes root start law install f c) run)
 
 pub went_installs : (shape : Shape) (page : ℕ) (top : ℕ × Root) (bytes : List ℕ) (root : Root) (start : Flash) → RootPair → IsInstall shape start top page bytes root
     → (old new : BoardState) → Went old new (λ f _. IsPairCut page bytes start f) → Went old new (λ f _. MayInstall shape page root start f)
-went_installs shape page top bytes root start law install old new run = (
-  run.0,
-  record {
-    trail = run.1.trail;
-    posted = run.1.posted;
-    same_shape = run.1.same_shape;
-    cuts = λ f q c. pair_install shape page top bytes root start law install f (run.1.cuts f q c);
-    stands = run.1.stands;
-  },
-)
+went_installs shape page top bytes root start law install old new (marks, run) =
+    (marks, weaken_went marks old new (λ f _. IsPairCut page bytes start f) (λ f _. MayInstall shape page root start f) (λ f _ c. pair_install shape page top bytes root start law install f c) run)
 
 -- if a call stopped, its flash is a cut
 went_left : (old new : BoardState) (P : Flash → Type 0) → Went old new (λ f _. P f) → P new.pages
