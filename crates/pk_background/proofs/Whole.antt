@@ -19,9 +19,6 @@ use Rattle.pk_background.{proofs.Completing.KeepsAll-finished, proofs.Completing
 worked_idle : {E : Type 0} → ◌≡◌ {A = Result Stepped E} (Ok Worked) (Ok Idle) → ⊥
 worked_idle e = cc
 
-idle_worked : {E : Type 0} → ◌≡◌ {A = Result Stepped E} (Ok Idle) (Ok Worked) → ⊥
-idle_worked e = cc
-
 err_worked : {E : Type 0} (f : E) → ◌≡◌ {A = Result Stepped E} (Err f) (Ok Worked) → ⊥
 err_worked f e = cc
 

@@ -3,14 +3,8 @@ use Rattle.std.proofs.Common.{◌≡◌, ◌≢◌, ◌⊎◌, inl, inr, ℕ, ze
 use Rattle.std.proofs.Common.{zero-add, below_more, le_refl}
 use Rattle.std.{specs.Prelude.slice_index, specs.List.AllByRecursion, proofs.lemmas.Bool.cases_lt}
 use Rattle.pk_base.{specs.declared.entry.Entry.Entry as RustEntry, specs.Seen.entries as seen_all, specs.EntryChecks.IsEntry, specs.Entry.Entry}
-<<<<<<< ours
-use Rattle.pk_base.specs.Shape.{IsShape, epoch_pages, epoch_commits, page_entries}
-use Rattle.pk_base.specs.Page.{Page, Flash, page_at, erased, whole, page_in, page_of_pair, commit_page, commit_at, commits_of}
-use Rattle.pk_base.proofs.CommitPages.{second, only_commit}
-=======
 use Rattle.pk_base.{specs.Shape.IsShape, specs.Shape.epoch_pages, specs.Shape.epoch_commits, specs.Shape.page_entries, proofs.CommitPages.second, proofs.CommitPages.only_commit}
 use Rattle.pk_base.specs.Page.{Page, Flash, page_at, erased, whole, page_in, page_of_pair, commit_page, commit_at, commits_of}
->>>>>>> theirs
 use Rattle.pk_nand.{specs.BoardState.BoardState, specs.Crash.Reached, specs.Crash.Went, specs.Pairs.IsPairCut}
 use Rattle.pk_nand.proofs.Pairing.{outside_pair, pair_read, read_first}
 use Rattle.pk_jrnfmt.{specs.Page.journal_entries, specs.Epoch.journal, specs.Epoch.epoch, proofs.PageLemmas.journal_entries_again, proofs.PageLemmas.length-seen}

@@ -2,21 +2,12 @@
 use Rattle.std.proofs.Common.{◌≡◌, ◌≢◌, ℕ, ◌+◌, ◌-◌, ◌*◌, ◌^◌, ◌<◌, ◌≤◌, refl, sym, ap, subst, ◌∙◌, arith, true, false, List, length, Some}
 use Rattle.std.{specs.Prelude.slice_index, specs.List.AllByRecursion}
 use Rattle.pk_base.{specs.declared.entry.Entry.Entry as RustEntry, specs.Seen.entries as seen_all, specs.EntryChecks.IsEntry, specs.Entry.Entry, proofs.CommitPages.second}
-<<<<<<< ours
-use Rattle.pk_base.specs.Shape.{IsShape, epoch_commits, page_entries}
-use Rattle.pk_base.specs.Page.{Flash, page_at, erased, whole}
-=======
 use Rattle.pk_base.{specs.Shape.IsShape, specs.Shape.epoch_commits, specs.Shape.page_entries, specs.Page.Flash, specs.Page.page_at, specs.Page.erased, specs.Page.whole}
->>>>>>> theirs
 use Rattle.pk_nand.{specs.BoardState.BoardState, specs.Calls.after_program, specs.Operations.InOrder, specs.Crash.Reached, specs.Crash.Went, specs.Pairs.IsPairCut, proofs.Leaving.page_at-slice_set}
 use Rattle.pk_jrnfmt.specs.Page.{journal_entries}
 use Rattle.pk_jrn.{specs.Epochs.JournalEpoch, specs.Epochs.EpochOnFlash, specs.Epochs.left_of, specs.Epochs.next_page, specs.Epochs.before_half, specs.Epochs.pages_of, proofs.Places.InOrder-place}
 use Rattle.pk_jrn.specs.Appends.{next_bytes, last_bytes, AddsAll, IsCommitCut, IsHalfMade, BeginsCommit}
-<<<<<<< ours
-use Rattle.pk_jrn.proofs.Appending.{takes_more, commit_left, next_spells, commit_cut, adds_all, both_fit, second_erased, Commit-reached, Commit-adds, Commit-half}
-=======
 use Rattle.pk_jrn.proofs.Appending.{takes_more, commit_left, next_spells, commit_cut, adds_all, both_fit, second_erased, Commit-reached, Commit-adds, Commit-half, reached_by, went_by}
->>>>>>> theirs
 
 -- ---- the first program
 

@@ -18,7 +18,7 @@ use Rattle.pk_remap.proofs.Stepping.{table_inside, copies_written, copies_less, 
 use Rattle.pk_remap.proofs.Stepping.{erases_table, fails_to_erase_table, writes_first, fails_to_write_first, writes_second, fails_to_write_second}
 use Rattle.pk_remap.{specs.declared.relocation.Call.TheVariants.Program, specs.declared.relocation.Call.TheVariants.Erase, specs.Table.SpareTable, specs.Table.table_bytes, specs.Table.is_table}
 use Rattle.pk_remap.{specs.Places.inner_shape, specs.Places.place, specs.Places.placed_page, specs.Newest.IsTablePage, specs.Newest.IsNewest, specs.Through.MayShow, specs.Through.IsMarkWithin}
-use Rattle.pk_remap.{proofs.Placing.div-of, proofs.Placing.mod-of, proofs.Placing.place-below, proofs.Lifting.placed_page-inside, proofs.TableLemmas.table_parts}
+use Rattle.pk_remap.{proofs.Placing.div-of, proofs.Placing.mod-of, proofs.Placing.place-below, proofs.Lifting.placed_page-inside}
 use Rattle.pk_nand.{specs.BoardState.BoardState, specs.Calls.Rose, specs.Calls.after_program, specs.Calls.ProgramFailed, specs.Crash.Reached, specs.Crash.Went, proofs.Leaving.page_at-slice_set_same}
 use Rattle.pk_nand.specs.Operations.{InOrder, filled, after_read, after_erase, ReadFailed, EraseFailed}
 use Rattle.pk_nand.specs.declared.types.PageRead.TheVariants.{Whole, Erased as ReadErased, Torn as ReadTorn}
@@ -533,17 +533,6 @@ module _ (r : InMemory) (before : Flash) (old : BoardState) (runs : RelocationRu
   second_in_order pair phase =
       let half : IsTableHalf (relocation_of r) before old.pages pair = stands_in (Second pair) phase in
       (table_inside' (suc pair) half.pair.second, half.order)
-
-  -- the number of the table is small
-  pub small_number : r.number ≤ 65
-  small_number =
-      let own = table_parts r.shape r.spares (relocation_of r).table runs.goes_on.serving.grammar in
-      let most = own.most in
-      let used = runs.goes_on.serving.used in
-      let left = runs.goes_on.serving.left in
-      let few = runs.goes_on.serving.few in
-      let number : r.number ≤ length (take r.used r.serves) + 1 = grind (arith, nat_tests) in
-      omega (arith, number, used, left, few)
 
   -- a page of the spare is programmed in order, and is one of its block
   pub write_less : (k : ℕ) → r.phase ≡ Write k → k < r.shape.block_pages

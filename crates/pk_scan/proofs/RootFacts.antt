@@ -76,9 +76,6 @@ module _ (shape : Shape) (root : Root) (e : is_root shape root ≡ true) where
   older_exist bs is = subst (EpochExists shape) (sym (older_is root.older bs is))
       (two_exist shape root.older (older_two bs is) (exist shape root.older (all_back is_block root.newest root.older of_epochs)))
 
-  pub epoch_some : 1 ≤ root.epoch
-  epoch_some = leb-true 1 root.epoch parts.some
-
   abbrev four : HasFour shape root.counts root.runs
   four = has_four shape root parts.runs
 
