@@ -52,8 +52,6 @@ row_left shape block done old new few row = record { same_size = row.same_size; 
       ]
     ]
 
-}
-
 -- ---- the board's shape, if there is one
 
 pub erase_left : (o : Option Shape) (s : Shape) → o ≡ Some s → (block n done : ℕ) (old new : Flash) → n ≡ s.block_pages → done ≤ n → ErasedRow (block * n) done old new

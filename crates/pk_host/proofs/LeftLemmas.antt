@@ -129,14 +129,3 @@ module _ (shape : Shape) (most : ℕ) (m : Map) (c : Command) (good : IsGoodMap 
     | None ↦ λ e. let both = first_none (early 1 shape c)
         (late_of shape (limit_of (most ∷ []) c.namespace) (in_space c.namespace m) c (op_of c.opcode)) e in good_served (op_of c.opcode) refl both.0 both.1
   ] refl
-
--- ---- a map of the first namespace alone
-
-module _ (shape : Shape) (most : ℕ) (m : Map) (c : Command) (alone : in_space 1 m ≡ m) where
-  first_key : (k : Opcode) → NamesSpace k → op_of c.opcode ≡ Some k → early 1 shape c ≡ None → space_of (key c) ≡ 1
-  first_key k names is passed = let spaced = key_spaced 1 shape c k names is passed in omega (arith, spaced.some, spaced.most)
-
-  abbrev left_alone : Type 0
-  left_alone = in_space 1 (map_after shape (most ∷ []) m c) ≡ map_after shape (most ∷ []) m c
-
-  ] refl

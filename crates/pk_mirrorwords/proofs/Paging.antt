@@ -28,8 +28,6 @@ pub record AreAdded (page : List Key) (text initial : RoomyList) (i : ℕ) : Typ
   pub lines : text ≡ record initial { items = initial.items ++ key_lines (take i page) }
   pub most : length text.items ≤ length initial.items + 33 * i
 
-}
-
 -- ---- how many keys there can be
 
 names_length : (es : List (Key × List ℕ)) → length (map (λ e. e.0) es) ≡ length es

@@ -425,8 +425,6 @@ module _ (r : InMemory) (old : BoardState) (rest : IsAtRest r old) where
       board = inr is;
     }
 
-  )
-
 -- ---- the search for the newest table
 
 grammar_of : (shape : Shape) (spares : ℕ) (table : SpareTable) (p : Page) → table_in shape spares p ≡ Some table → is_table shape spares table ≡ true

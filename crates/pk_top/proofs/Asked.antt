@@ -190,8 +190,6 @@ module _ (shape : Shape) (old loaded new : BoardState) (found : Loaded old loade
     | inr e ↦ let T : ℕ → Type 0 = λ n. Tells old new n in subst T (sym e.1) (tells_end task e.2.start e.0 e.2.ends)
   ]
 
-  ]
-
 pub tells_ask : (task : Task) (old new : BoardState) (status : ℕ) → AskRun task old new status → Tells old new status
 tells_ask task old new status (no_memory is same) = tells_memory old new status is (ap (λ (s : BoardState). s.flash_faults) same) (gives_same old new same)
 tells_ask task old new status (not_loaded refused) = tells_refused old new status refused

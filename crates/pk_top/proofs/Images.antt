@@ -11,9 +11,6 @@ some_shape : (shape : Shape) (o : Option Shape) → o ≡ Some shape → IsSome 
 some_shape shape o e = let T : Option Shape → Type 0 = IsSome in subst T (sym e) refl
 
 module _ (shape : Shape) (limits : List ℕ) (old loaded new : BoardState) (none : Loaded old loaded None) where
-  }
-
-  ]
 
 -- ---- status 0
 

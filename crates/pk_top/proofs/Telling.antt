@@ -80,8 +80,6 @@ tells_no_drive old new status is none untouched = record {
   made = λ e. absurd (omega arith);
 }
 
-}
-
 -- if nothing was done
 pub gives_same : (old new : BoardState) → new ≡ old → GivesNothing old new
 gives_same old new same = record { input = ap (λ (s : BoardState). s.input) same; posted = ap (λ (s : BoardState). s.posted) same }
@@ -178,8 +176,6 @@ module _ (shape : Shape) (old loaded new : BoardState) (found : Loaded old loade
   tells_serves frames status s = elim s.outcome [
     | inl n ↦ tells_not status n.error n.tells n.reason n.only_reads
     | inr e ↦ let T : ℕ → Type 0 = λ n. Tells old new n in subst T (sym e.1) (tells_end frames e.0 e.2.blames)
-  ]
-
   ]
 
 -- ---- the word

@@ -8,8 +8,6 @@ use Rattle.pk_pool.specs.Blocks.{Blocks}
 use Rattle.pk_values.{specs.declared.span.Span.Span, specs.State.ValuesState, specs.State.next_page, specs.Placed.ValuesOnFlash}
 use Rattle.pk_values.{specs.Reserving.IsReserved, specs.Reserving.IsFreeOf, specs.Entries.ValueMoves, specs.Entries.IsInOpen, specs.Entries.span_if_some}
 
-}
-
 -- then a key may have it
 module _ (shape : Shape) (before d : ValuesState) (pool : Blocks) (outputs : List ℕ) (earlier flash : Flash) (es : List (Key × Place)) (key : Key) (value : List ℕ) (page count : ℕ) (old : Option Span)
     (reserved : IsReserved shape before pool earlier page count) (count_is : count ≡ charge shape (length value)) (short : length value ≤ greatest shape)

@@ -275,5 +275,3 @@ module _ (begin count : ℕ) (shape : Shape) (terms : Terms) (start : Map) (a b 
           in_faults = ap (λ (x : BoardState). x.in_faults) failed.rest ∙ ap (λ (x : BoardState). x.in_faults) w.asked.rest;
         };
       }
-
-}

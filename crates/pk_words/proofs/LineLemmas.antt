@@ -18,5 +18,3 @@ one_more ks i h =
 pub record AreSaid (page : List Key) (text initial : RoomyList) (i : ℕ) : Type 0 where
   pub lines : text ≡ record initial { items = key_lines (take i page) }
   pub most : length text.items ≤ 33 * i
-
-}

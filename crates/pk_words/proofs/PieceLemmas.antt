@@ -2,8 +2,6 @@
 use Rattle.std.proofs.Common.{◌≡◌, inl, inr, ℕ, ◌≤◌, List, [], ◌++◌, Option, Some, None, refl, sym, ap, ◌∙◌, arith, append_assoc}
 use Rattle.std.{specs.Option.IfSome, proofs.lemmas.List.append-nil, proofs.lemmas.Grind.flat_map-append}
 
-}
-
 -- the text of a list does not speak of frames: any number will do, and the port's if it is known
 frames_of : Option ℕ → ℕ
 frames_of None = 0

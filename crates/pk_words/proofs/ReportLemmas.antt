@@ -40,8 +40,6 @@ counted_more numbers text next initial i name less h is added short =
 same_text : (text initial : RoomyList) (items : List ℕ) → text.items ≡ items → text.room ≡ initial.room → text ≡ record initial { items = items }
 same_text text initial items e f = λ i. record { items = e i; room = f i }
 
-}
-
 pub counted_all : (numbers : List ℕ) (text initial : RoomyList) (i : ℕ) → i ≡ 16 → AreCounted numbers text initial i → text ≡ record initial { items = report_lines numbers }
 counted_all numbers text initial i last there =
     let h = subst (λ (n : ℕ). AreCounted numbers text initial n) last there in
