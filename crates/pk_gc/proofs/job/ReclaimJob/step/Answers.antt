@@ -11,8 +11,11 @@ use Rattle.pk_gc.proofs.job.ReclaimJob.step.Goals.{In-Copies, In-Commits, In-Som
 phase_is : (g : given.Over) (c : In-Copies g) → c.args.self.now.phase ≡ Copies c.in-Copies.course
 phase_is g c = sym (ap (λ (s : JobState). s.phase) c.self.view_is) ∙ c.in-Copies.is
 
-goes_on : (g : given.Over) (c : In-Copies g) → CanGoOn c.in-Copies.course c.args.self.now (hands_of c.args.live.now c.args.front.now c.args.pool.now c.args.active.now c.args.epoch.now) (g.B.Nand.state c.args.board.now).pages
-goes_on g c = subst (λ (p : Phase). CanStepIn p c.args.self.now (hands_of c.args.live.now c.args.front.now c.args.pool.now c.args.active.now c.args.epoch.now) (g.B.Nand.state c.args.board.now).pages) (phase_is g c) c.requires.can
+goes_on : (g : given.Over) (c : In-Copies g)
+    → CanGoOn c.in-Copies.course c.args.self.now (hands_of c.args.live.now c.args.front.now c.args.pool.now c.args.active.now c.args.epoch.now) (g.B.Nand.state c.args.board.now).pages
+goes_on g c =
+    subst (λ (p : Phase). CanStepIn p c.args.self.now (hands_of c.args.live.now c.args.front.now c.args.pool.now c.args.active.now c.args.epoch.now) (g.B.Nand.state c.args.board.now).pages)
+    (phase_is g c) c.requires.can
 
 commits_is : (g : given.Over) (c : In-Commits g) → c.args.self.now.phase ≡ Commits c.in-Commits.victim
 commits_is g c = sym (ap (λ (s : JobState). s.phase) c.self.view_is) ∙ c.in-Commits.is
