@@ -6,13 +6,20 @@ use Rattle.pk_nand.specs.BoardState.{BoardState}
 use Rattle.pk_jrn.specs.Epochs.{JournalEpoch}
 use Rattle.pk_gc.{specs.declared.course.Course.Course, specs.declared.reclaimed.Reclaimed.Reclaimed, specs.declared.reclaimed.Committed.Committed, specs.declared.moves.Move.Move}
 use Rattle.pk_gc.specs.declared.reclaimed.Committed.TheVariants.{None, NeedsFreeze, All}
-use Rattle.pk_gc.{specs.declared.course.Phase.TheVariants.Idle, specs.declared.course.Phase.TheVariants.Commits, specs.State.JobState, specs.State.CanGoAll, specs.State.heads_all, specs.State.source}
-use Rattle.pk_gc.{specs.Victims.AreDead, specs.Committing.BecameOf, specs.Committing.Adds, specs.Committing.Refuses, specs.Committing.entries_left}
 use Rattle.pk_gc.specs.Stepping.{Hands, CanEnd, Finishes, moved_in, handed_over, victim_given}
 use Rattle.pk_gc.specs.Asking.{CanFinish, ReclaimFinished, IsBehindCommit}
+use Rattle.pk_gc.{specs.declared.course.Phase.TheVariants.Idle, specs.declared.course.Phase.TheVariants.Commits, specs.State.JobState, specs.State.CanGoAll, specs.State.heads_all, specs.State.source}
+use Rattle.pk_gc.{specs.Victims.AreDead, specs.Committing.BecameOf, specs.Committing.Adds, specs.Committing.Refuses, specs.Committing.entries_left}
 use Rattle.pk_live.specs.Values.{block_sum}
 
 -- ---- the search for the next head
+
+-- a head in the rest of the victim that no other one precedes
+pub record IsFirstHead (shape : Shape) (c : Course) (heads : List ℕ) (page : ℕ) : Type 0 where
+  pub behind : source shape c ≤ page
+  pub inside : page < c.victim * shape.block_pages + shape.block_pages
+  pub head : 0 < slice_index heads page
+  pub first : AreDead heads (source shape c) page
 
 -- the first page of a block, of n pages, and its end
 module _ (shape : Shape) (c : Course) (n m : ℕ)
@@ -30,17 +37,10 @@ module _ (shape : Shape) (c : Course) (n m : ℕ)
       subst (λ (x : ℕ). AreDead heads (source shape c) x) end_is
       (subst (λ (x : ℕ). AreDead heads x (c.victim * n + m)) start_is dead)
 
-  -- a head in the rest of the victim that no other one precedes
-  pub record IsFirstHead (heads : List ℕ) (page : ℕ) : Type 0 where
-    pub behind : source shape c ≤ page
-    pub inside : page < c.victim * shape.block_pages + shape.block_pages
-    pub head : 0 < slice_index heads page
-    pub first : AreDead heads (source shape c) page
-
   pub first_head : (heads : List ℕ) (page : ℕ)
       → (c.victim * n + c.seen ≤ page) × (page < c.victim * n + m)
       × (0 < slice_index heads page) × AreDead heads (c.victim * n + c.seen) page
-      → IsFirstHead heads page
+      → IsFirstHead shape c heads page
   first_head heads page found = record {
     behind = subst (λ (x : ℕ). x ≤ page) start_is found.0;
     inside = subst (λ (x : ℕ). page < x) end_is found.1;

@@ -1,5 +1,5 @@
 -- A reclaim begins: a victim was chosen, and a block taken for its copies; or a victim without live pages was freed.
-use Rattle.std.proofs.Common.{◌≡◌, inl, inr, ℕ, ◌+◌, ◌-◌, ◌*◌, ◌<◌, ◌≤◌, refl, sym, ap, subst, ◌∙◌, arith, true, false, List, [], ◌∷◌, sum, take, drop, append-nil}
+use Rattle.std.proofs.Common.{◌≡◌, inl, inr, ℕ, ◌+◌, ◌-◌, ◌*◌, ◌<◌, ◌≤◌, refl, sym, ap, subst, ◌∙◌, arith, true, false, List, [], ◌∷◌, sum, take, drop}
 use Rattle.std.proofs.lemmas.Option.{slice_get_within}
 use Rattle.pk_base.{specs.Key.Key, specs.Shape.Shape, specs.Shape.data_blocks, specs.Shape.dense, specs.Page.Flash, specs.Page.page_at, specs.Entry.Entry, specs.Entry.Place, specs.Map.Map}
 use Rattle.pk_plan.specs.declared.owner.Owner.TheVariants.{Values as for_values}
@@ -17,7 +17,7 @@ use Rattle.pk_reclaim.{proofs.Holding.chosen, proofs.Holding.output_taken, proof
 use Rattle.pk_reclaim.specs.Space.{ReclaimParts, SpaceOnFlash, MayReclaim, HasRoom, reclaim_parts}
 use Rattle.pk_reclaim.proofs.Owners.{SameOwners, owners_taken, owners_given, spare_aside, names_stay, others_kept}
 use Rattle.pk_reclaim.proofs.Quiet.{NamesOwned, IsQuiet, SameBut, Finds, under_quiet, low_quiet, log_quiet, meta_quiet, journal_quiet, none_reaches, erase_quiet, erase_reaches}
-use Rattle.pk_reclaim.{proofs.Still.still_same, proofs.Still.still_moves, proofs.Still.names_of, proofs.Ready.job_in, proofs.Ready.space_in, proofs.Ready.used_is}
+use Rattle.pk_reclaim.{proofs.Still.still_same, proofs.Still.none_moved, proofs.Still.still_moves, proofs.Still.names_of, proofs.Ready.job_in, proofs.Ready.space_in, proofs.Ready.used_is}
 use Rattle.pk_log.specs.State.{LogState}
 
 -- the pages of a victim that are live are those of the values that begin in it
@@ -115,18 +115,10 @@ module _ (log : LogState) (values values' : ValuesState) (pool pool' : Blocks) (
         }
 
     pub starts_moves : SpaceMoves before old top found m (reclaim_parts log values' pool' job') new
-    starts_moves = subst (λ (j : JobState). SpaceMoves before old top found m (reclaim_parts log values' pool' j) new) (sym s.job_is) (record {
-      moves = [];
-      newest = found.newest;
-      newest_is = sym (append-nil found.newest);
-      still = tt;
-      then_places = refl;
-      as_many = refl;
-      stands = stands;
-      others = others_kept shape top.1 pool old.pages pool' new.pages owners (low_quiet quiet new.pages same)
-          (meta_quiet quiet new.pages same) (λ k owned other. journal_quiet quiet new.pages same k owned);
-      cuts = reaches;
-    })
+    starts_moves = subst (λ (j : JobState). SpaceMoves before old top found m (reclaim_parts log values' pool' j) new) (sym s.job_is)
+        (none_moved before (space_in log values' pool' [] [] page (Copies course)) old new top found m stands
+        (others_kept shape top.1 pool old.pages pool' new.pages owners (low_quiet quiet new.pages same)
+        (meta_quiet quiet new.pages same) (λ k owned other. journal_quiet quiet new.pages same k owned)) reaches)
 
   -- ---- a block without live pages was freed
 

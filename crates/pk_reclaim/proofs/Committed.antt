@@ -110,8 +110,8 @@ module _ (log : LogState) (values : ValuesState) (pool : Blocks) (c : Course) (m
 
   -- ---- the program failed
 
-  breaks : (new : BoardState) → FailsToAdd left_entries log.active log.epoch old new → Goes shape old new (CrashFinds shape background old.pages m)
-  breaks new f = commit_begin_fails shape old new top found m left_moves where_to log.epoch ready journals f.room.1 stands.half stands.under (can_move f.room) f.fails
+  pub commit_breaks : (new : BoardState) → FailsToAdd left_entries log.active log.epoch old new → Goes shape old new (CrashFinds shape background old.pages m)
+  commit_breaks new f = commit_begin_fails shape old new top found m left_moves where_to log.epoch ready journals f.room.1 stands.half stands.under (can_move f.room) f.fails
 
   -- ---- it was made
 
@@ -249,7 +249,7 @@ module _ (log : LogState) (values : ValuesState) (pool : Blocks) (c : Course) (m
         (subst (λ (p : Blocks). P then_log p job') (sym pool_same)
         (subst (λ (j : JobState). P then_log pool j) (sym commits.job_is) is))
 
-    commit_moves : SpaceMoves before old top found m (reclaim_parts log' values' pool' job') new
+    pub commit_moves : SpaceMoves before old top found m (reclaim_parts log' values' pool' job') new
     commit_moves = as_made (λ l p j. SpaceMoves before old top found m (reclaim_parts l values' p j) new) (record {
       moves = left_moves;
       newest = found.newest ++ left_entries;
@@ -268,24 +268,5 @@ module _ (log : LogState) (values : ValuesState) (pool : Blocks) (c : Course) (m
         no_meta k same owned =
             let clash : Some (Owned Meta) ≡ Some (Owned Journal) = sym owned ∙ (ap (λ (x : ℕ). slice_get pool.states (x / shape.block_pages)) same ∙ next_journal room.1) in cc
 
-    commit_room : HasRoom (reclaim_parts log' values' pool' job')
+    pub commit_room : HasRoom (reclaim_parts log' values' pool' job')
     commit_room = as_made (λ l p j. HasRoom (reclaim_parts l values' p j)) room_there
-
--- ---- the same, for all that is before and after
-
-module _ (log log' : LogState) (values values' : ValuesState) (pool pool' : Blocks) (c : Course) (moves : List Move)
-    (entries : List Entry) (page : List ℕ) (old new : BoardState) (top : ℕ × Root) (found : Found) (m : Map)
-    (ready : IsReady old log.shape) (ready' : IsReady new log.shape) (stands : SpaceOnFlash (space_in log values pool moves entries page (Copies c)) old.pages top found m)
-    (whole : c.left ≡ 0) (dead : AreDead values.live.heads (source log.shape c) (c.victim * log.shape.block_pages + log.shape.block_pages)) (job' : JobState) where
-  abbrev IsCommit : Type 0
-  IsCommit = CommitsMoves c (job_in log moves entries page (Copies c)) (hands_of values pool log.active log.epoch) old job' (hands_of values' pool' log'.active log'.epoch) new
-
-  pub committed_moves : log' ≡ record log { active = log'.active; epoch = log'.epoch } → IsCommit
-      → SpaceMoves (space_in log values pool moves entries page (Copies c)) old top found m (reclaim_parts log' values' pool' job') new
-  committed_moves log_is is = commit_moves log values pool c moves entries page old top found m ready stands whole dead log' values' pool' job' new ready' log_is is
-
-  pub committed_room : log' ≡ record log { active = log'.active; epoch = log'.epoch } → IsCommit → HasRoom (reclaim_parts log' values' pool' job')
-  committed_room log_is is = commit_room log values pool c moves entries page old top found m ready stands whole dead log' values' pool' job' new ready' log_is is
-
-  pub commit_breaks : FailsToAdd (entries_left values.live.heads moves) log.active log.epoch old new → Goes log.shape old new (CrashFinds log.shape background old.pages m)
-  commit_breaks is = breaks log values pool c moves entries page old top found m ready stands whole dead new is

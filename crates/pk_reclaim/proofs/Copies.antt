@@ -1,5 +1,5 @@
 -- A page of a value was read, or programmed into the output.
-use Rattle.std.proofs.Common.{◌≡◌, inl, ℕ, ◌-◌, ◌*◌, ◌/◌, refl, sym, ap, subst, arith, true, List, [], ◌∷◌, ◌++◌, append-nil}
+use Rattle.std.proofs.Common.{◌≡◌, inl, ℕ, ◌-◌, ◌*◌, ◌/◌, refl, sym, ap, subst, arith, true, List, [], ◌∷◌, ◌++◌}
 use Rattle.pk_base.{specs.Key.Key, specs.Shape.Shape, specs.Shape.charge, specs.Page.Flash, specs.Entry.Entry, specs.Entry.Place, specs.Map.Map}
 use Rattle.pk_nand.{specs.BoardState.BoardState, specs.Calls.IsReady, specs.Calls.after_program, specs.Operations.after_read}
 use Rattle.pk_segfmt.proofs.StoredLemmas.{charge_some}
@@ -13,7 +13,7 @@ use Rattle.pk_gc.{specs.Stepping.ProgramsHeld, specs.Stepping.ReadsNext, specs.S
 use Rattle.pk_gc.proofs.Counting.{program_sparse, begin_sparse}
 use Rattle.pk_values.{specs.State.ValuesState, specs.Placed.ValuesOnFlash}
 use Rattle.pk_reclaim.{proofs.Holding.programmed_output, specs.Space.ReclaimParts, specs.Space.SpaceOnFlash, specs.Space.reclaim_parts, specs.Steps.SpaceMoves}
-use Rattle.pk_reclaim.{proofs.Owners.owners_same, proofs.Owners.held_aside, proofs.Owners.others_kept, proofs.Still.IsStill, proofs.Still.still_moves, proofs.Still.names_of}
+use Rattle.pk_reclaim.{proofs.Owners.owners_same, proofs.Owners.held_aside, proofs.Owners.others_kept, proofs.Still.IsStill, proofs.Still.none_moved, proofs.Still.still_moves, proofs.Still.names_of}
 use Rattle.pk_reclaim.proofs.Quiet.{IsQuiet, SameBut, under_quiet, low_quiet, log_quiet, meta_quiet, journal_quiet, program_quiet, program_reaches}
 use Rattle.pk_reclaim.proofs.Ready.{job_in, space_in, are_held, hands}
 use Rattle.pk_log.specs.State.{LogState}
@@ -146,15 +146,8 @@ module _ (log : LogState) (values : ValuesState) (pool : Blocks) (c : Course) (m
     }
 
     pub program_moves : SpaceMoves before old top found m (reclaim_parts log values pool job') new
-    program_moves = subst (λ (j : JobState). SpaceMoves before old top found m (reclaim_parts log values pool j) new) (sym p.job_is) (record {
-      moves = [];
-      newest = found.newest;
-      newest_is = sym (append-nil found.newest);
-      still = tt;
-      then_places = refl;
-      as_many = refl;
-      stands = stands_behind;
-      others = others_kept shape top.1 pool old.pages pool new.pages (owners_same pool) (low_quiet quiet new.pages same)
-          (meta_quiet quiet new.pages same) (λ k owned other. journal_quiet quiet new.pages same k owned);
-      cuts = program_reaches quiet (target shape c) page (in_output p.held) new p.board;
-    })
+    program_moves = subst (λ (j : JobState). SpaceMoves before old top found m (reclaim_parts log values pool j) new) (sym p.job_is)
+        (none_moved before (space_in log values pool moves [] page (Copies (programmed c))) old new top found m stands_behind
+        (others_kept shape top.1 pool old.pages pool new.pages (owners_same pool) (low_quiet quiet new.pages same)
+        (meta_quiet quiet new.pages same) (λ k owned other. journal_quiet quiet new.pages same k owned))
+        (program_reaches quiet (target shape c) page (in_output p.held) new p.board))

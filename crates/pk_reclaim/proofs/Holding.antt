@@ -6,15 +6,15 @@ use Rattle.pk_plan.specs.declared.owner.Owner.TheVariants.{Values as for_values}
 use Rattle.pk_nand.{specs.BoardState.BoardState, proofs.Leaving.page_at-slice_set}
 use Rattle.pk_pool.{specs.declared.state.BlockState.TheVariants.Free, specs.declared.state.BlockState.TheVariants.Owned, specs.Taking.SameButBlock, specs.Taking.ReachesIn, specs.Laws.IsInBlock}
 use Rattle.pk_pool.specs.Blocks.{Blocks, PoolOnFlash, IsOwned, IsSpare, used_by, with_state}
-use Rattle.pk_pool.proofs.States.{get-set_other, get-set_same, set_is, free_is_not_ready, owned_is_not_ready}
-use Rattle.pk_pool.proofs.Sharing.{used_given, used_adopted}
+use Rattle.pk_pool.{proofs.States.get-set_other, proofs.States.set_is, proofs.States.free_is_not_ready, proofs.States.owned_is_not_ready, proofs.Sharing.used_given, proofs.Sharing.used_adopted}
 use Rattle.pk_pool.proofs.Fitting.{PoolOnFlash-marked, PoolOnFlash-but_block, PoolOnFlash-programmed, owned_not_ready, in_block}
 use Rattle.pk_live.{specs.Values.Values, specs.OpenBlocks.closed_with, specs.declared.open_block.OpenBlock.OpenBlock}
 use Rattle.pk_gc.{specs.Stepping.Hands, specs.Victims.Chooses}
 use Rattle.pk_values.{specs.State.ValuesState, specs.Placed.ValuesOnFlash, specs.Placed.IsOpenIn, specs.Placed.IsNotOpen, specs.Placed.HoldsValues, specs.Laws.SameValues}
 use Rattle.pk_values.proofs.Unchanged.{some_pages, open_same, flash_elsewhere}
 use Rattle.pk_values.proofs.Filling.{another, kept, was, taken, same_values, reached_in}
-use Rattle.pk_reclaim.{specs.Values.OutputTaken, specs.Values.DeadGivenBack, specs.Values.CopyProgrammed, specs.Values.VictimGivenBack, proofs.Releasing.released_as}
+use Rattle.pk_reclaim.{specs.Values.OutputTaken, specs.Values.DeadGivenBack, specs.Values.CopyProgrammed, specs.Values.VictimGivenBack, proofs.Releasing.freed, proofs.Releasing.freed_keeps}
+use Rattle.pk_reclaim.proofs.Releasing.{held_before, open_stays, released_as}
 
 abbrev state_of : Values → Option OpenBlock → ValuesState
 state_of live open_block = record { live = live; open_block = open_block }
@@ -147,35 +147,10 @@ programmed_output shape d p output page bytes flash es placed here =
 -- ---- it is freed
 
 module _ (shape : Shape) (d : ValuesState) (p : Blocks) (b : ℕ) (flash : Flash) (es : List (Key × Place)) (placed : ValuesOnFlash shape d p (b ∷ []) flash es) where
-  abbrev without_it : Blocks
-  without_it = with_state p b Free
-
   held : HoldsValues p b
   held = placed.outputs_are.owned b (inl refl)
 
-  keeps : (c : ℕ) → c ≢ b → HoldsValues p c → HoldsValues without_it c
-  keeps c ne is = get-set_other p.states b c Free ne ∙ is
-
-  was_held : (c : ℕ) → HoldsValues without_it c → (c ≢ b) × HoldsValues p c
-  was_held c is =
-      let ne : c ≢ b = λ e.
-      let same : Owned for_values ≡ Free = get-set_same p.states b Free (Owned for_values) (subst (λ k. HoldsValues without_it k) e is) in cc in
-      (ne, sym (get-set_other p.states b c Free ne) ∙ is)
-
-  open_stays : (open_block : Option OpenBlock) → IsNotOpen open_block b → MatchOption open_block (Unit {0}) (λ o. IsOpenIn shape p flash o)
-      → MatchOption open_block (Unit {0}) (λ o. IsOpenIn shape without_it flash o)
-  open_stays None other open_is = tt
-  open_stays (Some o) other open_is = record {
-    owned = keeps o.block (λ e. other (sym e)) open_is.owned;
-    behind_roots = open_is.behind_roots;
-    exists = open_is.exists;
-    within = open_is.within;
-    even = open_is.even;
-    written = open_is.written;
-    unwritten = open_is.unwritten;
-  }
-
-  pub ValuesOnFlash-given : ValuesOnFlash shape d without_it [] flash es
+  pub ValuesOnFlash-given : ValuesOnFlash shape d (freed p b) [] flash es
   ValuesOnFlash-given = record {
     is_shape = placed.is_shape;
     shape_is = placed.shape_is;
@@ -184,19 +159,19 @@ module _ (shape : Shape) (d : ValuesState) (p : Blocks) (b : ℕ) (flash : Flash
     few = let most = placed.few in let less = used_given p.states b for_values held in omega (arith, most, less);
     places = placed.places;
     apart = placed.apart;
-    owned = λ k is. keeps (k / shape.block_pages) (λ e. placed.outputs_are.unread k is (inl e)) (placed.owned k is);
+    owned = λ k is. freed_keeps p b (k / shape.block_pages) (λ e. placed.outputs_are.unread k is (inl e)) (placed.owned k is);
     written = placed.written;
     block_pages_is = placed.block_pages_is;
     heads_are = placed.heads_are;
     closed_size = placed.closed_size;
-    closed_owned = λ c is. let old = placed.closed_owned c is in (keeps c (λ e. old.2 (inl e)) old.0, old.1, λ none. none);
-    owned_closed = λ c is not_open no_output. let old = was_held c is in placed.owned_closed c old.1 not_open (λ output. elim output [ inl e ↦ old.0 e | inr none ↦ none ]);
-    behind_roots = λ c is. placed.behind_roots c (was_held c is).1;
-    open_is = open_stays d.open_block (placed.outputs_are.not_open b (inl refl)) placed.open_is;
+    closed_owned = λ c is. let old = placed.closed_owned c is in (freed_keeps p b c (λ e. old.2 (inl e)) old.0, old.1, λ none. none);
+    owned_closed = λ c is not_open no_output. let old = held_before p b c is in placed.owned_closed c old.1 not_open (λ output. elim output [ inl e ↦ old.0 e | inr none ↦ none ]);
+    behind_roots = λ c is. placed.behind_roots c (held_before p b c is).1;
+    open_is = open_stays p b shape flash d.open_block (placed.outputs_are.not_open b (inl refl)) placed.open_is;
     outputs_are = record { different = refl; owned = λ c is. absurd is; not_open = λ c is. absurd is; unread = λ k is none. none };
   }
 
-  pub one_less : used_by for_values without_it.states + 1 ≡ used_by for_values p.states
+  pub one_less : used_by for_values (freed p b).states + 1 ≡ used_by for_values p.states
   one_less = used_given p.states b for_values held
 
 -- ---- the steps

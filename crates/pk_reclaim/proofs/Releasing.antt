@@ -14,22 +14,37 @@ use Rattle.pk_values.{specs.State.ValuesState, specs.Placed.ValuesOnFlash, specs
 abbrev with_closed : ValuesState → List Bool → ValuesState
 with_closed d closed = record d { live = record d.live { closed = closed } }
 
+-- the pool if a block is freed
+module _ (p : Blocks) (b : ℕ) where
+  abbrev pub freed : Blocks
+  freed = with_state p b Free
+
+  pub freed_keeps : (c : ℕ) → c ≢ b → HoldsValues p c → HoldsValues freed c
+  freed_keeps c ne is = get-set_other p.states b c Free ne ∙ is
+
+  pub held_before : (c : ℕ) → HoldsValues freed c → (c ≢ b) × HoldsValues p c
+  held_before c is =
+      let other : c ≢ b = λ e.
+      let same : Owned for_values ≡ Free = get-set_same p.states b Free (Owned for_values) (subst (λ k. HoldsValues freed k) e is) in cc in
+      (other, sym (get-set_other p.states b c Free other) ∙ is)
+
+  pub open_stays : (shape : Shape) (flash : Flash) (open_block : Option OpenBlock) → IsNotOpen open_block b → MatchOption open_block (Unit {0}) (λ o. IsOpenIn shape p flash o)
+      → MatchOption open_block (Unit {0}) (λ o. IsOpenIn shape freed flash o)
+  open_stays shape flash None other open_is = tt
+  open_stays shape flash (Some o) other open_is = record {
+    owned = freed_keeps o.block (λ e. other (sym e)) open_is.owned;
+    behind_roots = open_is.behind_roots;
+    exists = open_is.exists;
+    within = open_is.within;
+    even = open_is.even;
+    written = open_is.written;
+    unwritten = open_is.unwritten;
+  }
+
 module _ (shape : Shape) (d : ValuesState) (p : Blocks) (outputs : List ℕ) (flash : Flash) (es : List (Key × Place))
     (b : ℕ) (placed : ValuesOnFlash shape d p outputs flash es) (closed : IsClosed d.live b) where
-  abbrev then_pool : Blocks
-  then_pool = with_state p b Free
-
   pub held : HoldsValues p b
   held = (placed.closed_owned b closed).0
-
-  kept : (c : ℕ) → c ≢ b → HoldsValues p c → HoldsValues then_pool c
-  kept c ne is = get-set_other p.states b c Free ne ∙ is
-
-  was : (c : ℕ) → HoldsValues then_pool c → (c ≢ b) × HoldsValues p c
-  was c is =
-      let other : c ≢ b = λ e.
-      let same : Owned for_values ≡ Free = get-set_same p.states b Free (Owned for_values) (subst (λ k. HoldsValues then_pool k) e is) in cc in
-      (other, sym (get-set_other p.states b c Free other) ∙ is)
 
   -- no page of a value is in the block
   empty_has_none : count_of d.live b ≡ 0 → (k : ℕ) → IsValuePage shape es k → k / shape.block_pages ≢ b
@@ -42,20 +57,7 @@ module _ (shape : Shape) (d : ValuesState) (p : Blocks) (outputs : List ℕ) (fl
       let clash : true ≡ false = unused ∙ ap not used in
       cc
 
-  open_stays : (open_block : Option OpenBlock) → IsNotOpen open_block b → MatchOption open_block (Unit {0}) (λ o. IsOpenIn shape p flash o)
-      → MatchOption open_block (Unit {0}) (λ o. IsOpenIn shape then_pool flash o)
-  open_stays None other open_is = tt
-  open_stays (Some o) other open_is = record {
-    owned = kept o.block (λ e. other (sym e)) open_is.owned;
-    behind_roots = open_is.behind_roots;
-    exists = open_is.exists;
-    within = open_is.within;
-    even = open_is.even;
-    written = open_is.written;
-    unwritten = open_is.unwritten;
-  }
-
-  pub ValuesOnFlash-released : count_of d.live b ≡ 0 → ValuesOnFlash shape (with_closed d (set d.live.closed b false)) then_pool outputs flash es
+  pub ValuesOnFlash-released : count_of d.live b ≡ 0 → ValuesOnFlash shape (with_closed d (set d.live.closed b false)) (freed p b) outputs flash es
   ValuesOnFlash-released empty = record {
     is_shape = placed.is_shape;
     shape_is = placed.shape_is;
@@ -64,7 +66,7 @@ module _ (shape : Shape) (d : ValuesState) (p : Blocks) (outputs : List ℕ) (fl
     few = let most = placed.few in let less = used_given p.states b for_values held in omega (arith, most, less);
     places = placed.places;
     apart = placed.apart;
-    owned = λ k is. kept (k / shape.block_pages) (empty_has_none empty k is) (placed.owned k is);
+    owned = λ k is. freed_keeps p b (k / shape.block_pages) (empty_has_none empty k is) (placed.owned k is);
     written = placed.written;
     block_pages_is = placed.block_pages_is;
     heads_are = placed.heads_are;
@@ -72,13 +74,13 @@ module _ (shape : Shape) (d : ValuesState) (p : Blocks) (outputs : List ℕ) (fl
     closed_owned = λ c is.
         let other : c ≢ b = λ e. let clash : true ≡ false = get-set_same d.live.closed b false true (subst (λ k. slice_get (set d.live.closed b false) k ≡ Some true) e is) in cc in
         let old = placed.closed_owned c (sym (get-set_other d.live.closed b c false other) ∙ is) in
-        (kept c other old.0, old.1, old.2);
-    owned_closed = λ c is not_open no_output. let old = was c is in get-set_other d.live.closed b c false old.0 ∙ placed.owned_closed c old.1 not_open no_output;
-    behind_roots = λ c is. placed.behind_roots c (was c is).1;
-    open_is = open_stays d.open_block (placed.closed_owned b closed).1 placed.open_is;
+        (freed_keeps p b c other old.0, old.1, old.2);
+    owned_closed = λ c is not_open no_output. let old = held_before p b c is in get-set_other d.live.closed b c false old.0 ∙ placed.owned_closed c old.1 not_open no_output;
+    behind_roots = λ c is. placed.behind_roots c (held_before p b c is).1;
+    open_is = open_stays p b shape flash d.open_block (placed.closed_owned b closed).1 placed.open_is;
     outputs_are = record {
       different = placed.outputs_are.different;
-      owned = λ c is. kept c (λ e. (placed.closed_owned b closed).2 (subst (λ k. IsOutput outputs k) e is)) (placed.outputs_are.owned c is);
+      owned = λ c is. freed_keeps p b c (λ e. (placed.closed_owned b closed).2 (subst (λ k. IsOutput outputs k) e is)) (placed.outputs_are.owned c is);
       not_open = placed.outputs_are.not_open;
       unread = placed.outputs_are.unread;
     };

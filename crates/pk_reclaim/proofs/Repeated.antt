@@ -1,5 +1,5 @@
 -- The second program of the commit of a reclaim's moves was made, or it failed.
-use Rattle.std.proofs.Common.{◌≡◌, ℕ, ◌+◌, ◌-◌, ◌*◌, ◌/◌, ◌<◌, ◌≤◌, refl, sym, ap, subst, ◌∙◌, arith, false, List, [], ◌∷◌, append-nil, Some, Result, Ok, Err}
+use Rattle.std.proofs.Common.{◌≡◌, ℕ, ◌+◌, ◌-◌, ◌*◌, ◌/◌, ◌<◌, ◌≤◌, refl, sym, ap, subst, ◌∙◌, arith, false, List, [], ◌∷◌, Some, Result, Ok, Err}
 use Rattle.std.specs.Prelude.{slice_get, slice_set, IfOk, IfErr}
 use Rattle.pk_base.{specs.Shape.Shape, specs.Shape.epoch_commits, specs.Page.Flash, specs.Page.page_at, specs.Page.commit_page, specs.Page.whole as whole_page, specs.Entry.Entry, specs.Map.Map}
 use Rattle.pk_plan.specs.declared.owner.Owner.TheVariants.{Journal, Meta, Values as for_values}
@@ -18,7 +18,7 @@ use Rattle.pk_values.{specs.State.ValuesState, specs.Placed.ValuesOnFlash, specs
 use Rattle.pk_log.{specs.State.LogState, specs.Logs.LogOnFlash}
 use Rattle.pk_reclaim.{specs.Hands.hands_of, specs.Space.ReclaimParts, specs.Space.SpaceOnFlash, specs.Space.HalfMoves, specs.Space.HasRoom, specs.Space.reclaim_parts, proofs.Holding.programmed_pool}
 use Rattle.pk_reclaim.{specs.Steps.SpaceMoves, specs.Steps.MakesWhole, specs.Steps.RepeatsIn, proofs.Owners.owners_same, proofs.Owners.others_kept, proofs.Given.SameParts, proofs.Given.same_parts}
-use Rattle.pk_reclaim.{proofs.Places.high, proofs.Places.in_newest, proofs.Places.for_journal, proofs.Ready.job_in, proofs.Ready.space_in}
+use Rattle.pk_reclaim.{proofs.Places.high, proofs.Places.in_newest, proofs.Places.for_journal, proofs.Ready.job_in, proofs.Ready.space_in, proofs.Still.none_moved}
 
 module _ (log : LogState) (values : ValuesState) (pool : Blocks) (victim : ℕ) (moves : List Move) (entries : List Entry) (page : List ℕ) (old : BoardState) (top : ℕ × Root) (found : Found) (m : Map)
     (ready : IsReady old log.shape) (stands : SpaceOnFlash (space_in log values pool moves entries page (Commits victim)) old.pages top found m) where
@@ -148,19 +148,11 @@ module _ (log : LogState) (values : ValuesState) (pool : Blocks) (victim : ℕ) 
     no_meta k same owned = let clash : Some (Owned Meta) ≡ Some (Owned Journal) = sym owned ∙ (ap (λ (x : ℕ). slice_get pool.states (x / shape.block_pages)) same ∙ second_journal) in cc
 
     moves_there : SpaceMoves before old top found m there new
-    moves_there = record {
-      moves = [];
-      newest = found.newest;
-      newest_is = sym (append-nil found.newest);
-      still = refl;
-      then_places = refl;
-      as_many = refl;
-      stands = stands_then;
-      others = others_kept shape top.1 pool old.pages pool new.pages (owners_same pool) low
-          (λ k owned. other_page k (λ same. no_meta k same owned))
-          (λ k owned other. other_page k (λ same. other (subst (λ (x : ℕ). AnyByRecursion (λ b. x / shape.block_pages ≡ b) top.1.newest) (sym same) second_newest)));
-      cuts = made.cuts;
-    }
+    moves_there =
+        none_moved before there old new top found m stands_then
+        (others_kept shape top.1 pool old.pages pool new.pages (owners_same pool) low
+        (λ k owned. other_page k (λ same. no_meta k same owned))
+        (λ k owned other. other_page k (λ same. other (subst (λ (x : ℕ). AnyByRecursion (λ b. x / shape.block_pages ≡ b) top.1.newest) (sym same) second_newest)))) made.cuts
 
     pub repeat_moves : SpaceMoves before old top found m (reclaim_parts log' values' pool' job') new
     repeat_moves =

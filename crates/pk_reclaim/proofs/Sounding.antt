@@ -123,7 +123,7 @@ module _ (log log' : LogState) (values values' : ValuesState) (pool pool' : Bloc
       stops_program old new (target log.shape c) page copy.failed,
     )
     broken_copy c (inr (inr commit)) = (
-      λ top found m may. commit_breaks log log' values values' pool pool' c moves entries page old new top found m ready ready' may.stands commit.whole commit.dead job' commit.adds,
+      λ top found m may. commit_breaks log values pool c moves entries page old top found m ready may.stands commit.whole commit.dead new commit.adds,
       stops_program old new (next_page log.epoch) (next_bytes log.epoch (entries_left values.live.heads moves)) commit.adds.fails.failed,
     )
 

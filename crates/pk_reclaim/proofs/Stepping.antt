@@ -16,10 +16,10 @@ use Rattle.pk_gc.specs.Stepping.{Hands, CanStep, StepsIn, Tries, ReclaimGoesOn, 
 use Rattle.pk_values.specs.State.{ValuesState}
 use Rattle.pk_reclaim.{specs.Hands.hands_of, specs.Space.ReclaimParts, specs.Space.MayReclaim, specs.Space.Falls, specs.Space.left_before, specs.Space.reclaim_parts, proofs.Room.tight_known}
 use Rattle.pk_reclaim.specs.Steps.{SpaceMoves, Works, Does, LogIn, RoomIn, RoomBehind}
-use Rattle.pk_reclaim.{proofs.Ready.job_in, proofs.Ready.space_in, proofs.Ready.can_step_in, proofs.Begun.starts_moves, proofs.Begun.dead_moves, proofs.Begun.dead_given, proofs.Begun.dead_room}
-use Rattle.pk_reclaim.{proofs.Copies.read_moves, proofs.Copies.begin_moves, proofs.Copies.begin_phase, proofs.Copies.program_moves, proofs.Committed.committed_moves, proofs.Committed.committed_room}
 use Rattle.pk_reclaim.proofs.Repeated.{repeat_moves, repeat_room, repeat_whole}
 use Rattle.pk_reclaim.proofs.Given.{same_parts, end_moves, end_given, end_room, given_moves, given_one, given_values}
+use Rattle.pk_reclaim.{proofs.Ready.job_in, proofs.Ready.space_in, proofs.Ready.can_step_in, proofs.Begun.starts_moves, proofs.Begun.dead_moves, proofs.Begun.dead_given, proofs.Begun.dead_room}
+use Rattle.pk_reclaim.{proofs.Copies.read_moves, proofs.Copies.begin_moves, proofs.Copies.begin_phase, proofs.Copies.program_moves, proofs.Committed.commit_moves, proofs.Committed.commit_room}
 use Rattle.pk_log.specs.State.{LogState}
 
 -- a space that may reclaim, for some root and map
@@ -138,12 +138,12 @@ module _ (log log' : LogState) (values values' : ValuesState) (pool pool' : Bloc
     ends_does Worked t =
         let phase = ap (λ (j : JobState). j.phase) t.finishes.job_is in
         record {
-          moves = λ top found m may. committed_moves log log' values values' pool pool' c moves entries page old new top found m ready ready' may.stands t.whole t.dead job' log_is t.finishes;
+          moves = λ top found m may. commit_moves log values pool c moves entries page old top found m ready may.stands t.whole t.dead log' values' pool' job' new ready' log_is t.finishes;
           falls = falls (Copies c) Worked s (inr t) worked_needs;
           runs = ap runs_in phase;
           log = subst (λ (p : Phase). LogIn p (before (Copies c)) after) (sym phase) tt;
           room = subst (λ (p : Phase). RoomIn p after) (sym phase)
-              (committed_room log log' values values' pool pool' c moves entries page old new s.top s.found s.m ready ready' s.may.stands t.whole t.dead job' log_is t.finishes);
+              (commit_room log values pool c moves entries page old s.top s.found s.m ready s.may.stands t.whole t.dead log' values' pool' job' new ready' log_is t.finishes);
           pair = tt;
         }
     ends_does NeedsFreeze t =
