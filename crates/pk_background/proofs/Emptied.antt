@@ -132,32 +132,27 @@ module _ (a : Parts) (s0 : BoardState) (b : Parts) (s : BoardState) (ready : IsR
 
   pub emptying_failed : (c : Parts) (s1 : BoardState) (e : Fault) → MergesWhole b c s s1 (Err e) → KeepsOrReads {T = Unit {0}} a c (merges_left a + 1) s0 s1 (Err e)
   emptying_failed c s1 e once =
-      let left = on.left in
-      reads_later (Err e) a b c on.made 1 (merges_left a + 1) s0 s s1 ready on.leaves.same_shape (omega (arith, left)) on.step.came.0 passes (reads_failed e b c 1 1 s s1 (omega arith) once.step)
+      reads_later (Err e) a b c on.made 1 (merges_left a + 1) s0 s s1 ready on.leaves.same_shape (omega (arith, on.left)) on.step.came.0 passes (reads_failed e b c 1 1 s s1 (omega arith) once.step)
 
   -- four merges install four roots
   emptying_roots : (s1 : BoardState) → roots s1 ≤ roots s + merges_due b → roots s1 ≤ roots s0 + 4
   emptying_roots s1 few =
-      let due = on.due in
       let most = due_most a.log.shape (backlog_of (index_of a)) in
-      omega (arith, few, due, most)
+      omega (arith, few, on.due, most)
 
   pub idle_spends : (c : Parts) (s1 : BoardState) (x : Stepped) → x ≡ Idle → MergesWhole b c s s1 (Ok x) → Spends (merges_left a) 4 s0 s1
   idle_spends c s1 x is once =
       let idle = once.idle (ap (λ y. Ok y) is) in
-      let left = on.left in
       record {
-        calls = subst (λ (t : BoardState). FewCalls (merges_left a) s0 t) (sym idle.2) (few_within on.made (merges_left a) s0 s (omega (arith, left)) on.calls);
+        calls = subst (λ (t : BoardState). FewCalls (merges_left a) s0 t) (sym idle.2) (few_within on.made (merges_left a) s0 s (omega (arith, on.left)) on.calls);
         installs = emptying_roots s1 once.installs;
       }
 
   -- the call that failed was one of a merge
   pub failed_spends : (c : Parts) (s1 : BoardState) (e : Fault) → MergesWhole b c s s1 (Err e) → Spends (merges_left a) 4 s0 s1
   failed_spends c s1 e once =
-      let left = on.left in
-      let within = once.within in
       record {
-        calls = few_within (on.made + once.made) (merges_left a) s0 s1 (omega (arith, left, within)) (few_then on.made once.made s0 s s1 on.calls once.calls);
+        calls = few_within (on.made + once.made) (merges_left a) s0 s1 (omega (arith, on.left, once.within)) (few_then on.made once.made s0 s s1 on.calls once.calls);
         installs = emptying_roots s1 once.installs;
       }
 
@@ -222,9 +217,8 @@ module _ (a : Parts) (s0 : BoardState) (b : Parts) (s : BoardState) (ready : IsR
     none_pending = on.none_pending;
     number = (
         let most = RootsUpTo-le on.made s0 s on.step.roots_few in
-        let left = on.left in
         let least = freeze_few a in
-        omega (arith, few, most, left, least));
+        omega (arith, few, most, on.left, least));
   }
 
   -- one more, and the second program of its root
@@ -254,10 +248,9 @@ module _ (a : Parts) (s0 : BoardState) (b : Parts) (s : BoardState) (ready : IsR
   pub ongoing_spends : (c : Parts) (s1 : BoardState) (r : Result Bool Fault) → FreezesWhole b c s s1 r → Spends whole_freeze 1 s0 s1
   ongoing_spends c s1 r once =
       let one : roots s1 ≤ roots s + 1 = once.step.roots_few in
-      let none = on.no_root in
       record {
         calls = few_within (on.made + once.made) whole_freeze s0 s1 (room_left once.made once.within) (few_then on.made once.made s0 s s1 on.calls once.calls);
-        installs = omega (arith, one, none);
+        installs = omega (arith, one, on.no_root);
       }
 
   pub ongoing_end : (c : Parts) (s1 : BoardState) (x : Bool) → FreezesWhole b c s s1 (Ok x) → StepKeeps {T = Unit {0}} a c whole_freeze s0 s1 (Ok tt)
@@ -320,8 +313,7 @@ module _ (a b : Parts) (s0 s1 : BoardState) (may : MayStep a s0) where
       → (step : KeepsOrReads {T = Unit {0}} a b (merges_left a + 1) s0 s1 (Ok tt)) → roots s1 + whole_freeze < 18446744073709551615
   freeze_lasts number step =
       let left = left_most a s0 may in
-      let most = step.roots_few in
-      omega (arith, number, left, most)
+      omega (arith, number, left, step.roots_few)
 
   pub room_made : (r : Result Unit Fault) (c : Parts) (s2 : BoardState) → b.log.shape ≡ a.log.shape
       → KeepsOrReads {T = Unit {0}} a b (merges_left a + 1) s0 s1 (Ok tt) → StepKeeps b c whole_freeze s1 s2 r

@@ -50,9 +50,8 @@ module _ (d : Parts) (old : BoardState) (may : MayEmpty d old) where
 
   pub may_work : (m : Map) (there : Here m) → MayWork (index_of d) (frames_of d) old.pages there.top there.found m
   may_work m there = may_work_with d old.pages there.top there.found there.without m there.with may.none_pending there.whole.settles (
-      let few = may.number in
       let of_log : roots old ≡ d.log.root.number = number_is (index_of d) (frames_of d) old there.top there.found may.may.ready there.with.index in
-      omega (arith, few, of_log))
+      omega (arith, may.number, of_log))
 
   -- for some map
   pub some_work : (frames : ℕ) × (top : ℕ × Root) × (found : Found) × (m : Map) × MayWork (index_of d) frames old.pages top found m
@@ -362,9 +361,8 @@ module _ (d : Parts) (old : BoardState) (may : MayEmpty d old) (x : Index) (new 
   merge_installs (Ok Idle) step = let few = idle_due step in omega (arith, few)
   merge_installs (Ok Worked) step = let few = worked_due step in omega (arith, few)
   merge_installs (Err e) step =
-      let one = step.installs in
       let due : 1 ≤ merges_due d = some_due (index_of d) (frames_of d) old.pages some.1.top some.1.found some.1.with.index step.running in
-      omega (arith, one, due)
+      omega (arith, step.installs, due)
 
   pub merges_once : (r : Result Stepped Fault) → MergeStep (index_of d) old x new r → old.read_faults ≤ last_count → old.reads ≤ last_count → MergesOnce d its old new r
   merges_once r step few few_reads = record {

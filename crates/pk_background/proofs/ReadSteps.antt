@@ -112,9 +112,8 @@ reading_then r E E' K K' B B' shape n k most a b c few first f g h second = reco
   reads = (
       let up = first.reads.up in
       let up' = second.reads.up in
-      let read = first.reads.few in
       let read' = second.reads.few in
-      record { up = omega (arith, up, up'); few = omega (arith, few, read, read') });
+      record { up = omega (arith, up, up'); few = omega (arith, few, first.reads.few, read') });
   roots_few = (let one = first.roots_few in let two = second.roots_few in omega (arith, few, one, two));
   ready = second.ready;
 }

@@ -259,9 +259,8 @@ module _ {count : ℕ} {b : Parts} {s0 : BoardState} (may : MaySpace count b s0)
 
     pub space_failed : (e : Fault) → s0.read_faults ≤ last_count → FailsReclaim b c s0 s1 e → SpacesOnce count b c s0 s1 (Err e)
     space_failed Reading few is =
-        let rose = is.read in
         failed Reading
-        (same_unread b c s0 s1 is, record { read = is.read; up = omega (arith, rose, few); flash = is.flash; no_stop = ap (λ (s : BoardState). s.stop_faults) is.only })
+        (same_unread b c s0 s1 is, record { read = is.read; up = omega (arith, is.read, few); flash = is.flash; no_stop = ap (λ (s : BoardState). s.stop_faults) is.only })
         (unread_stays b c s0 s1 is) none
     space_failed Stopped few is = failed Stopped (breaks_failed b s0 s1 is.0, record { flash = is.1.flash; stop = is.1.stop; read = is.1.read }) tt tt
 
@@ -274,8 +273,7 @@ module _ {count : ℕ} {b : Parts} {s0 : BoardState} (may : MaySpace count b s0)
   waits_number c s1 waits =
       let here : space_left count b ≡ left_at (Copies waits.course) count b = ap (λ p. left_at p count b) waits.copies in
       let calls = calls_left waits.course waits.tight in
-      let number = may.number in
-      let few : roots s0 + room_calls b.log.shape < 18446744073709551615 = omega (arith, number, here, calls) in
+      let few : roots s0 + room_calls b.log.shape < 18446744073709551615 = omega (arith, may.number, here, calls) in
       subst (λ (d : Parts). roots s1 + room_calls d.log.shape < 18446744073709551615) (sym waits.same)
       (subst (λ (s : BoardState). roots s + room_calls b.log.shape < 18446744073709551615) (sym waits.board) few)
 
@@ -404,24 +402,20 @@ module _ {count : ℕ} {a : Parts} {s0 : BoardState} {b : Parts} {s : BoardState
   -- the roots of one room at most
   spacing_roots : (s1 : BoardState) → roots s1 ≤ roots s + space_roots count b → roots s1 ≤ roots s0 + room_roots
   spacing_roots s1 few =
-      let left = on.roots_left in
       let most = where_most (has_moves a.reclaim.phase count a && is_tight_for a) room_roots in
-      omega (arith, few, left, most)
+      omega (arith, few, on.roots_left, most)
 
   pub spacing_end : MovesOrReads {T = Unit {0}} a b (space_left count a) s0 s (Ok tt)
   spacing_end = let left = on.left in moves_within a b on.made (space_left count a) s0 s (omega (arith, left)) on.step
 
   pub end_spends : Spends (space_left count a) room_roots s0 s
   end_spends =
-      let left = on.left in
-      record { calls = few_within on.made (space_left count a) s0 s (omega (arith, left)) on.calls; installs = spacing_roots s (omega arith) }
+      record { calls = few_within on.made (space_left count a) s0 s (omega (arith, on.left)) on.calls; installs = spacing_roots s (omega arith) }
 
   pub broken_spends : (e : Fault) (c : Parts) (s1 : BoardState) → SpacesOnce count b c s s1 (Err e) → Spends (space_left count a) room_roots s0 s1
   broken_spends e c s1 once =
-      let left = on.left in
-      let within = once.within in
       record {
-        calls = few_within (on.made + once.made) (space_left count a) s0 s1 (omega (arith, left, within)) (few_then on.made once.made s0 s s1 on.calls once.spends.calls);
+        calls = few_within (on.made + once.made) (space_left count a) s0 s1 (omega (arith, on.left, once.within)) (few_then on.made once.made s0 s s1 on.calls once.spends.calls);
         installs = spacing_roots s1 once.spends.installs;
       }
 

@@ -125,7 +125,6 @@ module _ (a b : Parts) (s0 s1 : BoardState) (may : MayEmpty a s0) where
         subst (λ (s : Shape). c.log.root.number + due_level s (backlog_of (index_of c)) ≡ b.log.root.number + merges_due b) (sym shape_c) fin.less.roots in
         let same = f.same_roots in
         let due = once.due in
-        let few = once.step.roots_few in
         record {
           made = 2;
           some = omega arith;
@@ -133,7 +132,7 @@ module _ (a b : Parts) (s0 s1 : BoardState) (may : MayEmpty a s0) where
             came = (KeepsAll-finished a b c s0 s1 s2 may.may.ready once.none_pending once.step.came.0 f, none_then s0 s1 s2 once.step.came.1 f.works.no_fault);
             rest = only_then s0 s1 s2 once.step.rest f.works.rest;
             reads = reads_same 1 s0 s1 s2 once.step.reads f.works.reads;
-            roots_few = omega (arith, same, few);
+            roots_few = omega (arith, same, once.step.roots_few);
             ready = subst (λ (s : Shape). IsReady s2 s) shape_b f.ready;
           };
           idle = λ e. absurd (worked_idle e);
@@ -165,7 +164,6 @@ module _ (a b : Parts) (s0 s1 : BoardState) (may : MayEmpty a s0) where
         let one : repeating b.log.shape (backlog_of (index_of b)) ≡ 1 = ap (λ (x : Bool). if x then 1 else 0) repeats in
         let fewer = fails.no_root in
         let due = once.due in
-        let few = once.step.roots_few in
         record {
           made = 2;
           some = omega arith;
@@ -173,7 +171,7 @@ module _ (a b : Parts) (s0 s1 : BoardState) (may : MayEmpty a s0) where
             came = (BreaksAll-finished a b s0 s1 s2 may.may.ready once.none_pending once.step.came.0 fails, halts_then s0 s1 s2 once.step.came.1 fails.stops);
             rest = only_then s0 s1 s2 once.step.rest fails.stops.rest;
             reads = reads_same 1 s0 s1 s2 once.step.reads fails.stops.reads;
-            roots_few = omega (arith, fewer, few);
+            roots_few = omega (arith, fewer, once.step.roots_few);
             ready = subst (λ (s : Shape). IsReady s2 s) shape_b fails.ready;
           };
           idle = λ e. absurd (err_idle Stopped e);
@@ -220,10 +218,7 @@ module _ (a b : Parts) (s0 s1 : BoardState) (may : MayEmpty a s0) where
     frozen_half x is repeats fin =
         let f = fin.finishes in
         let done = frozen_now repeats in
-        let same = f.same_roots in
         let few : roots s1 ≤ roots s0 + 1 = once.step.roots_few in
-        let less = done.lowers.less in
-        let none = done.lowers.none_ready in
         record {
           made = 2;
           step = record {
@@ -232,11 +227,11 @@ module _ (a b : Parts) (s0 s1 : BoardState) (may : MayEmpty a s0) where
             works = works_then s0 s1 s2 once.step.works f.works;
             stops = tt;
             stopped = tt;
-            roots_few = omega (arith, same, few);
+            roots_few = omega (arith, f.same_roots, few);
             ready = subst (λ (s : Shape). IsReady s2 s) once.leaves.same_shape f.ready;
           };
           calls = few_then 1 1 s0 s1 s2 (few_one s0 s1 once.calls) (few_program s1 s2 f.program);
-          within = omega (arith, less, none);
+          within = omega (arith, done.lowers.less, done.lowers.none_ready);
           goes_on = λ e. absurd (true_false_ok x is e);
           begins = λ _. record {
             active = ap (λ (l : LogState). l.active) f.log ∙ done.active;
@@ -282,10 +277,7 @@ module _ (a b : Parts) (s0 s1 : BoardState) (may : MayEmpty a s0) where
     frozen_broken : repeats_next b.log.next ≡ true → c.log.pending ≡ b.log.pending → FailsToFinish b s1 s2 → FreezesWhole a c s0 s2 (Err Stopped)
     frozen_broken repeats same fails =
         let done = frozen_now repeats in
-        let fewer = fails.no_root in
         let few : roots s1 ≤ roots s0 + 1 = once.step.roots_few in
-        let less = done.lowers.less in
-        let none = done.lowers.none_ready in
         record {
           made = 2;
           step = record {
@@ -294,11 +286,11 @@ module _ (a b : Parts) (s0 s1 : BoardState) (may : MayEmpty a s0) where
             works = tt;
             stops = stops_then s0 s1 s2 once.step.works fails.stops;
             stopped = refl;
-            roots_few = omega (arith, fewer, few);
+            roots_few = omega (arith, fails.no_root, few);
             ready = subst (λ (s : Shape). IsReady s2 s) once.leaves.same_shape fails.ready;
           };
           calls = few_then 1 1 s0 s1 s2 (few_one s0 s1 once.calls) (few_program s1 s2 fails.program);
-          within = omega (arith, less, none);
+          within = omega (arith, done.lowers.less, done.lowers.none_ready);
           goes_on = λ e. absurd (err_ok Stopped false e);
           begins = λ e. absurd (err_ok Stopped true e);
           no_root = λ e. absurd (err_ok Stopped false e);

@@ -5,7 +5,7 @@ use Rattle.pk_plan.specs.declared.owner.Owner.TheVariants.{Journal}
 use Rattle.pk_nand.{specs.declared.types.Fault.Fault, specs.declared.types.Fault.TheVariants.Stopped, specs.BoardState.BoardState, specs.Calls.IsReady, specs.Operations.IsErasedBlock}
 use Rattle.pk_nand.proofs.Effects.{stops_erase}
 use Rattle.pk_rootfmt.{specs.Root.Root, specs.Held.Held}
-use Rattle.pk_model.{specs.Found.Found, specs.Growth.Goes, specs.Crashes.CrashFinds, specs.Crashes.background, specs.Steps.Step, proofs.Steps.RootsUpTo-same}
+use Rattle.pk_model.{specs.Found.Found, specs.Growth.Goes, specs.Crashes.CrashFinds, specs.Crashes.background, specs.Steps.Step, proofs.Steps.RootsUpTo-same, proofs.Steps.Step-broken}
 use Rattle.pk_pool.{specs.declared.state.BlockState.TheVariants.Owned, specs.Taking.FailsToErase}
 use Rattle.pk_pool.specs.Blocks.{Blocks, IsShared, IsSpare, PoolOnFlash, used_by, with_state}
 use Rattle.pk_root.{specs.declared.next.Next.Next, specs.Installing.erases_next}
@@ -17,10 +17,6 @@ use Rattle.pk_compact.specs.FreezeSteps.{IsFreezing, FreezeGoesOn, FreezeInstall
 use Rattle.pk_compact.proofs.TakingOne.{take_goes_on, take_goes, took_number, take_failed_number}
 use Rattle.pk_compact.proofs.FreezeRoot.{can_prepare, erase_goes_on, held_can, froze, epoch_few, two_newest}
 
--- the maps for which a freeze is so far
-abbrev pub Maps : Blocks → Held → Next → FreezeJob → BoardState → Bool → Type 0
-Maps pool root next job old has_entries = (top : ℕ × Root) × (found : Found) × (m : Map) × IsFreezing pool root next job old.pages has_entries top found m
-
 -- what the pool says of a block that was taken
 abbrev pub Took : Blocks → BoardState → ℕ → Blocks → BoardState → Type 0
 Took pool old b pool' new = (pool' ≡ with_state pool b (Owned Journal)) × AtMostErases b old new
@@ -28,8 +24,8 @@ Took pool old b pool' new = (pool' ≡ with_state pool b (Owned Journal)) × AtM
 abbrev pub WasSpare : Blocks → ℕ → BoardState → Type 0
 WasSpare pool b new = IsSpare pool b × (2 ≤ b) × (b < pool.shape.blocks) × IsErasedBlock pool.shape new.pages b
 
-module _ (pool : Blocks) (root : Held) (next : Next) (job : FreezeJob) (has_entries : Bool) (old : BoardState)
-    (shared : IsShared pool.shape pool.states) (ready : IsReady old root.shape) (may : Maps pool root next job old has_entries) where
+module _ {pool : Blocks} {root : Held} {next : Next} {job : FreezeJob} {has_entries : Bool} {old : BoardState} (shared : IsShared pool.shape pool.states) (ready : IsReady old root.shape)
+    (may : (top : ℕ × Root) × (found : Found) × (m : Map) × IsFreezing pool root next job old.pages has_entries top found m) where
   -- the shape is the root's
   ready_by_root : (new : BoardState) → IsReady new pool.shape → IsReady new root.shape
   ready_by_root new is = let P : Shape → Type 0 = λ s. IsReady new s in subst P may.3.pool_shape is
@@ -140,15 +136,8 @@ module _ (pool : Blocks) (root : Held) (next : Next) (job : FreezeJob) (has_entr
           → Step (λ done. FreezeSteps pool root next job old has_entries done pool' root' next' job' new) (FreezeStepBreaks pool root next job has_entries old new) root.shape 1 old new (Err fault)
       erase_broken pool' root' next' job' new fault step =
           let by_root : Prepare root.shape next' new (Err fault) = let P : Shape → Type 0 = λ t. Prepare t next' new (Err fault) in subst P told step in
-          record {
-            ended = tt;
-            broken = λ top found m is. by_root.broken top found m (can_prepare pool root next first second has_entries old shared ready top found m (at_two top found m is));
-            works = tt;
-            stops = by_root.stops;
-            stopped = by_root.stopped;
-            roots_few = RootsUpTo-same 1 old new by_root.roots_few;
-            ready = by_root.ready;
-          }
+          Step-broken fault _ _ _ _ root.shape 0 1 old new (omega arith)
+          (λ broken top found m is. broken top found m (can_prepare pool root next first second has_entries old shared ready top found m (at_two top found m is))) by_root
 
     -- its program
     module _ (held : Held) (followed : held ≡ record root { root = next_root root.root (first ∷ second ∷ []) has_entries }) where

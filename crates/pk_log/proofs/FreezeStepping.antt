@@ -2,7 +2,7 @@
 use Rattle.std.proofs.Common.{◌≡◌, ℕ, ◌-◌, ◌+◌, ◌*◌, ◌/◌, ◌<◌, ◌≤◌, refl, sym, ap, subst, ◌∙◌, arith, Bool, true, false, not, ◌==◌, List, [], ◌∷◌, ◌++◌, length, reverse, nat_lt, slice_index}
 use Rattle.std.proofs.Common.{if◌then◌else◌, append-nil, mul-le-mul_right}
 use Rattle.std.{specs.List.concat, proofs.lemmas.Nat.div-mul-add}
-use Rattle.pk_base.{specs.Shape.Shape, specs.Shape.IsShape, specs.Page.Flash, specs.Page.page_at, specs.Entry.Entry, specs.Firsts.firsts, specs.Map.Map}
+use Rattle.pk_base.{specs.Page.Flash, specs.Page.page_at, specs.Entry.Entry, specs.Firsts.firsts, specs.Map.Map}
 use Rattle.pk_law_work.specs.Rest.{Lowers}
 use Rattle.pk_plan.specs.declared.owner.Owner.TheVariants.{Journal}
 use Rattle.pk_nand.specs.BoardState.{BoardState}
@@ -10,7 +10,7 @@ use Rattle.pk_space.specs.Entries.{in_spaces}
 use Rattle.pk_rootfmt.{specs.Root.Root, specs.Root.named, specs.Held.Held, specs.Held.two_of}
 use Rattle.pk_root.specs.declared.next.Next.{Next}
 use Rattle.pk_buf.specs.Table.{Table}
-use Rattle.pk_jrn.{specs.Epochs.started, specs.Epochs.AreErased, specs.Epochs.EpochOnFlash, specs.Laws.SameBlocks, specs.Replays.buffer_of, proofs.Places.EpochOnFlash-same, proofs.Puts.firsts-reverse}
+use Rattle.pk_jrn.{specs.Epochs.started, specs.Epochs.AreErased, specs.Epochs.EpochOnFlash, specs.Replays.buffer_of, proofs.Puts.firsts-reverse}
 use Rattle.pk_model.{specs.Found.Found, specs.RootLimits.root_spaces, proofs.Commits.blocks_of_root, proofs.Commits.member, proofs.SamePages.any_front}
 use Rattle.pk_pool.{specs.declared.state.BlockState.TheVariants.Leaving, specs.Blocks.Blocks, specs.Blocks.PoolOnFlash, specs.Blocks.with_state, specs.Blocks.given_back, specs.Blocks.left_by}
 use Rattle.pk_pool.{specs.Unready.unready, proofs.Leaving.left_unready, proofs.States.get-set_other}
@@ -18,7 +18,7 @@ use Rattle.pk_law_steps.{specs.Roots.frozen, specs.Roots.frozen_root, proofs.New
 use Rattle.pk_compact.{specs.Freezing.IsApart, specs.declared.freezing.FreezeJob.FreezeJob, proofs.TakingOne.all_in, proofs.Pairs.two_are, proofs.Pairs.two_same}
 use Rattle.pk_compact.specs.FreezeSteps.{IsFreezing, IsTaken, AreOwned, FreezeGoesOn, FreezeInstalled, FreezeSteps, taken_by, freeze_left}
 use Rattle.pk_log.{specs.State.LogState, specs.Logs.LogOnFlash, specs.FreezeSteps.freeze_begun, specs.FreezeSteps.CanStep, specs.FreezeSteps.LogGoesOn, specs.FreezeSteps.LogFrozen}
-use Rattle.pk_log.proofs.Buffers.{none_of_firsts, tells_some, two_erased}
+use Rattle.pk_log.{proofs.Buffers.none_of_firsts, proofs.Buffers.tells_some, proofs.Buffers.two_erased, proofs.Standing.epoch_stays, proofs.Standing.stands_on}
 
 -- what a step did, by its answer
 module _ (pool : Blocks) (held : Held) (next : Next) (job : FreezeJob) (old : BoardState) (has_entries : Bool)
@@ -118,31 +118,9 @@ module _ (log : LogState) (pool : Blocks) (job : FreezeJob) (old : BoardState) (
         on.elsewhere k (omega (arith, twice, low))
         (λ taken. (all_in (IsTaken log.shape pool' new.pages log.root) (taken_by job') b by_held.taken (subst (λ x. In x (taken_by job')) here taken)).unnamed is_named)
 
-    blocks_same : SameBlocks log.epoch.shape log.epoch.blocks old.pages new.pages
-    blocks_same =
-        let P : Shape → List ℕ → Type 0 = λ s bs. SameBlocks s bs old.pages new.pages in
-        let there : P log.shape top.1.newest = λ n small k low high. in_epoch n k small low high in
-        subst (λ s. P s log.epoch.blocks) (sym can.logs.epoch_shape) (subst (λ bs. P log.shape bs) (sym can.logs.epoch_blocks) there)
-
     still_logs : LogOnFlash (record log { next = next' }) new.pages top found
-    still_logs = record {
-      is_shape = can.logs.is_shape;
-      is_top = by_held.under.is_top;
-      root_is = can.logs.root_is;
-      is_found = by_held.under.is_found;
-      installs = by_held.installs;
-      epoch_shape = can.logs.epoch_shape;
-      epoch_number = can.logs.epoch_number;
-      epoch_blocks = can.logs.epoch_blocks;
-      epoch_fits = EpochOnFlash-same log.epoch old.pages new.pages (subst (λ (s : Shape). IsShape s) (sym can.logs.epoch_shape) can.logs.is_shape) blocks_same can.logs.epoch_fits;
-      active_is = can.logs.active_is;
-      frozen_is = can.logs.frozen_is;
-      pending_are = can.logs.pending_are;
-      spaced = can.logs.spaced;
-      pending_few = can.logs.pending_few;
-      pending_room = can.logs.pending_room;
-      pending_whole = can.logs.pending_whole;
-    }
+    still_logs = stands_on log next' old.pages new.pages top found can.logs by_held.under.is_top by_held.under.is_found by_held.installs
+        (epoch_stays log old.pages new.pages top found can.logs (λ n small k low high. in_epoch n k small low high))
 
     goes_on : LogGoesOn log pool job old top found m (record log { next = next' }) pool' job' new
     goes_on = record {

@@ -1,27 +1,24 @@
 -- The install of a merge over a log, and the second program of a root.
 use Rattle.std.proofs.Common.{◌≡◌, ℕ, ◌*◌, ◌≤◌, refl, sym, ap, subst, ◌∙◌, arith, Bool, true, false, List, [], length, slice_index, ◌==◌, if◌then◌else◌, mul-le-mul_right}
-use Rattle.pk_base.{specs.Shape.Shape, specs.Shape.IsShape, specs.Page.Flash, specs.Page.page_at, specs.Page.SameBehind, specs.Entry.Entry, specs.Map.Map}
+use Rattle.pk_base.{specs.Shape.Shape, specs.Page.Flash, specs.Page.page_at, specs.Page.SameBehind, specs.Entry.Entry, specs.Map.Map}
 use Rattle.pk_nand.specs.BoardState.{BoardState}
 use Rattle.pk_space.specs.Entries.{in_spaces}
 use Rattle.pk_rootfmt.specs.Root.{Root}
 use Rattle.pk_root.specs.declared.next.Next.{Next}
 use Rattle.pk_buf.specs.Table.{Table}
-use Rattle.pk_jrn.{specs.Epochs.EpochOnFlash, specs.Laws.SameBlocks, specs.Replays.buffer_of, proofs.Places.EpochOnFlash-same}
+use Rattle.pk_jrn.{specs.Epochs.EpochOnFlash, specs.Replays.buffer_of}
 use Rattle.pk_model.{specs.Found.Found, specs.RootLimits.root_spaces, proofs.RootLimits.limits_alike, proofs.Commits.blocks_of_root}
 use Rattle.pk_law_steps.proofs.NewestBlocks.{valid_root}
 use Rattle.pk_compact.{specs.Installing.CanPrepare, specs.Installing.IsPrepared, specs.Installing.CanRepeat, specs.Installing.IsRepeated, specs.Merging.CanMerge, specs.Merging.HasMerged}
-use Rattle.pk_log.{specs.State.LogState, specs.Logs.LogOnFlash, specs.Finishing.MayFinish, specs.Finishing.LogFinished}
+use Rattle.pk_log.{specs.State.LogState, specs.Logs.LogOnFlash, specs.Finishing.MayFinish, specs.Finishing.LogFinished, proofs.Standing.epoch_stays, proofs.Standing.stands_on}
 use Rattle.pk_log.specs.MergeSteps.{MayPrepare, LogPrepared, MayMerge, LogMerged, frozen_after}
 
 -- the epoch that a log writes is not in the root blocks
 epoch_behind : (log : LogState) (old new : Flash) (top : ℕ × Root) (found : Found) → LogOnFlash log old top found → SameBehind log.shape old new → EpochOnFlash log.epoch new
 epoch_behind log old new top found logs behind =
     let blocks = blocks_of_root log.shape top.1 (valid_root log.shape (page_at old) top logs.is_top) in
-    let P : Shape → List ℕ → Type 0 = λ s bs. SameBlocks s bs old new in
-    let there : P log.shape top.1.newest = λ n small k low high. behind k
-    (let twice : 2 * log.shape.block_pages ≤ slice_index top.1.newest n * log.shape.block_pages = mul-le-mul_right log.shape.block_pages (blocks.beyond n small) in omega (arith, twice, low)) in
-    EpochOnFlash-same log.epoch old new (subst (λ (s : Shape). IsShape s) (sym logs.epoch_shape) logs.is_shape)
-    (subst (λ s. P s log.epoch.blocks) (sym logs.epoch_shape) (subst (λ bs. P log.shape bs) (sym logs.epoch_blocks) there)) logs.epoch_fits
+    epoch_stays log old new top found logs (λ n small k low high. behind k
+    (let twice : 2 * log.shape.block_pages ≤ slice_index top.1.newest n * log.shape.block_pages = mul-le-mul_right log.shape.block_pages (blocks.beyond n small) in omega (arith, twice, low)))
 
 -- ---- the erase
 
@@ -36,24 +33,7 @@ log_prepared log old new top found m next' may is =
     record {
       same_log = refl;
       programs = is.programs;
-      logs = record {
-        is_shape = logs.is_shape;
-        is_top = is.under.is_top;
-        root_is = logs.root_is;
-        is_found = is.under.is_found;
-        installs = is.installs;
-        epoch_shape = logs.epoch_shape;
-        epoch_number = logs.epoch_number;
-        epoch_blocks = logs.epoch_blocks;
-        epoch_fits = epoch_behind log old.pages new.pages top found logs is.behind;
-        active_is = logs.active_is;
-        frozen_is = logs.frozen_is;
-        pending_are = logs.pending_are;
-        spaced = logs.spaced;
-        pending_few = logs.pending_few;
-        pending_room = logs.pending_room;
-        pending_whole = logs.pending_whole;
-      };
+      logs = stands_on log next' old.pages new.pages top found logs is.under.is_top is.under.is_found is.installs (epoch_behind log old.pages new.pages top found logs is.behind);
       under = is.under;
       behind = is.behind;
       cuts = is.cuts;
@@ -130,24 +110,7 @@ log_finished log old new top found m next' may is =
     record {
       same_log = refl;
       whole = is.whole;
-      logs = record {
-        is_shape = logs.is_shape;
-        is_top = is.under.is_top;
-        root_is = logs.root_is;
-        is_found = is.under.is_found;
-        installs = is.installs;
-        epoch_shape = logs.epoch_shape;
-        epoch_number = logs.epoch_number;
-        epoch_blocks = logs.epoch_blocks;
-        epoch_fits = epoch_behind log old.pages new.pages top found logs is.behind;
-        active_is = logs.active_is;
-        frozen_is = logs.frozen_is;
-        pending_are = logs.pending_are;
-        spaced = logs.spaced;
-        pending_few = logs.pending_few;
-        pending_room = logs.pending_room;
-        pending_whole = logs.pending_whole;
-      };
+      logs = stands_on log next' old.pages new.pages top found logs is.under.is_top is.under.is_found is.installs (epoch_behind log old.pages new.pages top found logs is.behind);
       under = is.under;
       number = is.number;
       behind = is.behind;

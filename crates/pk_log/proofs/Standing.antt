@@ -1,11 +1,11 @@
 -- A log and the flash that it matches.
-use Rattle.std.proofs.Common.{◌≡◌, inl, inr, ℕ, ◌+◌, ◌-◌, ◌*◌, ◌/◌, ◌<◌, ◌≤◌, refl, sym, ap, subst, ◌∙◌, arith, T, List, ◌++◌, length, slice_index, append-nil}
+use Rattle.std.proofs.Common.{◌≡◌, inl, inr, ℕ, ◌+◌, ◌-◌, ◌*◌, ◌/◌, ◌<◌, ◌≤◌, refl, sym, ap, subst, ◌∙◌, arith, T, List, ◌++◌, length, slice_index, append-nil, Some, Ok}
 use Rattle.std.{specs.List.concat, proofs.lemmas.Nat.div-mul-add}
 use Rattle.pk_base.{specs.Shape.Shape, specs.Shape.IsShape, specs.Page.Flash, specs.Page.page_at, specs.Page.page_in, proofs.ShapeLemmas.block_pages_positive}
-use Rattle.pk_rootfmt.{specs.Root.Root, specs.Root.named, specs.Root.is_root, specs.Held.Held}
-use Rattle.pk_root.proofs.Places.{InstallerOnFlash-after, InstallerOnFlash-by_same}
+use Rattle.pk_rootfmt.{specs.Root.Root, specs.Root.named, specs.Root.is_root, specs.Held.Held, specs.Newest.newest_root}
+use Rattle.pk_root.{specs.declared.next.Next.Next, specs.Installing.InstallerOnFlash, proofs.Places.InstallerOnFlash-after, proofs.Places.InstallerOnFlash-by_same}
 use Rattle.pk_buf.specs.Table.{Table}
-use Rattle.pk_jrn.{specs.Epochs.JournalEpoch, specs.Epochs.AreBlocks, specs.Laws.SameBlocks, specs.Replays.buffer_of, proofs.Places.EpochOnFlash-same}
+use Rattle.pk_jrn.{specs.Epochs.JournalEpoch, specs.Epochs.AreBlocks, specs.Epochs.EpochOnFlash, specs.Laws.SameBlocks, specs.Replays.buffer_of, proofs.Places.EpochOnFlash-same}
 use Rattle.pk_model.{specs.Found.Found, specs.Found.found_under, specs.Laws.AnyByRecursion, proofs.Commits.blocks_of_root, proofs.Commits.member}
 use Rattle.pk_model.proofs.SamePages.{newest_root_same, found_same, in_some_block, agree_runs, any_front, any_back, any_in_concat}
 use Rattle.pk_law_steps.proofs.NewestBlocks.{newest_exist, newest_differ, valid_root}
@@ -22,6 +22,38 @@ pub epoch_blocks_are : (log : LogState) (flash : Flash) (top : ℕ × Root) (fou
 epoch_blocks_are log flash top found logs =
     let there : AreBlocks log.shape top.1.newest = blocks_are log.shape top.1 (valid_root log.shape (page_at flash) top logs.is_top) in
     subst (λ (s : Shape). AreBlocks s log.epoch.blocks) (sym logs.epoch_shape) (subst (λ (bs : List ℕ). AreBlocks log.shape bs) (sym logs.epoch_blocks) there)
+
+-- ---- on another flash
+
+-- the epoch that a log writes is there if no page of its blocks differs
+pub epoch_stays : (log : LogState) (old new : Flash) (top : ℕ × Root) (found : Found) → LogOnFlash log old top found → SameBlocks log.shape top.1.newest old new → EpochOnFlash log.epoch new
+epoch_stays log old new top found logs same =
+    EpochOnFlash-same log.epoch old new (subst (λ (s : Shape). IsShape s) (sym logs.epoch_shape) logs.is_shape)
+    (subst (λ (s : Shape). SameBlocks s log.epoch.blocks old new) (sym logs.epoch_shape)
+    (subst (λ (bs : List ℕ). SameBlocks log.shape bs old new) (sym logs.epoch_blocks) same)) logs.epoch_fits
+
+-- and so is all that the log matches, if root and lists are found there; what its installer does next may differ
+pub stands_on : (log : LogState) (next' : Next) (old new : Flash) (top : ℕ × Root) (found : Found) → LogOnFlash log old top found
+    → newest_root log.shape (page_at new) ≡ Some top → found_under log.shape (page_at new) top.1 ≡ Ok found → InstallerOnFlash log.shape next' top new
+    → EpochOnFlash log.epoch new → LogOnFlash (record log { next = next' }) new top found
+stands_on log next' old new top found logs is_top is_found installs epoch_fits = record {
+  is_shape = logs.is_shape;
+  is_top = is_top;
+  root_is = logs.root_is;
+  is_found = is_found;
+  installs = installs;
+  epoch_shape = logs.epoch_shape;
+  epoch_number = logs.epoch_number;
+  epoch_blocks = logs.epoch_blocks;
+  epoch_fits = epoch_fits;
+  active_is = logs.active_is;
+  frozen_is = logs.frozen_is;
+  pending_are = logs.pending_are;
+  spaced = logs.spaced;
+  pending_few = logs.pending_few;
+  pending_room = logs.pending_room;
+  pending_whole = logs.pending_whole;
+}
 
 -- ---- at opening
 
@@ -83,31 +115,11 @@ module _ (log : LogState) (old new : Flash) (top : ℕ × Root) (found : Found) 
       let here : k / shape.block_pages ≡ b = ap (λ x. x / shape.block_pages) (sym all) ∙ div-mul-add b shape.block_pages (k - b * shape.block_pages) rest in
       same k (inr (newest_within (λ x. k / shape.block_pages ≡ x) (subst (λ (y : ℕ). AnyByRecursion (λ x. y ≡ x) root.newest) (sym here) (member root.newest n (omega (arith, small, two))))))
 
-  blocks_same : SameBlocks log.epoch.shape log.epoch.blocks old new
-  blocks_same =
-      let P : Shape → List ℕ → Type 0 = λ s bs. SameBlocks s bs old new in
-      let there : P shape root.newest = λ n small k low high. in_epoch n k small low high in
-      subst (λ s. P s log.epoch.blocks) (sym logs.epoch_shape) (subst (λ bs. P shape bs) (sym logs.epoch_blocks) there)
-
   stays : LogOnFlash log new top found
-  stays = record {
-    is_shape = logs.is_shape;
-    is_top = newest_root_same shape (page_at old) (page_at new) (λ k low. same k (inl low)) ∙ logs.is_top;
-    root_is = logs.root_is;
-    is_found = lists_same ∙ logs.is_found;
-    installs = InstallerOnFlash-by_same shape log.next top old new (λ k low. same k (inl low)) logs.installs;
-    epoch_shape = logs.epoch_shape;
-    epoch_number = logs.epoch_number;
-    epoch_blocks = logs.epoch_blocks;
-    epoch_fits = EpochOnFlash-same log.epoch old new (subst (λ (s : Shape). IsShape s) (sym logs.epoch_shape) logs.is_shape) blocks_same logs.epoch_fits;
-    active_is = logs.active_is;
-    frozen_is = logs.frozen_is;
-    pending_are = logs.pending_are;
-    spaced = logs.spaced;
-    pending_few = logs.pending_few;
-    pending_room = logs.pending_room;
-    pending_whole = logs.pending_whole;
-  }
+  stays = stands_on log log.next old new top found logs
+      (newest_root_same shape (page_at old) (page_at new) (λ k low. same k (inl low)) ∙ logs.is_top) (lists_same ∙ logs.is_found)
+      (InstallerOnFlash-by_same shape log.next top old new (λ k low. same k (inl low)) logs.installs)
+      (epoch_stays log old new top found logs (λ n small k low high. in_epoch n k small low high))
 
 pub logs_elsewhere : LogsElsewhere
 logs_elsewhere log old new top found same logs = stays log old new top found same logs

@@ -1,8 +1,8 @@
 -- What a merge does next, and the entry that it takes.
 use Rattle.std.proofs.Common.{◌≡◌, ◌≢◌, ◌⊎◌, inl, inr, ℕ, zero, suc, ◌+◌, ◌<◌, ◌≤◌, refl, sym, ap, subst, ◌∙◌, arith, Bool, true, false, not, ◌&&◌, ◌||◌, ◌==◌, T, List, [], ◌∷◌, ◌++◌, length, drop}
 use Rattle.std.proofs.Common.{slice_get, Some, append_assoc, length-append, le_refl}
-use Rattle.std.{specs.Prelude.nat_lt, specs.Prelude.IsTrue, proofs.lemmas.Bool.Decides.nat_tests, specs.FinMap.Entries.is_sorted}
 use Rattle.std.specs.declared.cmp.Ordering.TheVariants.{Less, Equal, Greater}
+use Rattle.std.{specs.Prelude.nat_lt, specs.Prelude.IsTrue, proofs.lemmas.Bool.Decides.nat_tests, specs.FinMap.Entries.is_sorted}
 use Rattle.pk_base.{specs.Key.key_cmp, specs.Shape.IsShape, specs.Shape.page_entries, specs.Entry.Entry, specs.Entry.key_of, specs.Page.Flash}
 use Rattle.pk_meta.specs.Over.{over, kept_at}
 use Rattle.pk_pin.specs.Frames.{Frames}
@@ -10,7 +10,7 @@ use Rattle.pk_run.{specs.Kept.Kept, specs.Kept.RunOnFlash, proofs.Orders.drop_is
 use Rattle.pk_merge.{specs.declared.source.Source.Source, specs.declared.source.Source.TheVariants.Frozen, specs.declared.source.Source.TheVariants.Run, proofs.Following.Follows-passed}
 use Rattle.pk_merge.specs.Cursors.{Cursor, Follows, passed, wants_page}
 use Rattle.pk_merge.specs.Sources.{count_of, Has, FollowsIn, wants_page_in}
-use Rattle.pk_merge.specs.Merging.{Merger, left_of, can_gather, is_left_of_source, is_left_of_target, takes_source, takes_target, takes_both, taken, StandsIn, GoesOn, IsAtEnd}
+use Rattle.pk_merge.specs.Merging.{Merger, left, left_of, can_gather, is_left_of_source, is_left_of_target, takes_source, takes_target, takes_both, taken, StandsIn, GoesOn, IsAtEnd}
 use Rattle.pk_merge.proofs.Overs.{over_less, over_equal, over_greater, over_source, over_target, kept_front}
 
 -- ---- whether an entry can be taken
@@ -163,45 +163,49 @@ module _ {X : Type 0} (source : Source X) (target : Kept) (level : ℕ) (m : Mer
   abbrev TargetHead : Entry → Type 0
   TargetHead = Head m.target (RunOnFlash target) (λ flash. Follows flash target m.target)
 
-  pub goes_source : (e : Entry) → SourceHead e → m.source.place < count_of source → target.count ≤ m.target.place → GoesOn source target level m (takes_source level e m)
-  goes_source e head inside past = record {
+  -- with the entries that were taken the same remains
+  abbrev Same : Merger → Type 0
+  Same m' = (flash : Flash) (arena : Frames) (es fs : List Entry) → StandsIn source target flash arena es fs m → m.gathered ++ left level es fs m ≡ m'.gathered ++ left level es fs m'
+
+  passes_on : (flash : Flash) → m.target.place < target.count → Follows flash target m.target → Follows flash target (passed m.target)
+  passes_on flash within f = Follows-passed flash target m.target (subst IsShape f.same_shape js) f within
+
+  goes_by_source : (e : Entry) → m.source.place < count_of source → Same (takes_source level e m) → GoesOn source target level m (takes_source level e m)
+  goes_by_source e inside same = record {
     stands = λ flash arena es fs s. record { has = s.has; stands = s.stands; rising = s.rising; source_at = passes_in source flash m.source is s.source_at inside; target_at = s.target_at };
-    same = λ flash arena es fs s. left_source level es fs m.source.place m.target.place m.gathered s.rising s.stands.rising e
-        (head flash arena es s.has s.source_at) (let many = s.stands.many in omega (arith, past, many));
+    same = same;
     shape = refl;
     source_pages = refl;
     target_pages = refl;
     no_fewer = longer m.gathered (kept_at level (e ∷ []));
   }
 
-  pub goes_target : (f : Entry) → TargetHead f → m.target.place < target.count → count_of source ≤ m.source.place → GoesOn source target level m (takes_target level f m)
-  goes_target f head inside past = record {
-    stands = λ flash arena es fs s. record { has = s.has; stands = s.stands; rising = s.rising; source_at = s.source_at; target_at = passes_on flash s.target_at };
-    same = λ flash arena es fs s. left_target level es fs m.source.place m.target.place m.gathered s.rising s.stands.rising f
-        (head flash arena fs s.stands s.target_at) (let many = many_in source flash arena es s.has in omega (arith, past, many));
+  goes_by_target : (f : Entry) → m.target.place < target.count → Same (takes_target level f m) → GoesOn source target level m (takes_target level f m)
+  goes_by_target f within same = record {
+    stands = λ flash arena es fs s. record { has = s.has; stands = s.stands; rising = s.rising; source_at = s.source_at; target_at = passes_on flash within s.target_at };
+    same = same;
     shape = refl;
     source_pages = refl;
     target_pages = refl;
     no_fewer = longer m.gathered (kept_at level (f ∷ []));
   }
-    where
-      passes_on : (flash : Flash) → Follows flash target m.target → Follows flash target (passed m.target)
-      passes_on flash f = Follows-passed flash target m.target (subst IsShape f.same_shape js) f inside
+
+  pub goes_source : (e : Entry) → SourceHead e → m.source.place < count_of source → target.count ≤ m.target.place → GoesOn source target level m (takes_source level e m)
+  goes_source e head inside past = goes_by_source e inside (λ flash arena es fs s. left_source level es fs m.source.place m.target.place m.gathered s.rising s.stands.rising e
+      (head flash arena es s.has s.source_at) (let many = s.stands.many in omega (arith, past, many)))
+
+  pub goes_target : (f : Entry) → TargetHead f → m.target.place < target.count → count_of source ≤ m.source.place → GoesOn source target level m (takes_target level f m)
+  goes_target f head within past = goes_by_target f within (λ flash arena es fs s. left_target level es fs m.source.place m.target.place m.gathered s.rising s.stands.rising f
+      (head flash arena fs s.stands s.target_at) (let many = many_in source flash arena es s.has in omega (arith, past, many)))
 
   module _ (e f : Entry) (head : SourceHead e) (tail : TargetHead f) (inside : m.source.place < count_of source) (within : m.target.place < target.count) where
-    passes_here : (flash : Flash) → Follows flash target m.target → Follows flash target (passed m.target)
-    passes_here flash f = Follows-passed flash target m.target (subst IsShape f.same_shape js) f within
-
     pub goes_less : key_cmp (key_of e) (key_of f) ≡ Less → GoesOn source target level m (takes_source level e m)
-    goes_less low = record {
-      stands = λ flash arena es fs s. record { has = s.has; stands = s.stands; rising = s.rising; source_at = passes_in source flash m.source is s.source_at inside; target_at = s.target_at };
-      same = λ flash arena es fs s. left_less level es fs m.source.place m.target.place m.gathered s.rising s.stands.rising e f
-          (head flash arena es s.has s.source_at) (tail flash arena fs s.stands s.target_at) low;
-      shape = refl;
-      source_pages = refl;
-      target_pages = refl;
-      no_fewer = longer m.gathered (kept_at level (e ∷ []));
-    }
+    goes_less low = goes_by_source e inside (λ flash arena es fs s. left_less level es fs m.source.place m.target.place m.gathered s.rising s.stands.rising e f
+        (head flash arena es s.has s.source_at) (tail flash arena fs s.stands s.target_at) low)
+
+    pub goes_greater : key_cmp (key_of e) (key_of f) ≡ Greater → GoesOn source target level m (takes_target level f m)
+    goes_greater above = goes_by_target f within (λ flash arena es fs s. left_greater level es fs m.source.place m.target.place m.gathered s.rising s.stands.rising e f
+        (head flash arena es s.has s.source_at) (tail flash arena fs s.stands s.target_at) above)
 
     pub goes_equal : key_cmp (key_of e) (key_of f) ≡ Equal → GoesOn source target level m (takes_both level e m)
     goes_equal same = record {
@@ -210,7 +214,7 @@ module _ {X : Type 0} (source : Source X) (target : Kept) (level : ℕ) (m : Mer
         stands = s.stands;
         rising = s.rising;
         source_at = passes_in source flash m.source is s.source_at inside;
-        target_at = passes_here flash s.target_at;
+        target_at = passes_on flash within s.target_at;
       };
       same = λ flash arena es fs s. left_equal level es fs m.source.place m.target.place m.gathered s.rising s.stands.rising e f
           (head flash arena es s.has s.source_at) (tail flash arena fs s.stands s.target_at) same;
@@ -218,17 +222,6 @@ module _ {X : Type 0} (source : Source X) (target : Kept) (level : ℕ) (m : Mer
       source_pages = refl;
       target_pages = refl;
       no_fewer = longer m.gathered (kept_at level (e ∷ []));
-    }
-
-    pub goes_greater : key_cmp (key_of e) (key_of f) ≡ Greater → GoesOn source target level m (takes_target level f m)
-    goes_greater above = record {
-      stands = λ flash arena es fs s. record { has = s.has; stands = s.stands; rising = s.rising; source_at = s.source_at; target_at = passes_here flash s.target_at };
-      same = λ flash arena es fs s. left_greater level es fs m.source.place m.target.place m.gathered s.rising s.stands.rising e f
-          (head flash arena es s.has s.source_at) (tail flash arena fs s.stands s.target_at) above;
-      shape = refl;
-      source_pages = refl;
-      target_pages = refl;
-      no_fewer = longer m.gathered (kept_at level (f ∷ []));
     }
 
 module _ {X : Type 0} (source : Source X) (target : Kept) (level : ℕ) where

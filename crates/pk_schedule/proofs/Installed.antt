@@ -14,7 +14,7 @@ use Rattle.pk_log.specs.MergeSteps.{MayPrepare, LogPrepared, LogPrepares, LogPre
 use Rattle.pk_schedule.{specs.declared.phase.Phase.Phase, specs.declared.phase.Phase.TheVariants.Idle, specs.declared.phase.Phase.TheVariants.Ready}
 use Rattle.pk_schedule.{specs.Exchanges.CanEndFirst, specs.Exchanges.EndsFirst, specs.Exchanges.CanEndDeep, specs.Exchanges.EndsDeep, proofs.Preparing.prepared_moves, proofs.Preparing.prepared_less}
 use Rattle.pk_schedule.{specs.Index.Index, specs.Index.Schedule, specs.Index.merging, specs.Index.output, proofs.Replaced.replaced_one, proofs.Replaced.replaced_deep}
-use Rattle.pk_schedule.specs.Steps.{MayWork, IndexMoves, LessIsLeft, StepsOn, Breaks}
+use Rattle.pk_schedule.{specs.Steps.MayWork, specs.Steps.IndexMoves, specs.Steps.LessIsLeft, specs.Steps.StepsOn, specs.Steps.Breaks, proofs.Calling.steps_on}
 use Rattle.pk_schedule.proofs.Installing.{Replaced, installed_moves, installed_less, leases_are, released, released_arena}
 use Rattle.pk_schedule.proofs.Waiting as wait
 
@@ -86,12 +86,6 @@ module _ {x : Index} {level : ℕ} (k : IsComplete x level) (old : BoardState) w
   abbrev Made : Index → BoardState → Type 0
   Made x' new = (frames : ℕ) (top : ℕ × Root) (found : Found) (m : Map) → MayWork x frames old.pages top found m → IndexMoves x frames old found m x' new × LessIsLeft x x'
 
-  steps_on : (x' : Index) (new : BoardState) → Made x' new → StepsOn x old x' new
-  steps_on x' new made = record {
-    moves = λ frames top found m may. (made frames top found m may).0;
-    less = λ frames top found m may. (made frames top found m may).1;
-  }
-
   module _ (new : BoardState) (log' : LogState) where
     one_root : RootsUpTo 0 old new → RootsUpTo 1 old new
     one_root same = omega (arith, same)
@@ -111,7 +105,7 @@ module _ {x : Index} {level : ℕ} (k : IsComplete x level) (old : BoardState) w
         → Step (λ u. LogPrepares x.log old log' new) (LogPrepareBreaks x.log old new) x.log.shape 0 old new r
         → Step (λ u. StepsOn x old (record x { log = log' }) new) (Breaks x old new) x.log.shape 1 old new r
     made_prepared erases (Ok u) step = record {
-      ended = steps_on (record x { log = log' }) new (prepared erases step.ended);
+      ended = steps_on x old (record x { log = log' }) new (prepared erases step.ended);
       broken = tt;
       works = step.works;
       stops = tt;
@@ -167,7 +161,7 @@ module _ {x : Index} {level : ℕ} (k : IsComplete x level) (old : BoardState) w
         ended_schedule = record x.schedule { job = schedule'.job; phase = Idle }
 
         pub made_release : Replaces → used_by Values pool'.states ≡ used_by Values x.pool.states → StepsOn x old (then_index log' schedule') new
-        made_release replaces counted = steps_on (then_index log' schedule') new (λ frames top found m may.
+        made_release replaces counted = steps_on x old (then_index log' schedule') new (λ frames top found m may.
             let f = merges top found m (wait.may_merge x frames old top found m may level k.is k.shared k.known) in
             let was = replaces frames top found m may in
             let r = released x frames old top found m may level k.is k.shared k.known new levels' arena' (freed pool') schedule'.job was levels_last arena_last e in

@@ -2,7 +2,7 @@
 use Rattle.std.proofs.Common.{◌≡◌, inl, inr, ℕ, ◌+◌, ◌≤◌, Bool, true, false, List, length, map, Option, Some, Result, Err, refl, sym, ap, subst, ◌∙◌, arith}
 use Rattle.std.specs.Prelude.{unwrap_or, IsTrue, ◌↔◌}
 use Rattle.pk_base.{specs.Shape.Shape, specs.Shape.cap, specs.Entry.Entry, specs.Map.Map, specs.Merge.next_merge, specs.Page.Flash, proofs.Logic.not_both}
-use Rattle.pk_nand.{specs.BoardState.BoardState, specs.Calls.IsReady, specs.Effects.OnlyReading, specs.declared.types.Fault.TheVariants.Reading, specs.declared.types.Fault.TheVariants.Stopped}
+use Rattle.pk_nand.{specs.BoardState.BoardState, specs.Calls.IsReady, specs.Effects.AtMostOneCall, specs.Effects.OnlyFlash, specs.Effects.OnlyReading, specs.declared.types.Fault.TheVariants.Reading, specs.declared.types.Fault.TheVariants.Stopped}
 use Rattle.pk_nand.specs.declared.types.Fault.{Fault}
 use Rattle.pk_pin.specs.Frames.{Frames}
 use Rattle.pk_rootfmt.specs.Root.{Root}
@@ -19,7 +19,7 @@ use Rattle.pk_merge.{specs.Remaining.steps_left, specs.Remaining.LowersTo, specs
 use Rattle.pk_compact.{specs.Laws.CallLeaves, proofs.NextRoot.roots_same, proofs.Numbering.same_front, specs.FreezeSteps.install_steps}
 use Rattle.pk_schedule.{specs.declared.phase.Phase.Phase, specs.declared.phase.Phase.TheVariants.Running, specs.declared.phase.Phase.TheVariants.Ready, specs.Sources.ShowsSame}
 use Rattle.pk_schedule.specs.Index.{Index, IndexOnFlash, MergesInto, MergeRuns, MergeStands, output, source_at, entries_at}
-use Rattle.pk_schedule.specs.Steps.{MayWork, IndexMoves, LessIsLeft, Unmoved, merge_left, backlog_of}
+use Rattle.pk_schedule.specs.Steps.{MayWork, IndexMoves, LessIsLeft, CallsOnce, Unmoved, merge_left, backlog_of}
 use Rattle.pk_schedule.proofs.Carried.{Shown, shown, same_shown, job_carried, left_same, done_same}
 use Rattle.pk_schedule.proofs.Grown.{Grew, SameEnd, acts_grow, acts_frames, reached_end, went_end}
 use Rattle.pk_schedule.proofs.Entries.{output_same, frozen_many, counts_same}
@@ -85,7 +85,7 @@ module _ (x : Index) (frames : ℕ) (old : BoardState) (top : ℕ × Root) (foun
   ]
 
   -- no root is installed
-  pub few_roots : (new : BoardState) → IsReady new x.log.shape → SameEnd x.pool out old.pages new.pages → roots new ≤ roots old + 1
+  few_roots : (new : BoardState) → IsReady new x.log.shape → SameEnd x.pool out old.pages new.pages → roots new ≤ roots old + 1
   few_roots new after end =
       let same = roots_same x.log.shape old new ready after (same_front x.log.shape old.pages new.pages (front_same x frames old top found m may shared ready level into new.pages end)) in
       omega (arith, same)
@@ -297,26 +297,27 @@ module _ (x : Index) (frames : ℕ) (old : BoardState) (top : ℕ × Root) (foun
           → Steps source k (pins x.schedule.job) out x.schedule.job.merger x.pool old x.arena (output_of job) job.merger pool new arena
           → IsJob → LeavesRuns x.pool out old.pages x.arena new.pages arena → LeavesLeases out x.arena (output_of job) arena → StepReaches x.pool out old new → Then
 
-      pub goes_by : OfStep t ((done : Bool) → (IsTrue done ↔ IsDone source t job.merger) → done ≡ false → IndexMoves x frames old found m (at x.schedule.phase) new)
-      goes_by = subst (λ (k : Kept). OfStep k ((done : Bool) → (IsTrue done ↔ IsDone source k job.merger) → done ≡ false → IndexMoves x frames old found m (at x.schedule.phase) new)) (sym is_target)
-          (λ running steps is_job others leases cuts done is e. goes_on_at source shows new job pool arena running steps is_job others leases cuts (λ d. not_both done (is.1 d) e))
+      abbrev Lowers_in : Kept → Type 0
+      Lowers_in k = LowersTo source k out x.schedule.job.merger x.pool (output_of job) job.merger pool (most_pages out) (most_blocks out)
 
-      pub completes_by : OfStep t ((done : Bool) → done ≡ true
-          → Completes source t x.schedule.job x.pool old.pages x.arena job new.pages arena done → IndexMoves x frames old found m (at (Ready level)) new)
+      abbrev Leaves : Phase → Type 0
+      Leaves p = IndexMoves x frames old found m (at p) new × LessIsLeft x (at p)
+
+      pub goes_by : OfStep t ((done : Bool) → (IsTrue done ↔ IsDone source t job.merger) → done ≡ false → Lowers_in t → Leaves x.schedule.phase)
+      goes_by = subst (λ (k : Kept). OfStep k ((done : Bool) → (IsTrue done ↔ IsDone source k job.merger) → done ≡ false → Lowers_in k → Leaves x.schedule.phase)) (sym is_target)
+          (λ running steps is_job others leases cuts done is e lowers. (
+            goes_on_at source shows new job pool arena running steps is_job others leases cuts (λ d. not_both done (is.1 d) e),
+            less_at source shows new job pool arena running steps is_job others leases cuts lowers,
+          ))
+
+      pub completes_by : OfStep t ((done : Bool) → done ≡ true → Completes source t x.schedule.job x.pool old.pages x.arena job new.pages arena done → Lowers_in t → Leaves (Ready level))
       completes_by = subst (λ (k : Kept). OfStep k
-          ((done : Bool) → done ≡ true → Completes source k x.schedule.job x.pool old.pages x.arena job new.pages arena done → IndexMoves x frames old found m (at (Ready level)) new)) (sym is_target)
-          (λ running steps is_job others leases cuts done e whole. completes source shows new job pool arena running steps is_job others leases cuts
-          (subst (λ (b : Bool). Completes source target x.schedule.job x.pool old.pages x.arena job new.pages arena b) e whole))
-
-      pub less_goes_by : OfStep t (LowersTo source t out x.schedule.job.merger x.pool (output_of job) job.merger pool (most_pages out) (most_blocks out) → LessIsLeft x (at x.schedule.phase))
-      less_goes_by = subst (λ (k : Kept). OfStep k
-          (LowersTo source k out x.schedule.job.merger x.pool (output_of job) job.merger pool (most_pages out) (most_blocks out) → LessIsLeft x (at x.schedule.phase))) (sym is_target)
-          (λ running steps is_job others leases cuts lowers. less_at source shows new job pool arena running steps is_job others leases cuts lowers)
-
-      pub less_ends_by : OfStep t (LowersTo source t out x.schedule.job.merger x.pool (output_of job) job.merger pool (most_pages out) (most_blocks out) → LessIsLeft x (at (Ready level)))
-      less_ends_by = subst (λ (k : Kept). OfStep k
-          (LowersTo source k out x.schedule.job.merger x.pool (output_of job) job.merger pool (most_pages out) (most_blocks out) → LessIsLeft x (at (Ready level)))) (sym is_target)
-          (λ running steps is_job others leases cuts lowers. less_ready source shows new job pool arena running steps is_job others leases cuts lowers)
+          ((done : Bool) → done ≡ true → Completes source k x.schedule.job x.pool old.pages x.arena job new.pages arena done → Lowers_in k → Leaves (Ready level))) (sym is_target)
+          (λ running steps is_job others leases cuts done e whole lowers. (
+            completes source shows new job pool arena running steps is_job others leases cuts
+                (subst (λ (b : Bool). Completes source target x.schedule.job x.pool old.pages x.arena job new.pages arena b) e whole),
+            less_ready source shows new job pool arena running steps is_job others leases cuts lowers,
+          ))
 
       -- a call that failed
       abbrev OfRead : Kept → Type 0 → Type 0
@@ -341,20 +342,23 @@ module _ (x : Index) (frames : ℕ) (old : BoardState) (top : ℕ × Root) (foun
 
   -- ---- what the flash is after it
 
-  pub ok_end : (new : BoardState) → StepReaches x.pool out old new → SameEnd x.pool out old.pages new.pages
-  ok_end new cuts = reached_end x.pool out old new cuts
-
-  pub stopped_end : (new : BoardState) → StepWent x.pool out old new → SameEnd x.pool out old.pages new.pages
-  stopped_end new went = went_end x.pool out old new went
-
-  pub read_end : (new : BoardState) → OnlyReading old new → SameEnd x.pool out old.pages new.pages
-  read_end new only = inl (ap (λ (b : BoardState). b.pages) only)
-
-  pub ready_by : (new : BoardState) → IsReady new x.schedule.job.merger.shape → IsReady new x.log.shape
+  ready_by : (new : BoardState) → IsReady new x.schedule.job.merger.shape → IsReady new x.log.shape
   ready_by new after = subst (λ (s : Shape). IsReady new s) into.merger_shape after
 
+  -- and it was one call
+  calls_by : (new : BoardState) → SameEnd x.pool out old.pages new.pages → IsReady new x.schedule.job.merger.shape → AtMostOneCall old new → OnlyFlash old new → CallsOnce x.log.shape old new
+  calls_by new end after calls rest = record { calls = calls; rest = rest; installs = few_roots new (ready_by new after) end; ready = ready_by new after }
+
+  pub ok_calls : (new : BoardState) → StepReaches x.pool out old new → IsReady new x.schedule.job.merger.shape → AtMostOneCall old new → OnlyFlash old new → CallsOnce x.log.shape old new
+  ok_calls new cuts = calls_by new (reached_end x.pool out old new cuts)
+
   -- whichever call failed
-  pub failed_end : {Y : Type 0} (new : BoardState) (fault : Fault) → (◌≡◌ {A = Result Y Fault} (Err fault) (Err Reading) → OnlyReading old new)
+  failed_end : {Y : Type 0} (new : BoardState) (fault : Fault) → (◌≡◌ {A = Result Y Fault} (Err fault) (Err Reading) → OnlyReading old new)
       → (◌≡◌ {A = Result Y Fault} (Err fault) (Err Stopped) → StepWent x.pool out old new) → SameEnd x.pool out old.pages new.pages
-  failed_end new Reading read went = read_end new (read refl)
-  failed_end new Stopped read went = stopped_end new (went refl)
+  failed_end new Reading read went = inl (ap (λ (b : BoardState). b.pages) (read refl))
+  failed_end new Stopped read went = went_end x.pool out old new (went refl)
+
+  pub failed_calls : {Y : Type 0} (new : BoardState) (fault : Fault) → (◌≡◌ {A = Result Y Fault} (Err fault) (Err Reading) → OnlyReading old new)
+      → (◌≡◌ {A = Result Y Fault} (Err fault) (Err Stopped) → StepWent x.pool out old new)
+      → IsReady new x.schedule.job.merger.shape → AtMostOneCall old new → OnlyFlash old new → CallsOnce x.log.shape old new
+  failed_calls new fault read went = calls_by new (failed_end new fault read went)

@@ -8,23 +8,19 @@ use Rattle.pk_compact.proofs.freezing.freeze_step.Goals as goal
 
 pub follow-requires-clause-epoch : goal.follow-requires-clause-epoch
 follow-requires-clause-epoch g c =
-    epoch_least c.args.pool.now c.args.root.now c.args.installer.now c.args.job.now c.args.has_entries
-    (g.B.Nand.state c.args.board.now) c.known.ensures c.requires.ready c.requires.may c.in-HasTwo.first c.in-HasTwo.second c.in-HasTwo.is
+    epoch_least c.known.ensures c.requires.ready c.requires.may c.in-HasTwo.first c.in-HasTwo.second c.in-HasTwo.is
 
 pub follow-requires-clause-newest : goal.follow-requires-clause-newest
 follow-requires-clause-newest g c =
-    newest_two c.args.pool.now c.args.root.now c.args.installer.now c.args.job.now c.args.has_entries
-    (g.B.Nand.state c.args.board.now) c.known.ensures c.requires.ready c.requires.may c.in-HasTwo.first c.in-HasTwo.second c.in-HasTwo.is
+    newest_two c.known.ensures c.requires.ready c.requires.may c.in-HasTwo.first c.in-HasTwo.second c.in-HasTwo.is
 
 pub prepare_root-requires-clause-can : goal.prepare_root-requires-clause-can
 prepare_root-requires-clause-can g c =
-    can_prepare_at c.args.pool.now c.args.root.now c.args.installer.now c.args.job.now c.args.has_entries
-    (g.B.Nand.state c.args.board.now) c.known.ensures c.requires.ready c.requires.may c.in-HasTwo.first c.in-HasTwo.second c.in-HasTwo.is c.shape.result.now c.shape.ensures
+    can_prepare_at c.known.ensures c.requires.ready c.requires.may c.in-HasTwo.first c.in-HasTwo.second c.in-HasTwo.is c.shape.result.now c.shape.ensures
 
 pub install_root-requires-clause-can : goal.install_root-requires-clause-can
 install_root-requires-clause-can g c =
-    can_install c.args.pool.now c.args.root.now c.args.installer.now c.args.job.now c.args.has_entries
-    (g.B.Nand.state c.args.board.now) c.known.ensures c.requires.ready c.requires.may c.in-HasTwo.first c.in-HasTwo.second c.in-HasTwo.is c.follow.new.root c.follow.ensures
+    can_install c.known.ensures c.requires.ready c.requires.may c.in-HasTwo.first c.in-HasTwo.second c.in-HasTwo.is c.follow.new.root c.follow.ensures
 
 pub install_root-requires-clause-programs : goal.install_root-requires-clause-programs
 install_root-requires-clause-programs g c = programs_then c.args.installer.now c.requires.may.3.whole (sym c.erases.ensures ∙ c.if-erases.false)
@@ -36,8 +32,7 @@ returns-in-Ok-clause-step g c =
     let new = g.B.Nand.state c.take_block.new.board in
     let right = is_shape c.args.pool.now c.args.root.now c.args.installer.now c.args.job.now c.args.has_entries old c.known.ensures c.requires.ready may.0 may.1 may.2 may.3 in
     record {
-      step = first_step c.args.pool.now c.args.root.now c.args.installer.now c.args.job.now c.args.has_entries
-          (g.B.Nand.state c.args.board.now) c.known.ensures c.requires.ready c.requires.may c.in-Idle.is c.in-Ok.first c.take_block.new.pool (g.B.Nand.state c.take_block.new.board)
+      step = first_step c.known.ensures c.requires.ready c.requires.may c.in-Idle.is c.in-Ok.first c.take_block.new.pool (g.B.Nand.state c.take_block.new.board)
           c.in-Ok.ensures.taken c.in-Ok.ensures.spare c.in-Ok.ensures.counted c.take_block.ensures.fits c.take_block.ensures.ready;
       calls = took_calls c.in-Ok.first old new c.in-Ok.ensures.taken.1;
       grows = took_grows c.args.root.now.shape right c.in-Ok.first old new c.in-Ok.ensures.taken.1 c.requires.ready c.in-Ok.ensures.spare.1;
@@ -48,8 +43,7 @@ returns-in-Err-clause-step g c =
     let old = g.B.Nand.state c.args.board.now in
     let new = g.B.Nand.state c.take_block.new.board in
     record {
-      step = take_broken c.args.pool.now c.args.root.now c.args.installer.now c.args.job.now c.args.has_entries
-          (g.B.Nand.state c.args.board.now) c.known.ensures c.requires.ready c.requires.may c.take_block.new.pool c.args.root.now c.args.installer.now c.args.job.now
+      step = take_broken c.known.ensures c.requires.ready c.requires.may c.take_block.new.pool c.args.root.now c.args.installer.now c.args.job.now
           (g.B.Nand.state c.take_block.new.board) c.in-Err.fault c.in-Err.ensures.stopped c.in-Err.ensures.failed c.take_block.ensures.ready;
       calls = erase_failed_calls old new c.in-Err.ensures.failed.block c.in-Err.ensures.failed.failed;
       grows = tt;
@@ -62,8 +56,7 @@ returns-in-Ok-take_block-clause-step g c =
     let new = g.B.Nand.state c.take_block-in-HasOne.new.board in
     let right = is_shape c.args.pool.now c.args.root.now c.args.installer.now c.args.job.now c.args.has_entries old c.known.ensures c.requires.ready may.0 may.1 may.2 may.3 in
     record {
-      step = second_step c.args.pool.now c.args.root.now c.args.installer.now c.args.job.now c.args.has_entries
-          (g.B.Nand.state c.args.board.now) c.known.ensures c.requires.ready c.requires.may c.in-HasOne.first c.in-HasOne.is c.in-Ok-take_block.second c.take_block-in-HasOne.new.pool
+      step = second_step c.known.ensures c.requires.ready c.requires.may c.in-HasOne.first c.in-HasOne.is c.in-Ok-take_block.second c.take_block-in-HasOne.new.pool
           (g.B.Nand.state c.take_block-in-HasOne.new.board)
           c.in-Ok-take_block.ensures.taken c.in-Ok-take_block.ensures.spare c.in-Ok-take_block.ensures.counted c.take_block-in-HasOne.ensures.fits c.take_block-in-HasOne.ensures.ready;
       calls = took_calls c.in-Ok-take_block.second old new c.in-Ok-take_block.ensures.taken.1;
@@ -75,8 +68,7 @@ returns-in-Err-take_block-clause-step g c =
     let old = g.B.Nand.state c.args.board.now in
     let new = g.B.Nand.state c.take_block-in-HasOne.new.board in
     record {
-      step = take_broken c.args.pool.now c.args.root.now c.args.installer.now c.args.job.now c.args.has_entries
-          (g.B.Nand.state c.args.board.now) c.known.ensures c.requires.ready c.requires.may c.take_block-in-HasOne.new.pool c.args.root.now c.args.installer.now c.args.job.now
+      step = take_broken c.known.ensures c.requires.ready c.requires.may c.take_block-in-HasOne.new.pool c.args.root.now c.args.installer.now c.args.job.now
           (g.B.Nand.state c.take_block-in-HasOne.new.board) c.in-Err-take_block.fault c.in-Err-take_block.ensures.stopped c.in-Err-take_block.ensures.failed c.take_block-in-HasOne.ensures.ready;
       calls = erase_failed_calls old new c.in-Err-take_block.ensures.failed.block c.in-Err-take_block.ensures.failed.failed;
       grows = tt;
@@ -87,8 +79,7 @@ returns-in-Ok-prepare_root-clause-step g c =
     let old = g.B.Nand.state c.args.board.now in
     let new = g.B.Nand.state c.prepare_root.new.board in
     record {
-      step = erase_step c.args.pool.now c.args.root.now c.args.installer.now c.args.job.now c.args.has_entries
-          (g.B.Nand.state c.args.board.now) c.known.ensures c.requires.ready c.requires.may c.in-HasTwo.first c.in-HasTwo.second c.in-HasTwo.is c.shape.result.now
+      step = erase_step c.known.ensures c.requires.ready c.requires.may c.in-HasTwo.first c.in-HasTwo.second c.in-HasTwo.is c.shape.result.now
           c.shape.ensures c.prepare_root.new.installer (g.B.Nand.state c.prepare_root.new.board) (sym c.erases.ensures ∙ c.if-erases.true) c.in-Ok-prepare_root.ensures.step.step;
       calls = c.in-Ok-prepare_root.ensures.step.calls;
       grows = subst (λ (s : Shape). Grows s old.pages new.pages) c.shape.ensures c.in-Ok-prepare_root.ensures.step.grows;
@@ -99,8 +90,7 @@ returns-in-Err-prepare_root-clause-step g c =
     let old = g.B.Nand.state c.args.board.now in
     let new = g.B.Nand.state c.prepare_root.new.board in
     record {
-      step = erase_broken c.args.pool.now c.args.root.now c.args.installer.now c.args.job.now c.args.has_entries
-          (g.B.Nand.state c.args.board.now) c.known.ensures c.requires.ready c.requires.may c.in-HasTwo.first c.in-HasTwo.second c.in-HasTwo.is c.shape.result.now
+      step = erase_broken c.known.ensures c.requires.ready c.requires.may c.in-HasTwo.first c.in-HasTwo.second c.in-HasTwo.is c.shape.result.now
           c.shape.ensures c.args.pool.now c.args.root.now c.prepare_root.new.installer c.args.job.now
           (g.B.Nand.state c.prepare_root.new.board) c.in-Err-prepare_root.fault c.in-Err-prepare_root.ensures.step.step;
       calls = c.in-Err-prepare_root.ensures.step.calls;
@@ -112,8 +102,7 @@ returns-in-Ok-install_root-clause-step g c =
     let old = g.B.Nand.state c.args.board.now in
     let new = g.B.Nand.state c.install_root.new.board in
     record {
-      step = root_step c.args.pool.now c.args.root.now c.args.installer.now c.args.job.now c.args.has_entries
-          (g.B.Nand.state c.args.board.now) c.known.ensures c.requires.ready c.requires.may c.in-HasTwo.first c.in-HasTwo.second c.in-HasTwo.is
+      step = root_step c.known.ensures c.requires.ready c.requires.may c.in-HasTwo.first c.in-HasTwo.second c.in-HasTwo.is
           c.follow.new.root c.follow.ensures c.install_root.new.installer (g.B.Nand.state c.install_root.new.board) c.in-Ok-install_root.ensures.step.step;
       calls = c.in-Ok-install_root.ensures.step.calls;
       grows = subst (λ (s : Shape). Grows s old.pages new.pages) (ap (λ (h : Held). h.shape) c.follow.ensures) c.in-Ok-install_root.ensures.step.grows;
@@ -124,8 +113,7 @@ returns-in-Err-install_root-clause-step g c =
     let old = g.B.Nand.state c.args.board.now in
     let new = g.B.Nand.state c.install_root.new.board in
     record {
-      step = root_broken c.args.pool.now c.args.root.now c.args.installer.now c.args.job.now c.args.has_entries
-          (g.B.Nand.state c.args.board.now) c.known.ensures c.requires.ready c.requires.may c.in-HasTwo.first c.in-HasTwo.second c.in-HasTwo.is c.follow.new.root c.follow.ensures
+      step = root_broken c.known.ensures c.requires.ready c.requires.may c.in-HasTwo.first c.in-HasTwo.second c.in-HasTwo.is c.follow.new.root c.follow.ensures
           c.args.pool.now c.follow.new.root c.install_root.new.installer c.args.job.now (g.B.Nand.state c.install_root.new.board) c.in-Err-install_root.fault c.in-Err-install_root.ensures.step.step;
       calls = c.in-Err-install_root.ensures.step.calls;
       grows = tt;
