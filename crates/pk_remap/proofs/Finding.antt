@@ -33,7 +33,7 @@ module _ (shape : Shape) (spares : ℕ) (at : ℕ → Page) where
   Found from count (Some top) = Best from count top.0 top.1
 
   -- a page has one table
-  own_number : (k : ℕ) (table : SpareTable) → table_in shape spares (at k) ≡ Some table → (j : ℕ) (other : SpareTable) → j ≡ k
+  pub own_number : (k : ℕ) (table : SpareTable) → table_in shape spares (at k) ≡ Some table → (j : ℕ) (other : SpareTable) → j ≡ k
       → table_in shape spares (at j) ≡ Some other → other.number ≡ table.number
   own_number k table e j other same is =
       ap (λ (x : SpareTable). x.number) (same_Some other table (sym is ∙ ap (λ (x : ℕ). table_in shape spares (at x)) same ∙ e))

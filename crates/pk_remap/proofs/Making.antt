@@ -1,6 +1,6 @@
 -- The first table of a flash that was just made.
 use Rattle.std.proofs.Common.{◌≡◌, ◌≢◌, inr, ℕ, zero, suc, ◌+◌, ◌*◌, ◌%◌, ◌<◌, ◌≤◌, Bool, true, false, List, [], length, replicate, refl, sym, ap, subst, ◌∙◌, arith, Option, Some}
-use Rattle.std.specs.Prelude.{nat_le, nat_lt, nat_eq, slice_set, unwrap_or, Vec, Result, Ok, Err}
+use Rattle.std.specs.Prelude.{nat_le, nat_lt, slice_set, unwrap_or, Vec, Result, Ok, Err}
 use Rattle.std.proofs.lemmas.Option.{same_Some}
 use Rattle.std.{specs.declared.alloc.Global.Global, proofs.lemmas.Bool.Decides.nat_tests, proofs.lemmas.List.length-replicate, proofs.lemmas.Nat.div-add-mod', proofs.Math.Nat.mul_comm}
 use Rattle.pk_base.{specs.Shape.Shape, specs.Shape.IsShape, specs.Shape.page_count, specs.Mark.program}
@@ -11,9 +11,9 @@ use Rattle.pk_nand.proofs.Leaving.{page_at-slice_set, page_at-slice_set_same, Is
 use Rattle.pk_remap.{specs.declared.layout.TheConstants.MOST_SPARES, specs.declared.relocation.Relocation.Relocation as InMemory, specs.Table.SpareTable, specs.Table.is_table, proofs.Lifting.times_le}
 use Rattle.pk_remap.proofs.Lifting.{two_more}
 use Rattle.pk_remap.specs.FirstTable.{first_table, first_table_bytes, IsMade, FirstTableWritten, FirstTableFailed, FirstTableOutcome}
-use Rattle.pk_remap.{specs.Newest.table_in, specs.Newest.first_table_page, specs.Newest.IsTablePage, specs.Newest.IsNewer, specs.Newest.IsNewest, specs.Places.inner_shape, specs.Places.placed_page}
+use Rattle.pk_remap.{specs.Newest.table_in, specs.Newest.first_table_page, specs.Newest.IsNewer, specs.Newest.IsNewest, specs.Places.inner_shape, specs.Places.placed_page}
 use Rattle.pk_remap.{specs.Relocating.IsNextPair, specs.Running.HasPageBuffers, specs.Running.IsAtRest, specs.Remapped.outer_pages, proofs.TableLemmas.table_parts, proofs.TableLemmas.page_again}
-use Rattle.pk_remap.{proofs.Placing.mod-of, proofs.Placing.is_through, proofs.Placing.page-past_end, proofs.Finding.none_some}
+use Rattle.pk_remap.{proofs.Placing.mod-of, proofs.Placing.is_through, proofs.Placing.page-past_end, proofs.Finding.none_some, proofs.Finding.by_equal, proofs.Finding.own_number}
 use Rattle.pk_remap.{proofs.Standing.shows, proofs.Turning.second_order, proofs.Turning.following_pair}
 
 erased_at : (n k : ℕ) → k < n → page_at (replicate n erased) k ≡ erased
@@ -158,25 +158,19 @@ module _ (r : InMemory) (made : BoardState) (is : IsMade r.shape r.spares made) 
       top = record {
         there = record { from = omega arith; to = (let s = some in omega (arith, s)) };
         is = ap (table_in shape r.spares) at_first ∙ again;
-        newest = λ k there other e. newer k there other e (nat_eq k page) refl (nat_eq k (suc page)) refl;
+        newest = λ k there other e. by_equal k page (IsNewer page first_table k other)
+            (λ same. same_newer k other page (omega (arith, same)) at_first same e)
+            (λ one. by_equal k (suc page) (IsNewer page first_table k other)
+            (λ same. same_newer k other (suc page) (omega (arith, same)) at_second same e)
+            (λ two. absurd (none_some other (ap (table_in shape r.spares) (sym (at_other k one two there.to)) ∙ e))));
       } where
-        same_newer : (k : ℕ) (other : SpareTable) → page ≤ k → Some first_table ≡ Some other → IsNewer page first_table k other
-        same_newer k other past e = inr (ap (λ (t : SpareTable). t.number) (sym (same_Some first_table other e)), past)
-
-        newer : (k : ℕ) → IsTablePage shape r.spares k → (other : SpareTable) → table_in shape r.spares (page_at new.pages k) ≡ Some other
-            → (t : Bool) → nat_eq k page ≡ t → (u : Bool) → nat_eq k (suc page) ≡ u → IsNewer page first_table k other
-        newer k there other e true t u v =
-            let same : k ≡ page = grind (arith, nat_tests) in
-            same_newer k other (omega (arith, same)) (sym again ∙ ap (table_in shape r.spares) (sym at_first)
-            ∙ ap (λ (j : ℕ). table_in shape r.spares (page_at new.pages j)) (sym same) ∙ e)
-        newer k there other e false t true v =
-            let same : k ≡ suc page = grind (arith, nat_tests) in
-            same_newer k other (omega (arith, same)) (sym again ∙ ap (table_in shape r.spares) (sym at_second)
-            ∙ ap (λ (j : ℕ). table_in shape r.spares (page_at new.pages j)) (sym same) ∙ e)
-        newer k there other e false t false v =
-            let one : k ≢ page = grind (arith, nat_tests) in
-            let two : k ≢ suc page = grind (arith, nat_tests) in
-            absurd (none_some other (ap (table_in shape r.spares) (sym (at_other k one two there.to)) ∙ e))
+        -- a page of the pair has this table
+        same_newer : (k : ℕ) (other : SpareTable) (at : ℕ) → page ≤ k → page_at new.pages at ≡ whole bytes → k ≡ at
+            → table_in shape r.spares (page_at new.pages k) ≡ Some other → IsNewer page first_table k other
+        same_newer k other at past here same e = inr (
+          own_number shape r.spares (page_at new.pages) at first_table (ap (table_in shape r.spares) here ∙ again) k other same e,
+          past,
+        )
 
       -- all pages of the outer flash are Erased
       pub shown : outer_pages shape r.spares new.pages ≡ replicate (page_count shape) erased

@@ -164,7 +164,7 @@ module _ (r : InMemory) (before : Flash) (old : BoardState) (runs : RelocationRu
   abbrev n : ℕ
   n = r.shape.block_pages
 
-  n_some : 0 < n
+  pub n_some : 0 < n
   n_some = let least = runs.goes_on.serving.shape_is.block_least in omega (arith, least)
 
   -- the step stops, and this is why
@@ -242,7 +242,7 @@ module _ (r : InMemory) (before : Flash) (old : BoardState) (runs : RelocationRu
       → r.spares ≤ r.taken + 1 → StepOutcome r before old (Err e) (record r { taken = r.taken + 1; phase = EraseSpare }) new
   no_spare_left new e failed rose none = (failed.cuts, no_spare rose none, same_next)
 
-  stands_in : (phase : Phase) → r.phase ≡ phase → AtPhase r before old.pages phase
+  pub stands_in : (phase : Phase) → r.phase ≡ phase → AtPhase r before old.pages phase
   stands_in phase is = subst (AtPhase r before old.pages) is runs.phase_fits
 
   pub spare_erased : r.phase ≡ EraseSpare → (new : BoardState) → new ≡ after_erase old (spare_block (relocation_of r))

@@ -1,10 +1,11 @@
 -- A search through table pages from the lowest on finds the newest table.
-use Rattle.std.proofs.Common.{◌≡◌, ◌≢◌, inl, inr, ℕ, suc, ◌+◌, ◌*◌, ◌<◌, ◌≤◌, Bool, true, false, List, refl, sym, ap, subst, ◌∙◌, arith, Option, Some, None}
-use Rattle.std.{specs.Prelude.nat_lt, specs.Prelude.nat_eq, specs.Prelude.if◌then◌else◌, proofs.lemmas.Bool.Decides.nat_tests, proofs.lemmas.Option.same_Some}
+use Rattle.std.proofs.Common.{◌≡◌, inl, inr, ℕ, suc, ◌+◌, ◌*◌, ◌<◌, ◌≤◌, Bool, true, false, List, refl, sym, ap, subst, ◌∙◌, arith, Option, Some, None}
+use Rattle.std.{specs.Prelude.nat_lt, specs.Prelude.if◌then◌else◌, proofs.lemmas.Bool.Decides.nat_tests}
 use Rattle.pk_base.{specs.Shape.Shape, specs.Page.Page, specs.Page.erased, specs.Page.whole, specs.Page.torn}
 use Rattle.pk_nand.{specs.BoardState.BoardState, specs.Calls.Rose, specs.Counts.after_reads, specs.Effects.OnlyReading, specs.Operations.filled, specs.Operations.ReadFailed, specs.Seen.answer}
 use Rattle.pk_remap.{specs.Table.SpareTable, specs.Newest.table_in, specs.Newest.newest_table, specs.Newest.first_table_page, specs.Newest.IsNewer, specs.Counting.SearchFailed}
-use Rattle.pk_remap.{specs.Searched.newer_at, specs.Searched.table_read, proofs.Finding.Found, proofs.Finding.newest-found, proofs.Finding.found-newest, proofs.Finding.none_some}
+use Rattle.pk_remap.{specs.Searched.newer_at, specs.Searched.table_read, proofs.Finding.Found, proofs.Finding.by_equal, proofs.Finding.own_number, proofs.Finding.newest-found}
+use Rattle.pk_remap.{proofs.Finding.found-newest, proofs.Finding.none_some}
 
 pub read_table : (shape : Shape) (spares : ℕ) (p : Page) (old : List ℕ) → table_read shape spares (answer p) (filled p old) ≡ table_in shape spares p
 read_table shape spares erased old = refl
@@ -21,22 +22,15 @@ module _ (shape : Shape) (spares : ℕ) (at : ℕ → Page) where
       here : (j : ℕ) (x : Option SpareTable) → table_in shape spares (at (from + n)) ≡ x → j ≡ from + n → table_in shape spares (at j) ≡ x
       here j x e same = ap (λ (k : ℕ). table_in shape spares (at k)) same ∙ e
 
-      split : (j : ℕ) (P : Type 0) → (j ≡ from + n → P) → (j ≢ from + n → P) → P
-      split j P same other = choose (nat_eq j (from + n)) refl
-        where
-          choose : (t : Bool) → nat_eq j (from + n) ≡ t → P
-          choose true t = same (grind (arith, nat_tests))
-          choose false t = other (grind (arith, nat_tests))
-
       by : (best : Option (ℕ × SpareTable)) (own : Option SpareTable) → table_in shape spares (at (from + n)) ≡ own
           → Found shape spares at from n best → Found shape spares at from (suc n) (newer_at best (from + n) own)
-      by None None e none = λ j low high. split j (table_in shape spares (at j) ≡ None)
+      by None None e none = λ j low high. by_equal j (from + n) (table_in shape spares (at j) ≡ None)
           (λ same. here j None e same) (λ other. none j low (omega (arith, high, other)))
       by (Some top) None e was = record {
         above = was.above;
         below = omega (arith, was.below);
         is = was.is;
-        newest = λ j low high table is. split j (IsNewer top.0 top.1 j table)
+        newest = λ j low high table is. by_equal j (from + n) (IsNewer top.0 top.1 j table)
             (λ same. absurd (none_some table (sym (here j None e same) ∙ is)))
             (λ other. was.newest j low (omega (arith, high, other)) table is);
       }
@@ -44,9 +38,8 @@ module _ (shape : Shape) (spares : ℕ) (at : ℕ → Page) where
         above = omega arith;
         below = omega arith;
         is = e;
-        newest = λ j low high table is. split j (IsNewer (from + n) new j table)
-            (λ same. let own : table ≡ new = same_Some table new
-            (sym is ∙ here j (Some new) e same) in inr (ap (λ (x : SpareTable). x.number) own, omega (arith, same)))
+        newest = λ j low high table is. by_equal j (from + n) (IsNewer (from + n) new j table)
+            (λ same. inr (own_number shape spares at (from + n) new e j table same is, omega (arith, same)))
             (λ other. absurd (none_some table (sym (none j low (omega (arith, high, other))) ∙ is)));
       }
       by (Some top) (Some new) e was = by_number (nat_lt top.1.number new.number) refl
@@ -58,9 +51,8 @@ module _ (shape : Shape) (spares : ℕ) (at : ℕ → Page) where
                 above = omega arith;
                 below = omega arith;
                 is = e;
-                newest = λ j low high table is. split j (IsNewer (from + n) new j table)
-                    (λ same. let own : table ≡ new = same_Some table new
-                    (sym is ∙ here j (Some new) e same) in inr (ap (λ (x : SpareTable). x.number) own, omega (arith, same)))
+                newest = λ j low high table is. by_equal j (from + n) (IsNewer (from + n) new j table)
+                    (λ same. inr (own_number shape spares at (from + n) new e j table same is, omega (arith, same)))
                     (λ other. elim (was.newest j low (omega (arith, high, other)) table is) [
                       | inl lower ↦ inl
                           (omega (arith, lower, less))
@@ -73,20 +65,16 @@ module _ (shape : Shape) (spares : ℕ) (at : ℕ → Page) where
                 above = was.above;
                 below = omega (arith, was.below);
                 is = was.is;
-                newest = λ j low high table is. split j (IsNewer top.0 top.1 j table)
+                newest = λ j low high table is. by_equal j (from + n) (IsNewer top.0 top.1 j table)
                     (λ same.
-                    let own : table ≡ new = same_Some table new (sym is ∙ here j (Some new) e same) in
-                    let number : table.number ≡ new.number = ap (λ (x : SpareTable). x.number) own in
+                    let number : table.number ≡ new.number = own_number shape spares at (from + n) new e j table same is in
                     choose_number j table (omega (arith, number, most)) (omega (arith, same, was.below)))
                     (λ other. was.newest j low (omega (arith, high, other)) table is);
               }
             where
               choose_number : (j : ℕ) (table : SpareTable) → table.number ≤ top.1.number → top.0 ≤ j → IsNewer top.0 top.1 j table
-              choose_number j table most low = pick (nat_eq table.number top.1.number) refl
-                where
-                  pick : (t : Bool) → nat_eq table.number top.1.number ≡ t → IsNewer top.0 top.1 j table
-                  pick true t = let same : table.number ≡ top.1.number = grind (arith, nat_tests) in inr (same, low)
-                  pick false t = let other : table.number ≢ top.1.number = grind (arith, nat_tests) in inl (omega (arith, most, other))
+              choose_number j table most low = by_equal table.number top.1.number (IsNewer top.0 top.1 j table)
+                  (λ same. inr (same, low)) (λ other. inl (omega (arith, most, other)))
 
   -- no page was searched
   pub searched-none : (from : ℕ) → Found shape spares at from 0 None

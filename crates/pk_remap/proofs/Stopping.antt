@@ -5,22 +5,16 @@ use Rattle.std.specs.declared.alloc.Global.{Global}
 use Rattle.pk_base.specs.Page.{Flash, IsPage}
 use Rattle.pk_nand.{specs.BoardState.BoardState, specs.Calls.IsReady, specs.Calls.Rose, specs.Calls.ProgramFailed, specs.Operations.EraseFailed, specs.Effects.OnlyFlash}
 use Rattle.pk_nand.{proofs.Effects.stops_erase, proofs.Effects.stops_program, specs.declared.types.NandFault.NandFault}
-use Rattle.pk_remap.{specs.declared.phase.Phase.Phase, specs.declared.relocation.Relocation.Relocation as InMemory, specs.Table.table_bytes, specs.Places.inner_shape, proofs.Cutting.OneOfTables}
+use Rattle.pk_remap.{specs.declared.relocation.Relocation.Relocation as InMemory, specs.Table.table_bytes, specs.Places.inner_shape, proofs.Cutting.OneOfTables}
 use Rattle.pk_remap.specs.declared.phase.Phase.TheVariants.{EraseSpare, Read, EraseTable, First, Second}
 use Rattle.pk_remap.{proofs.Stepping.ready_same, proofs.Counting.counted_done, proofs.Counting.counted_failed, proofs.Counting.has_table}
 use Rattle.pk_remap.{specs.Relocating.next_table, specs.Relocating.IsTop, specs.Stepping.IsOtherTable, specs.Stepping.SpareFailed, proofs.Turning.next_pair, proofs.Turning.erased_pair}
 use Rattle.pk_remap.{specs.Counting.SparesCounted, specs.Counting.HasTable, specs.Counting.StepCounts, proofs.Stepping.table_erase_top, proofs.Stepping.first_left, proofs.Stepping.second_left}
-use Rattle.pk_remap.{specs.Running.relocation_of, specs.Running.AtPhase, specs.Running.RelocationRuns, specs.Running.IsTableHalf, proofs.Running.half_erased}
+use Rattle.pk_remap.{specs.Running.relocation_of, specs.Running.RelocationRuns, specs.Running.IsTableHalf, proofs.Running.half_erased, proofs.Running.stands_in, proofs.Running.n_some}
 
 module _ (r : InMemory) (before : Flash) (old : BoardState) (runs : RelocationRuns r before old) where
   used_most : length (relocation_of r).table.serves ≤ r.taken
   used_most = runs.goes_on.serving.used
-
-  n_some : 0 < r.shape.block_pages
-  n_some = let least = runs.goes_on.serving.shape_is.block_least in omega (arith, least)
-
-  at_phase : (phase : Phase) → r.phase ≡ phase → AtPhase r before old.pages phase
-  at_phase phase is = subst (AtPhase r before old.pages) is runs.phase_fits
 
   -- ---- in the spare
 
@@ -45,7 +39,7 @@ module _ (r : InMemory) (before : Flash) (old : BoardState) (runs : RelocationRu
   step_read copy k phase new rest same shape pages =
       let ready = ready_same old new (inner_shape r.shape r.spares) runs.goes_on.ready shape pages in (
         counted_done r (record r { copy = copy }) old new rest 0 same (omega arith),
-        has_table (record r { copy = copy }) new r.top (relocation_of r).table ready (subst (IsTop (relocation_of r)) (sym pages) (at_phase (Read k) phase).0) used_most,
+        has_table (record r { copy = copy }) new r.top (relocation_of r).table ready (subst (IsTop (relocation_of r)) (sym pages) (stands_in r before old runs (Read k) phase).0) used_most,
       )
 
   -- ---- in a table block: a call fails, and the spare is taken
@@ -62,7 +56,7 @@ module _ (r : InMemory) (before : Flash) (old : BoardState) (runs : RelocationRu
   pub erase_stops : r.phase ≡ EraseTable → (other : ℕ) → IsOtherTable (relocation_of r) other → (result : Result Bool NandFault) → IsErr result
       → (new : BoardState) → EraseFailed old new other → StepCounts r old result (record r { next = None; taken = r.taken + 1 }) new
   erase_stops phase other is_other result fails new failed =
-      let own = table_erase_top (relocation_of r) before old runs.goes_on (at_phase EraseTable phase).0 other is_other new failed in
+      let own = table_erase_top (relocation_of r) before old runs.goes_on (stands_in r before old runs EraseTable phase).0 other is_other new failed in
       let stops = stops_erase old new other failed in
       failed_step result r.copy None new fails stops.rest stops.stop
       (has_table (record r { next = None; taken = r.taken + 1 }) new r.top (relocation_of r).table own.0 own.1 (let used = used_most in omega (arith, used)))
@@ -71,9 +65,9 @@ module _ (r : InMemory) (before : Flash) (old : BoardState) (runs : RelocationRu
       → bytes ≡ table_bytes r.shape r.spares (next_table (relocation_of r)) → ProgramFailed old new pair bytes → (copy : Vec ℕ Global)
       → StepCounts r old result (record r { copy = copy; next = None; taken = r.taken + 1 }) new
   first_stops pair phase result fails new bytes page same failed copy =
-      let s = at_phase (First pair) phase in
-      let is_pair = next_pair (relocation_of r) n_some old.pages pair s.0 s.1 in
-      let two = erased_pair r.shape r.spares r.top n_some old.pages pair s.1 in
+      let s = stands_in r before old runs (First pair) phase in
+      let is_pair = next_pair (relocation_of r) (n_some r before old runs) old.pages pair s.0 s.1 in
+      let two = erased_pair r.shape r.spares r.top (n_some r before old runs) old.pages pair s.1 in
       let T : List ℕ → Type 0 = λ b. ProgramFailed old new pair b in
       let stops = stops_program old new pair bytes failed in
       failed_step result copy None new fails stops.rest stops.stop
@@ -84,7 +78,7 @@ module _ (r : InMemory) (before : Flash) (old : BoardState) (runs : RelocationRu
       → bytes ≡ table_bytes r.shape r.spares (next_table (relocation_of r)) → ProgramFailed old new (suc pair) bytes → (copy : Vec ℕ Global)
       → StepCounts r old result (record r { copy = copy; taken = r.taken + 1 }) new
   second_stops pair phase result fails new bytes page same failed copy =
-      let half : IsTableHalf (relocation_of r) before old.pages pair = at_phase (Second pair) phase in
+      let half : IsTableHalf (relocation_of r) before old.pages pair = stands_in r before old runs (Second pair) phase in
       let T : List ℕ → Type 0 = λ b. ProgramFailed old new (suc pair) b in
       let stops = stops_program old new (suc pair) bytes failed in
       failed_step result copy r.next new fails stops.rest stops.stop

@@ -1,7 +1,8 @@
-use Rattle.std.proofs.Common.{◌≡◌, ◌++◌, ◌≤◌, ℕ, List, length, take, drop, sym, ap, subst, ◌∙◌, arith}
-use Rattle.std.{specs.Prelude.OnOk, specs.Prelude.OnErr, proofs.Math.Seq.take-append_seam}
-use Rattle.pk_base.{specs.declared.sizes.TheConstants.MOST_PAGE_BYTES, specs.Shape.Shape, specs.Page.IsPage}
+use Rattle.std.proofs.Common.{◌≡◌, ℕ, List, length, sym, ap, subst, ◌∙◌}
+use Rattle.std.specs.Prelude.{OnOk, OnErr}
+use Rattle.pk_base.{specs.Shape.Shape, specs.Page.IsPage}
 use Rattle.pk_nand.{specs.BoardState.BoardState, specs.Calls.after_program, specs.Calls.ProgramFailed, proofs.Writing.shape_is}
+use Rattle.pk_remap.proofs.Running.{refilled}
 use Rattle.pk_remap.proofs.relocation.Relocation.program_empty.Goals as goal
 
 pub program_table-requires-clause-order : goal.program_table-requires-clause-order
@@ -29,11 +30,6 @@ pub returns-clause-room : goal.returns-clause-room
 returns-clause-room g c =
     let r = c.args.self.now in
     let new : List ℕ = c.program_table.new.buffer in
-    let a = c.program_table.auto.buffer in
-    let b = c.deref_mut.ensures in
-    let size : r.copy.len ≡ length new = sym (a ∙ b.len) in
-    let items : take r.copy.len (new ++ drop (length new) r.copy.items) ≡ new =
-    ap (λ (n : ℕ). take n (new ++ drop (length new) r.copy.items)) size ∙ take-append_seam _ _ in
-    let large : MOST_PAGE_BYTES ≤ length new = let old = c.requires.room.read_page in omega (arith, old, c.program_table.ensures.len, ap length b.value) in
     let room = c.requires.room in
-    record { fits = room.fits; all = room.all; kept_page = room.kept_page; new_page = room.new_page; read_page = rw items large }
+    let buffer = refilled r.copy new (c.program_table.auto.buffer ∙ c.deref_mut.ensures.len) (c.program_table.auto.buffer ∙ ap length c.deref_mut.ensures.value) room.read_page in
+    record { fits = room.fits; all = room.all; kept_page = room.kept_page; new_page = room.new_page; read_page = rw buffer.0 buffer.1 }
