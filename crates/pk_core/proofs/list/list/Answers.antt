@@ -4,9 +4,9 @@ use Rattle.pk_level.specs.Levels.{RunsOnFlash}
 use Rattle.pk_walk.specs.Walking.{Reads, ReadsFail, most_read}
 use Rattle.pk_nvme.{specs.Opcode.op_of, specs.declared.opcode.Opcode.TheVariants.List as ListKeys, specs.Seen.command_of}
 use Rattle.pk_core.proofs.Early.{request_space}
-use Rattle.pk_core.{proofs.Doing.list_executes, proofs.Doing.list_only, specs.Listed.first_listed}
 use Rattle.pk_core.proofs.Listing.{from_first, at_first, walks_on, starts_may, starts_unread, starts_bytes}
 use Rattle.pk_core.proofs.ListReads.{reads_between, reads_until, lists_read, lists_unread, few_listed, few_unlisted}
+use Rattle.pk_core.{proofs.Doing.list_executes, proofs.Doing.list_only, specs.Listed.first_listed}
 use Rattle.pk_core.proofs.list.list.Goals as goal
 
 pub first_key-first-requires-clause-values : goal.first_key-first-requires-clause-values

@@ -2,8 +2,8 @@ use Rattle.std.proofs.Common.{◌≤◌, ◌∙◌, length, ap, arith, subst, �
 use Rattle.pk_nand.specs.Calls.{last_count}
 use Rattle.pk_parts.{specs.Parts.most_looks, specs.Quiet.Looks}
 use Rattle.pk_core.proofs.Unchanging.{retrieve_found, retrieve_none, unread_value, front_of, front_moved, room_of, value_reads, value_breaks, few_of}
-use Rattle.pk_core.{proofs.Executing.executes_quiet, proofs.Executing.same_but_walk, proofs.LookedUp.executes_unread, proofs.Sights.only_reads, proofs.Sights.only_failing}
 use Rattle.pk_core.proofs.Callings.{few_looked, few_failed, looks_less}
+use Rattle.pk_core.{proofs.Executing.executes_quiet, proofs.Executing.same_but_walk, proofs.LookedUp.executes_unread, proofs.Sights.only_reads, proofs.Sights.only_failing}
 use Rattle.pk_nvme.{specs.Seen.command_of, specs.Opcode.op_of, specs.declared.opcode.Opcode.TheVariants.Retrieve}
 use Rattle.pk_call.specs.declared.types.Outcome.{Outcome}
 use Rattle.pk_core.{proofs.Early.request_space, proofs.LookedUp.only_looked, proofs.LookedUp.only_unread}

@@ -1,11 +1,10 @@
 use Rattle.std.proofs.Common.{ap, arith, subst, false, refl}
 use Rattle.pk_core.{proofs.LookedUp.looked_up, proofs.LookedUp.executes_behind, proofs.LookedUp.executes_unread, proofs.Served.store_is_other, proofs.Staying.opens_from, proofs.Statuses.told_refused}
 use Rattle.pk_core.{proofs.Programming.quiet_store_behind, proofs.Quieted.reads_behind, proofs.Quieted.whole_looked, proofs.Stored.room_looked}
-use Rattle.pk_core.proofs.Callings.{spends_reads, spends_failed}
+use Rattle.pk_core.{proofs.Callings.spends_reads, proofs.Callings.spends_failed, proofs.Early.request_space}
 use Rattle.pk_parts.{proofs.Staying.stays_same, proofs.Staying.stays_opens, specs.Staying.IsNoted, specs.Parts.Parts, proofs.Unchanging.agrees_ready}
 use Rattle.pk_changes.proofs.StoreCalls.{spends_store}
 use Rattle.pk_nvme.{specs.Opcode.op_of, specs.declared.opcode.Opcode.TheVariants.Store}
-use Rattle.pk_core.proofs.Early.{request_space}
 use Rattle.pk_core.proofs.store.store.Goals as goal
 
 pub key-key-requires-clause-space : goal.key-key-requires-clause-space

@@ -3,9 +3,8 @@ use Rattle.pk_base.specs.Shape.{charge}
 use Rattle.pk_nand.specs.declared.types.Fault.TheVariants.{Stopped}
 use Rattle.pk_background.{specs.Pairing.FailsToFinish, proofs.ReadSteps.running_stopped}
 use Rattle.pk_changes.specs.Programming.{PutsQuietly}
-use Rattle.pk_core.specs.Programming.{ReadsNone}
+use Rattle.pk_core.{specs.Programming.ReadsNone, proofs.storing.put_whole.Given.Over}
 use Rattle.pk_core.proofs.Whole.{Wholes, wholes, fails_half, unworn_then, can_put_then, stores_whole, stays_whole, opens_whole, put_spends, stores_unmade, unmade_spends, quiet_from}
-use Rattle.pk_core.proofs.storing.put_whole.Given.{Over}
 use Rattle.pk_core.proofs.storing.put_whole.Goals as goal
 
 pub make_whole-requires : goal.make_whole-requires
