@@ -4,7 +4,8 @@ use Rattle.std.proofs.Common.{Option, Some, None, is_some, cond}
 use Rattle.std.proofs.lemmas.Bool.{ne_eqb, cases_lt}
 use Rattle.std.{specs.Prelude.IsSome, specs.Prelude.if◌then◌else◌, specs.FinMap.Entries.find, specs.Ordering.eq_by_cmp, proofs.lemmas.List.reverse-append}
 use Rattle.pk_base.{specs.Shape.Shape, specs.Shape.IsShape, specs.Shape.charge, specs.Shape.buffer, specs.Shape.epoch_commits, specs.Entry.Entry, specs.Key.Key, specs.Key.key_cmp, specs.Firsts.firsts}
-use Rattle.pk_base.{specs.Page.Flash, specs.Page.page_at, specs.Page.commit_page, specs.Page.erased, specs.Map.Map, proofs.ShapeLemmas.block_pages_positive, proofs.Logic.some_same, proofs.Logic.ok_same}
+use Rattle.pk_base.{specs.Page.Flash, specs.Page.page_at, specs.Page.commit_page, specs.Page.erased, specs.Map.Map, proofs.ShapeLemmas.block_pages_positive}
+use Rattle.pk_base.proofs.Logic.{some_same, ok_same}
 use Rattle.pk_buf.specs.Table.{Table}
 use Rattle.pk_rootfmt.specs.Root.{Root}
 use Rattle.pk_nand.{specs.BoardState.BoardState, specs.Counts.counted_by}

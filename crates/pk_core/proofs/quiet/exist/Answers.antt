@@ -2,8 +2,8 @@ use Rattle.std.proofs.Common.{ap, arith, subst, ◌-◌, refl}
 use Rattle.pk_nvme.{specs.Seen.command_of, specs.Opcode.op_of, specs.declared.opcode.Opcode.TheVariants.Exist}
 use Rattle.pk_call.specs.declared.types.Outcome.{Outcome}
 use Rattle.pk_parts.{specs.Parts.most_looks, specs.Quiet.Looks}
-use Rattle.pk_core.{proofs.Unchanging.exist_found, proofs.Unchanging.exist_none, proofs.Executing.executes_quiet, proofs.LookedUp.executes_unread, proofs.LookedUp.only_looked, proofs.LookedUp.only_unread}
-use Rattle.pk_core.{proofs.Callings.looks_less, proofs.Early.request_space}
+use Rattle.pk_core.{proofs.Unchanging.exist_found, proofs.Unchanging.exist_none, proofs.Executing.executes_quiet, proofs.LookedUp.executes_unread, proofs.LookedUp.only_looked}
+use Rattle.pk_core.{proofs.LookedUp.only_unread, proofs.Callings.looks_less, proofs.Early.request_space}
 use Rattle.pk_core.proofs.quiet.exist.Goals as goal
 
 pub key-key-requires-clause-space : goal.key-key-requires-clause-space

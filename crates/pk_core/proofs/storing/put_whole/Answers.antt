@@ -18,13 +18,14 @@ made g c = wholes c.args.parts.now c.make_whole.new.parts (g.B.Nand.state c.args
 
 pub put_with_space-requires-clause-can : goal.put_with_space-requires-clause-can
 put_with_space-requires-clause-can g c =
-    let w = wholes c.args.parts.now c.make_whole.new.parts (g.B.Nand.state c.args.board.now) (g.B.Nand.state c.make_whole.new.board) c.requires.can.0.ready c.in-Ok.ensures.finishes c.in-Ok.ensures.rests in
+    let w = wholes c.args.parts.now c.make_whole.new.parts (g.B.Nand.state c.args.board.now) (g.B.Nand.state c.make_whole.new.board)
+    c.requires.can.0.ready c.in-Ok.ensures.finishes c.in-Ok.ensures.rests in
     (can_put_then w c.args.key c.args.value.now c.args.old c.requires.can.0, c.requires.can.1 ∙ ap (λ s. charge s (length c.args.value.now)) (sym w.same_shape))
 
 pub put_with_space-requires-clause-unworn : goal.put_with_space-requires-clause-unworn
 put_with_space-requires-clause-unworn g c =
-    unworn_then (wholes c.args.parts.now c.make_whole.new.parts (g.B.Nand.state c.args.board.now) (g.B.Nand.state c.make_whole.new.board) c.requires.can.0.ready c.in-Ok.ensures.finishes c.in-Ok.ensures.rests)
-    c.requires.unworn
+    unworn_then (wholes c.args.parts.now c.make_whole.new.parts (g.B.Nand.state c.args.board.now) (g.B.Nand.state c.make_whole.new.board)
+    c.requires.can.0.ready c.in-Ok.ensures.finishes c.in-Ok.ensures.rests) c.requires.unworn
 
 pub returns-in-Ok-clause-step : goal.returns-in-Ok-clause-step
 returns-in-Ok-clause-step g c = stores_whole (made g c) c.args.key c.args.value.now c.put_with_space.new.parts

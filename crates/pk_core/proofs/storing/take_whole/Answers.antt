@@ -17,13 +17,13 @@ made g c = wholes c.args.parts.now c.make_whole.new.parts (g.B.Nand.state c.args
 
 pub take_out-requires-clause-can : goal.take_out-requires-clause-can
 take_out-requires-clause-can g c =
-    can_take_then (wholes c.args.parts.now c.make_whole.new.parts (g.B.Nand.state c.args.board.now) (g.B.Nand.state c.make_whole.new.board) c.requires.can.ready c.in-Ok.ensures.finishes c.in-Ok.ensures.rests)
-    c.args.key c.args.old c.requires.can
+    can_take_then (wholes c.args.parts.now c.make_whole.new.parts (g.B.Nand.state c.args.board.now) (g.B.Nand.state c.make_whole.new.board)
+    c.requires.can.ready c.in-Ok.ensures.finishes c.in-Ok.ensures.rests) c.args.key c.args.old c.requires.can
 
 pub take_out-requires-clause-number : goal.take_out-requires-clause-number
 take_out-requires-clause-number g c =
-    numbers_then (wholes c.args.parts.now c.make_whole.new.parts (g.B.Nand.state c.args.board.now) (g.B.Nand.state c.make_whole.new.board) c.requires.can.ready c.in-Ok.ensures.finishes c.in-Ok.ensures.rests)
-    c.requires.number
+    numbers_then (wholes c.args.parts.now c.make_whole.new.parts (g.B.Nand.state c.args.board.now) (g.B.Nand.state c.make_whole.new.board)
+    c.requires.can.ready c.in-Ok.ensures.finishes c.in-Ok.ensures.rests) c.requires.number
 
 pub returns-in-Ok-clause-step : goal.returns-in-Ok-clause-step
 returns-in-Ok-clause-step g c = takes_whole (made g c) c.args.key c.args.old c.take_out.new.parts
