@@ -1,7 +1,7 @@
 -- Entries that wait for a commit: what the drive represents after them.
-use Rattle.std.proofs.Common.{◌≡◌, inl, inr, ℕ, ◌+◌, ◌-◌, ◌/◌, ◌^◌, ◌<◌, ◌≤◌, refl, sym, ap, subst, ◌∙◌, arith, true, cond, T, List, [], ◌∷◌, ◌++◌, length, Option, Some, None, Ok}
+use Rattle.std.proofs.Common.{◌≡◌, inl, inr, ℕ, ◌+◌, ◌-◌, ◌/◌, ◌^◌, ◌<◌, ◌≤◌, refl, sym, ap, subst, ◌∙◌, arith, true, cond, List, [], ◌∷◌, ◌++◌, length, Option, Some, None, Ok}
 use Rattle.std.{specs.Prelude.MatchOption, specs.Prelude.slice_set, specs.Cmp.tied_itself, specs.FinMap.insert, specs.FinMap.remove, specs.FinMap.entries, specs.FinMap.entries-insert}
-use Rattle.std.{specs.FinMap.Entries.put, specs.FinMap.Entries.find, specs.FinMap.Entries.is_sorted, specs.FinMap.Entries.find-put, specs.List.AllByRecursion}
+use Rattle.std.{specs.FinMap.Entries.put, specs.FinMap.Entries.find, specs.FinMap.Entries.find-put, specs.List.AllByRecursion}
 use Rattle.std.specs.Ordering as order
 use Rattle.pk_base.{specs.Key.Key, specs.Key.key_cmp, specs.Key.space_of, specs.Shape.Shape, specs.Shape.IsShape, specs.Shape.charge, specs.Shape.greatest, specs.Shape.buffer, specs.Shape.data_blocks}
 use Rattle.pk_base.{specs.Page.Flash, specs.Page.page_at, specs.Entry.Entry, specs.Entry.Place, specs.Firsts.firsts, specs.Map.Map, specs.Map.live, specs.Map.pages_in, proofs.EntryLemmas.key_is_key}
@@ -10,10 +10,10 @@ use Rattle.pk_segfmt.{specs.Value.value_at, proofs.StoredLemmas.charge_some}
 use Rattle.pk_rootfmt.specs.Root.{Root, named}
 use Rattle.pk_model.{specs.Found.Found, specs.Found.entries_in_order, specs.Values.placed, specs.Values.fits, specs.Values.all_pages, proofs.MapLemmas.key_total, proofs.ValueSets.values_sound}
 use Rattle.pk_model.{specs.Laws.AnyByRecursion, specs.Laws.IsPageOf, specs.Laws.IsStorable, proofs.Stores.placed-put, proofs.Stores.reads-put, proofs.Stores.entries_in_order-push}
-use Rattle.pk_model.{proofs.Merges.placed_sorted, proofs.Live.live-pages, proofs.HeldMap.nothing_fits, specs.RootLimits.root_limits, specs.RootLimits.root_spaces, proofs.RootLimits.limits_under}
+use Rattle.pk_model.{proofs.Live.live-pages, proofs.HeldMap.nothing_fits, specs.RootLimits.root_limits, specs.RootLimits.root_spaces, proofs.RootLimits.limits_under}
 use Rattle.pk_model.{proofs.SpacePages.within_put, specs.Spaces.in_space, specs.Spaces.limit_of}
 use Rattle.pk_law_steps.{specs.Under.IsUnder, specs.Under.counting, specs.Under.places, proofs.Untouched.values_under, proofs.Places.fits_more}
-use Rattle.pk_law_steps.{proofs.Storing.stores, proofs.Storing.deletes, proofs.Storing.placed-gone, proofs.Counting.sorted_read, proofs.Counting.entries-rising}
+use Rattle.pk_law_steps.{proofs.Storing.stores, proofs.Storing.deletes, proofs.Storing.placed-gone}
 use Rattle.pk_log.{specs.State.LogState, specs.State.pushed, specs.Logs.LogOnFlash}
 use Rattle.pk_values.{specs.declared.span.Span.Span, specs.State.ValuesState, specs.State.with_head, specs.State.with_heads, specs.Placed.HoldsValues, specs.Placed.ValuesOnFlash, specs.Placed.without}
 use Rattle.pk_values.{specs.Entries.span_of, specs.Entries.span_if_some, specs.Entries.heads_without, specs.Entries.ValueHeld, specs.Entries.ValueMoves, specs.Laws.value_blocks}
@@ -22,7 +22,7 @@ use Rattle.pk_live.specs.Values.{Values}
 use Rattle.pk_gc.specs.Standing.{ReclaimOnFlash}
 use Rattle.pk_parts.{specs.Parts.Parts, specs.Parts.frames_of, specs.Parts.index_of, specs.Parts.outputs_of, specs.Agreeing.DriveOnFlashWith, specs.Moves.StandsFor, proofs.Halves.whole_like}
 use Rattle.pk_parts.{proofs.Reclaiming.reclaim_stored, proofs.Reclaiming.reclaim_gone, proofs.Reclaiming.zero_fewer, proofs.Reclaiming.replaced_fewer, proofs.OwnLimits.limits_with}
-use Rattle.pk_parts.proofs.MapValues.{page_sizes, some_bytes, map_reads, places_within}
+use Rattle.pk_parts.proofs.MapValues.{page_sizes, places_rise, some_bytes, map_reads, places_within}
 use Rattle.pk_changes.{specs.Noting.Puts, specs.Noting.Drops, specs.Noting.pages_at, proofs.Using.can_leave, proofs.Using.use_few, proofs.Using.use_of_put, proofs.Using.use_of_gone}
 use Rattle.pk_scan.{specs.Used.IsUseOf, proofs.Using.value_count_most}
 use Rattle.pk_space.specs.Uses.{Use, IsSpace, CanLeave, space_live, space_keys, value_count, used_after}
@@ -41,9 +41,6 @@ module _ (d : Parts) (shape : Shape) (flash : Flash) (top : ℕ × Root) (found 
   shape_is : IsShape shape
   shape_is = subst IsShape with.shape_is with.index.logs.is_shape
 
-  rising : T (is_sorted key_cmp (places found d.log.pending))
-  rising = placed_sorted (counting found d.log.pending) (firsts_sorted (entries_in_order found d.log.pending))
-
   fit : fits shape (named top.1) (all_pages shape (places found d.log.pending)) ≡ true
   fit =
       let values = values_under shape flash d.log.pending top.1 found m with.pending.is_map in
@@ -56,16 +53,10 @@ module _ (d : Parts) (shape : Shape) (flash : Flash) (top : ℕ × Root) (found 
   live_put : (key : Key) (place : Place) (value : List ℕ) → value_at shape (page_at flash) key place ≡ Ok value
       → live shape (insert m key value) ≡ length (all_pages shape (put key_cmp key place (places found d.log.pending)))
   live_put key place value there =
-      let at = page_at flash in
       let es = places found d.log.pending in
-      let values = values_under shape flash d.log.pending top.1 found m with.pending.is_map in
-      let vs = values.values in
-      let read = (values_sound shape (named top.1) at (root_limits shape top.1) es vs (nothing_fits shape (named top.1)) values.read).read in
-      let all : entries m ≡ vs = ap (λ (x : Map). entries x) (sym values.whole_map) ∙ entries-rising vs (sorted_read shape (named top.1) at es vs read rising) in
-      let positive : 0 < shape.page_bytes = let least = shape_is.page_least in omega (arith, least) in
-      ap (pages_in shape) (entries-insert key_total m key value ∙ ap (put key_cmp key value) all)
-      ∙ sym (live-pages shape at (λ k bytes stands. (with.is_flash.full k bytes stands).0) positive (named top.1) (put key_cmp key place es) (put key_cmp key value vs)
-      (reads-put shape (named top.1) at key place value es vs there read))
+      ap (pages_in shape) (entries-insert key_total m key value)
+      ∙ sym (live-pages shape (page_at flash) (page_sizes d shape flash top found lower m with) (some_bytes d shape flash top found lower m with) (named top.1) (put key_cmp key place es)
+      (put key_cmp key value (entries m)) (reads-put shape (named top.1) (page_at flash) key place value es (entries m) there (map_reads d shape flash top found lower m with)))
 
 -- ---- a key gets a value
 
@@ -98,7 +89,7 @@ module _ (d : Parts) (flash : Flash) (m : Map) (key : Key) (value : List ℕ) (p
     key = key;
     place = place;
     placed = p.with.placed;
-    rising = rising d d.log.shape flash p.top p.found p.without m p.with;
+    rising = places_rise d d.log.shape flash p.top p.found p.without m p.with;
     old_is = ap (span_if_some d.log.shape) p.old_is ∙ sym o_is;
     new_is = sym n_is;
     even = p.place.even;
@@ -114,7 +105,7 @@ module _ (d : Parts) (flash : Flash) (m : Map) (key : Key) (value : List ℕ) (p
   -- what the key had may go
   pub puts_leave : IsSpace (space_of key) → CanLeave d.spaces (space_of key) (pages_at d.log.shape old)
   puts_leave own = can_leave d.log.shape (shape_is d d.log.shape flash p.top p.found p.without m p.with) d.spaces es key own
-      (rising d d.log.shape flash p.top p.found p.without m p.with) old p.old_is p.with.uses
+      (places_rise d d.log.shape flash p.top p.found p.without m p.with) old p.old_is p.with.uses
 
   -- what is used then fits its numbers
   pub puts_fit : IsSpace (space_of key) → (space_live d.spaces (space_of key) - pages_at d.log.shape old + charge d.log.shape (length value) < 2 ^ 32)
@@ -186,7 +177,7 @@ module _ (d : Parts) (flash : Flash) (m : Map) (key : Key) (value : List ℕ) (p
       uses =
           subst (IsUseOf d.log.shape used_now) (sym places_are)
           (use_of_put d.log.shape (shape_is d d.log.shape flash p.top p.found p.without m p.with) d.spaces es key (own_space d.log.shape d.log.pending e logs.pending_are)
-          (rising d d.log.shape flash p.top p.found p.without m p.with) old p.old_is p.with.uses place);
+          (places_rise d d.log.shape flash p.top p.found p.without m p.with) old p.old_is p.with.uses place);
     }
 
 -- what the calls of the parts say of one entry more
@@ -278,7 +269,7 @@ module _ (d : Parts) (flash : Flash) (m : Map) (key : Key) (old : Place) (p : Dr
     key = key;
     place = old;
     placed = p.with.placed;
-    rising = rising d d.log.shape flash p.top p.found p.without m p.with;
+    rising = places_rise d d.log.shape flash p.top p.found p.without m p.with;
     found = p.old_is;
     span_is = sym n_is;
   }
@@ -289,7 +280,7 @@ module _ (d : Parts) (flash : Flash) (m : Map) (key : Key) (old : Place) (p : Dr
   -- what the key had may go
   pub drops_leave : IsSpace (space_of key) → CanLeave d.spaces (space_of key) (charge d.log.shape old.len)
   drops_leave own = can_leave d.log.shape (shape_is d d.log.shape flash p.top p.found p.without m p.with) d.spaces values_before key own
-      (rising d d.log.shape flash p.top p.found p.without m p.with) (Some old) p.old_is p.with.uses
+      (places_rise d d.log.shape flash p.top p.found p.without m p.with) (Some old) p.old_is p.with.uses
 
   -- what is used then fits its numbers
   pub drops_fit : IsSpace (space_of key) → (space_live d.spaces (space_of key) - charge d.log.shape old.len + 0 < 2 ^ 32)
@@ -330,7 +321,7 @@ module _ (d : Parts) (flash : Flash) (m : Map) (key : Key) (old : Place) (p : Dr
     uses =
         subst (IsUseOf d.log.shape used_then) (sym places_gone)
         (use_of_gone d.log.shape (shape_is d d.log.shape flash p.top p.found p.without m p.with) d.spaces values_before key (own_space d.log.shape d.log.pending gone logs.pending_are)
-        (rising d d.log.shape flash p.top p.found p.without m p.with) (Some old) p.old_is p.with.uses);
+        (places_rise d d.log.shape flash p.top p.found p.without m p.with) (Some old) p.old_is p.with.uses);
   }
 
 gone_stands_at : (d : Parts) (flash : Flash) (m : Map) (key : Key) (old : Place) → Drops d d.log.shape flash m key old

@@ -1,13 +1,15 @@
 -- A change of the map after a step that keeps it: what remains of it, and what one leaves that was interrupted.
-use Rattle.std.proofs.Common.{◌≡◌, ℕ, ◌<◌, ◌≤◌, sym, ap, subst, ◌∙◌, arith, false, List, length, Option, Result, Ok, Err}
-use Rattle.std.specs.Prelude.{IfErr, OnOk}
-use Rattle.pk_base.{specs.Entry.Place, specs.Shape.Shape, specs.Shape.charge, specs.Shape.greatest, specs.Shape.page_entries, specs.Key.Key}
-use Rattle.pk_nand.{specs.declared.types.Fault.Fault, specs.declared.types.Fault.TheVariants.Stopped, specs.BoardState.BoardState, specs.Calls.IsReady}
-use Rattle.pk_parts.{specs.Parts.Parts, specs.Parts.frames_of, specs.Moves.KeepsAll, specs.Moves.BreaksAll, specs.Moves.OnlyCommits, specs.Moves.LeavesValues}
+use Rattle.std.proofs.Common.{◌≡◌, ℕ, ◌<◌, ◌≤◌, sym, ap, subst, ◌∙◌, arith, false, List, length, Option, Some, Result, Ok, Err}
+use Rattle.std.specs.{Prelude.IfErr, Prelude.OnOk, FinMap.insert, FinMap.remove}
+use Rattle.pk_base.{specs.Entry.Place, specs.Shape.Shape, specs.Shape.charge, specs.Shape.greatest, specs.Shape.page_entries, specs.Key.Key, specs.Map.Map}
+use Rattle.pk_nand.{specs.declared.types.Fault.Fault, specs.declared.types.Fault.TheVariants.Reading, specs.declared.types.Fault.TheVariants.Stopped, specs.BoardState.BoardState, specs.Calls.IsReady}
+use Rattle.pk_model.{specs.Steps.Step, specs.Growth.Goes, specs.Crashes.CrashFinds, specs.Crashes.change}
+use Rattle.pk_parts.{specs.Parts.Parts, specs.Parts.frames_of, specs.Moves.KeepsAll, specs.Moves.BreaksAll, specs.Moves.OnlyCommits, specs.Moves.LeavesValues, specs.Moves.StandsFor}
+use Rattle.pk_parts.{specs.Moves.Keeps, proofs.Keeping.board_has}
 use Rattle.pk_background.{specs.Emptying.StepOrRead, specs.Emptying.KeepsOrReads, specs.Emptying.OnRunning, specs.Spacing.needs, proofs.Steps.shape_committed}
 use Rattle.pk_background.proofs.ReadSteps.{Passes, reading_passes, reads_nothing, reading_failed, reading_then, running_ok}
-use Rattle.pk_changes.specs.Changes.{PutsAll, FailsToPut, TakesAll, FailsToTake, CanPut, CanTake, StepPuts, StepTakes, PutsOrReads, TakesOrReads, StaysBetween}
-use Rattle.pk_changes.proofs.Putting.{some_may_put, some_may_take, reclaim_same, put_broken, take_broken, puts_later, fails_later, takes_later, fails_to_take_later}
+use Rattle.pk_changes.specs.Changes.{MayPut, MayTake, Changes, PutsAll, FailsToPut, TakesAll, FailsToTake, CanPut, CanTake, StepPuts, StepTakes, PutsOrReads, TakesOrReads, StaysBetween}
+use Rattle.pk_changes.proofs.Putting.{may_put_after, may_take_after, reclaim_same, put_broken, take_broken, later_reaches, later_goes}
 
 -- ---- what a drive runs by
 
@@ -42,7 +44,7 @@ few_after a b same less few =
     omega (arith, less, here)
 
 -- what a drive keeps to, if a read failed before the change
-pub stays_kept : (a b : Parts) → LeavesValues a b → length b.log.pending ≤ length a.log.pending → length a.log.pending < page_entries a.log.shape → StaysBetween a b
+stays_kept : (a b : Parts) → LeavesValues a b → length b.log.pending ≤ length a.log.pending → length a.log.pending < page_entries a.log.shape → StaysBetween a b
 stays_kept a b leaves less few = record {
   frames = leaves.frames;
   stopped = ap (λ (d : Parts). d.stopped) leaves.rest;
@@ -50,7 +52,12 @@ stays_kept a b leaves less few = record {
   few = omega (arith, less, few);
 }
 
-module _ (a b : Parts) (n : ℕ) (s0 s1 : BoardState) (u : Unit {0}) (leaves : LeavesValues a b) (less : length b.log.pending ≤ length a.log.pending) (step : KeepsOrReads a b n s0 s1 (Ok u)) where
+pub stays_failed : (e : Fault) (a b : Parts) → length a.log.pending < page_entries a.log.shape → OnRunning {T = Unit {0}} (LeavesValues a b) (Err e)
+    → OnRunning {T = Unit {0}} (length b.log.pending ≤ length a.log.pending) (Err e) → OnRunning {T = Unit {0}} (StaysBetween a b) (Err e)
+stays_failed Reading a b few leaves less = stays_kept a b leaves less few
+stays_failed Stopped a b few leaves less = tt
+
+module _ {a b : Parts} {n : ℕ} {s0 s1 : BoardState} {u : Unit {0}} (leaves : LeavesValues a b) (less : length b.log.pending ≤ length a.log.pending) (step : KeepsOrReads a b n s0 s1 (Ok u)) where
   keeps : KeepsAll a b s0 s1
   keeps = step.came.0
 
@@ -62,7 +69,11 @@ module _ (a b : Parts) (n : ℕ) (s0 s1 : BoardState) (u : Unit {0}) (leaves : L
       let same = leaves.same_shape in
       record {
         ready = subst (λ (s : Shape). IsReady s1 s) (sym same) step.ready;
-        may = some_may_put a b s0 s1 key value place can.ready can.may keeps same;
+        may = (
+          can.may.0,
+          subst (λ (s : Shape). MayPut b s s1.pages can.may.0 key value place) (sym same)
+              (may_put_after a b a.log.shape can.may.0 s0 s1 key value place can.ready.shape_is can.may.1 (keeps a.log.shape can.may.0 can.may.1.stands)),
+        );
         short = subst (λ (s : Shape). length value ≤ greatest s) (sym same) can.short;
         few = few_after a b same less can.few;
       }
@@ -76,27 +87,53 @@ module _ (a b : Parts) (n : ℕ) (s0 s1 : BoardState) (u : Unit {0}) (leaves : L
       let same = leaves.same_shape in
       record {
         ready = subst (λ (s : Shape). IsReady s1 s) (sym same) step.ready;
-        may = some_may_take a b s0 s1 key place can.ready can.may keeps same;
+        may = (
+          can.may.0,
+          subst (λ (s : Shape). MayTake b s s1.pages can.may.0 key place) (sym same)
+              (may_take_after a b a.log.shape can.may.0 s0 s1 key place can.ready.shape_is can.may.1 (keeps a.log.shape can.may.0 can.may.1.stands)),
+        );
         few = few_after a b same less can.few;
       }
 
   module _ (r : Result Unit Fault) (e : Parts) (s2 : BoardState) (ready : IsReady s0 a.log.shape) where
+    -- a change of the map, by what it asks before the step that keeps it, and what after
+    module _ (changed : Map → Map) (Before After : Shape → Map → Type 0) (stands : (shape : Shape) (m : Map) → Before shape m → StandsFor a shape s0.pages m)
+        (after : (shape : Shape) (m : Map) → s0.shape ≡ Some shape → Before shape m → Keeps a b shape m s0 s1 → After shape m) where
+      abbrev AllMade : (Shape → Map → Type 0) → BoardState → Type 0
+      AllMade May s = (shape : Shape) (m : Map) → May shape m → Changes e shape m (changed m) s s2
+
+      abbrev AllFail : (Shape → Map → Type 0) → BoardState → Type 0
+      AllFail May s = (shape : Shape) (m : Map) → May shape m → Goes shape s s2 (CrashFinds shape (change (changed m)) s.pages m)
+
+      change_made : AllMade After s1 → AllMade Before s0
+      change_made changes shape m may =
+          let one = keeps shape m (stands shape m may) in
+          let has = board_has a s0 shape m ready (stands shape m may) in
+          let later = changes shape m (after shape m has may one) in
+          record { stands = later.stands; cuts = later_reaches shape s0 s1 has m (changed m) one.cuts one.still s2 later.cuts }
+
+      change_failed : AllFail After s1 → AllFail Before s0
+      change_failed fails shape m may =
+          let one = keeps shape m (stands shape m may) in
+          let has = board_has a s0 shape m ready (stands shape m may) in
+          later_goes shape s0 s1 has m (changed m) one.cuts one.still s2 (fails shape m (after shape m has may one))
+
+      step_later : Step (λ (x : Unit). AllMade After s1) (AllFail After s1) b.log.shape 0 s1 s2 r → StepOrRead (λ (x : Unit). AllMade Before s0) (KeepsAll a e s0 s2) (AllFail Before s0) a.log.shape n s0 s2 r
+      step_later second =
+          reading_then r (λ (x : Unit). AllMade After s1) (λ (x : Unit). AllMade Before s0) ⊥ (KeepsAll a e s0 s2) (AllFail After s1) (AllFail Before s0)
+          a.log.shape n 0 n s0 s1 s2 (omega arith) made (λ x. change_made) (λ none. absurd none) change_failed
+          (subst (λ (s : Shape). StepOrRead (λ (x : Unit). AllMade After s1) ⊥ (AllFail After s1) s 0 s1 s2 r) leaves.same_shape
+          (reads_nothing r (λ (x : Unit). AllMade After s1) ⊥ (AllFail After s1) b.log.shape 0 s1 s2 second))
+
     pub step_puts_later : (key : Key) (value : List ℕ) (place : Option Place) → StepPuts b e 0 s1 s2 key value place r → PutsOrReads a e n s0 s2 key value place r
-    step_puts_later key value place second =
-        reading_then r (λ (x : Unit). PutsAll b e s1 s2 key value place) (λ (x : Unit). PutsAll a e s0 s2 key value place) ⊥
-        (KeepsAll a e s0 s2) (FailsToPut b s1 s2 key value place) (FailsToPut a s0 s2 key value place)
-        a.log.shape n 0 n s0 s1 s2 (omega arith) made
-        (λ x puts. puts_later (Ok x) a b e s0 s1 s2 key value place ready keeps puts) (λ none. absurd none) (λ fails. fails_later (Err Stopped) a b s0 s1 s2 key value place ready keeps fails)
-        (subst (λ (s : Shape). StepOrRead (λ (x : Unit). PutsAll b e s1 s2 key value place) ⊥ (FailsToPut b s1 s2 key value place) s 0 s1 s2 r) leaves.same_shape
-        (reads_nothing r (λ (x : Unit). PutsAll b e s1 s2 key value place) ⊥ (FailsToPut b s1 s2 key value place) b.log.shape 0 s1 s2 second))
+    step_puts_later key value place =
+        step_later (λ m. insert m key value) (λ shape m. MayPut a shape s0.pages m key value place) (λ shape m. MayPut b shape s1.pages m key value place)
+        (λ shape m may. may.stands) (λ shape m. may_put_after a b shape m s0 s1 key value place)
 
     pub step_takes_later : (key : Key) (place : Place) → StepTakes b e 0 s1 s2 key place r → TakesOrReads a e n s0 s2 key place r
-    step_takes_later key place second =
-        reading_then r (λ (x : Unit). TakesAll b e s1 s2 key place) (λ (x : Unit). TakesAll a e s0 s2 key place) ⊥ (KeepsAll a e s0 s2) (FailsToTake b s1 s2 key place) (FailsToTake a s0 s2 key place)
-        a.log.shape n 0 n s0 s1 s2 (omega arith) made
-        (λ x takes. takes_later (Ok x) a b e s0 s1 s2 key place ready keeps takes) (λ none. absurd none) (λ fails. fails_to_take_later (Err Stopped) a b s0 s1 s2 key place ready keeps fails)
-        (subst (λ (s : Shape). StepOrRead (λ (x : Unit). TakesAll b e s1 s2 key place) ⊥ (FailsToTake b s1 s2 key place) s 0 s1 s2 r) leaves.same_shape
-        (reads_nothing r (λ (x : Unit). TakesAll b e s1 s2 key place) ⊥ (FailsToTake b s1 s2 key place) b.log.shape 0 s1 s2 second))
+    step_takes_later key place =
+        step_later (λ m. remove m key) (λ shape m. MayTake a shape s0.pages m key place) (λ shape m. MayTake b shape s1.pages m key place)
+        (λ shape m may. may.stands) (λ shape m. may_take_after a b shape m s0 s1 key place)
 
 -- ---- room could not be made
 

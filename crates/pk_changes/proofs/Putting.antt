@@ -4,14 +4,13 @@ use Rattle.std.{specs.Prelude.OnOk, specs.Prelude.OnErr, specs.FinMap.insert, sp
 use Rattle.pk_base.{specs.Entry.Place, specs.Key.Key, specs.Key.key_cmp, specs.Key.space_of, specs.Shape.Shape, specs.Shape.charge, specs.Page.Flash, specs.EntryChecks.IsPlace, specs.Mark.all_posted}
 use Rattle.pk_base.specs.Map.{Map, live}
 use Rattle.pk_plan.specs.declared.owner.Owner.TheVariants.{Values as for_values}
-use Rattle.pk_nand.{specs.declared.types.Fault.Fault, specs.BoardState.BoardState, specs.Calls.IsReady, specs.Crash.ReachedBy}
+use Rattle.pk_nand.{specs.declared.types.Fault.Fault, specs.BoardState.BoardState, specs.Calls.IsReady}
 use Rattle.pk_pool.specs.Blocks.{used_by}
 use Rattle.pk_model.{specs.Growth.Reaches, specs.Growth.Goes, specs.Crashes.CrashFinds, specs.Crashes.commit, specs.Crashes.change}
-use Rattle.pk_model.specs.Spaces.{in_space, limit_of, limits_at}
-use Rattle.pk_model.proofs.Growing.{at_end, weaken, weaken_went, Reaches-then, Goes-then, reached_limits}
+use Rattle.pk_model.{specs.Spaces.in_space, specs.Spaces.limit_of, specs.Spaces.limits_at, proofs.Growing.at_end, proofs.Growing.Reaches-then, proofs.Growing.Goes-then, proofs.Growing.reached_limits}
 use Rattle.pk_values.{specs.State.needs_reclaim, specs.Entries.IsInOpen}
 use Rattle.pk_parts.{specs.Parts.Parts, specs.Moves.StandsFor, specs.Moves.Keeps, specs.Moves.KeepsAll, specs.Moves.BreaksAll, specs.Moves.IsWritten, proofs.Keeping.board_has}
-use Rattle.pk_changes.{specs.Noting.Puts, specs.Noting.Drops, proofs.Changing.IsStill, proofs.Changing.kept_goes, proofs.Changing.changes, proofs.Changing.change_goes}
+use Rattle.pk_changes.{specs.Noting.Puts, specs.Noting.Drops, proofs.Changing.IsStill, proofs.Changing.kept_reaches, proofs.Changing.kept_goes, proofs.Changing.taken_reaches, proofs.Changing.taken_goes}
 use Rattle.pk_changes.specs.Changes.{HasRoomFor, MayPut, MayTake, PutsAll, FailsToPut, TakesAll, FailsToTake}
 
 -- ---- a step that keeps the map leaves what a change requires
@@ -62,57 +61,25 @@ module _ (shape : Shape) (s0 s1 : BoardState) (has : s0.shape ≡ Some shape) (m
   silent : all_posted first.0 ≡ []
   silent = (at_end first.0 s0 s1 (CrashFinds shape commit s0.pages m) first.1).0
 
-  kept_cut : (f : Flash) (q : List ℕ) → CrashFinds shape commit s0.pages m f q → CrashFinds shape (change m') s0.pages m f q
-  kept_cut f q (quiet, inl same) = (quiet, inl same)
-  kept_cut f q (quiet, inr is) = (quiet, inr (inl is))
-
-  begun : ReachedBy first.0 s0 s1 (CrashFinds shape (change m') s0.pages m)
-  begun = weaken first.0 s0 s1 (CrashFinds shape commit s0.pages m) (CrashFinds shape (change m') s0.pages m) kept_cut first.1
-
   later_cut : (f : Flash) (q : List ℕ) → CrashFinds shape (change m') s1.pages m f q → CrashFinds shape (change m') s0.pages m f (all_posted first.0 ++ q)
   later_cut f q (quiet, inl same) =
       (ap (λ (p : List ℕ). p ++ q) silent ∙ quiet, elim still [ inl as_before ↦ inl (same ∙ as_before) | inr is ↦ inr (inl (same ∙ is)) ])
   later_cut f q (quiet, inr is) = (ap (λ (p : List ℕ). p ++ q) silent ∙ quiet, inr is)
 
   pub later_reaches : (s2 : BoardState) → Reaches shape s1 s2 (CrashFinds shape (change m') s1.pages m) → Reaches shape s0 s2 (CrashFinds shape (change m') s0.pages m)
-  later_reaches s2 second = Reaches-then shape first.0 s0 s1 (CrashFinds shape (change m') s0.pages m) has begun first.2 s2 (CrashFinds shape (change m') s1.pages m) later_cut second
+  unfolding kept_reaches
+  later_reaches s2 second = Reaches-then shape first.0 s0 s1 (CrashFinds shape (change m') s0.pages m) has (kept_reaches shape s0 s1 has m m' first).1 first.2 s2 (CrashFinds shape (change m') s1.pages m) later_cut second
 
   pub later_goes : (s2 : BoardState) → Goes shape s1 s2 (CrashFinds shape (change m') s1.pages m) → Goes shape s0 s2 (CrashFinds shape (change m') s0.pages m)
-  later_goes s2 second = Goes-then shape first.0 s0 s1 (CrashFinds shape (change m') s0.pages m) has begun first.2 s2 (CrashFinds shape (change m') s1.pages m) later_cut second
+  unfolding kept_reaches
+  later_goes s2 second = Goes-then shape first.0 s0 s1 (CrashFinds shape (change m') s0.pages m) has (kept_reaches shape s0 s1 has m m' first).1 first.2 s2 (CrashFinds shape (change m') s1.pages m) later_cut second
 
-pub puts_later : (r : Result Unit Fault) (a b e : Parts) (s0 s1 s2 : BoardState) (key : Key) (value : List ℕ) (place : Option Place) → IsReady s0 a.log.shape → KeepsAll a b s0 s1
-    → OnOk r (PutsAll b e s1 s2 key value place) → OnOk r (PutsAll a e s0 s2 key value place)
-puts_later (Ok x) a b e s0 s1 s2 key value place ready keeps puts = λ shape m may.
-    let one = keeps shape m may.stands in
-    let has = board_has a s0 shape m ready may.stands in
-    let later = puts shape m (may_put_after a b shape m s0 s1 key value place has may one) in
-    record { stands = later.stands; cuts = later_reaches shape s0 s1 has m (insert m key value) one.cuts one.still s2 later.cuts }
-puts_later (Err f) a b e s0 s1 s2 key value place ready keeps puts = tt
+  -- the change was in memory, before a step that keeps the map after it
+  pub changes : (s2 : BoardState) → Reaches shape s1 s2 (CrashFinds shape commit s1.pages m') → Reaches shape s0 s2 (CrashFinds shape (change m') s0.pages m)
+  changes s2 second = later_reaches s2 (taken_reaches shape s1 s2 m m' second)
 
-pub fails_later : (r : Result Unit Fault) (a b : Parts) (s0 s1 s2 : BoardState) (key : Key) (value : List ℕ) (place : Option Place) → IsReady s0 a.log.shape → KeepsAll a b s0 s1
-    → OnErr r (FailsToPut b s1 s2 key value place) → OnErr r (FailsToPut a s0 s2 key value place)
-fails_later (Ok x) a b s0 s1 s2 key value place ready keeps puts = tt
-fails_later (Err f) a b s0 s1 s2 key value place ready keeps puts = λ shape m may.
-    let one = keeps shape m may.stands in
-    let has = board_has a s0 shape m ready may.stands in
-    later_goes shape s0 s1 has m (insert m key value) one.cuts one.still s2 (puts shape m (may_put_after a b shape m s0 s1 key value place has may one))
-
-pub takes_later : (r : Result Unit Fault) (a b e : Parts) (s0 s1 s2 : BoardState) (key : Key) (place : Place) → IsReady s0 a.log.shape → KeepsAll a b s0 s1
-    → OnOk r (TakesAll b e s1 s2 key place) → OnOk r (TakesAll a e s0 s2 key place)
-takes_later (Ok x) a b e s0 s1 s2 key place ready keeps takes = λ shape m may.
-    let one = keeps shape m may.stands in
-    let has = board_has a s0 shape m ready may.stands in
-    let later = takes shape m (may_take_after a b shape m s0 s1 key place has may one) in
-    record { stands = later.stands; cuts = later_reaches shape s0 s1 has m (remove m key) one.cuts one.still s2 later.cuts }
-takes_later (Err f) a b e s0 s1 s2 key place ready keeps takes = tt
-
-pub fails_to_take_later : (r : Result Unit Fault) (a b : Parts) (s0 s1 s2 : BoardState) (key : Key) (place : Place) → IsReady s0 a.log.shape → KeepsAll a b s0 s1
-    → OnErr r (FailsToTake b s1 s2 key place) → OnErr r (FailsToTake a s0 s2 key place)
-fails_to_take_later (Ok x) a b s0 s1 s2 key place ready keeps takes = tt
-fails_to_take_later (Err f) a b s0 s1 s2 key place ready keeps takes = λ shape m may.
-    let one = keeps shape m may.stands in
-    let has = board_has a s0 shape m ready may.stands in
-    later_goes shape s0 s1 has m (remove m key) one.cuts one.still s2 (takes shape m (may_take_after a b shape m s0 s1 key place has may one))
+  pub change_goes : (s2 : BoardState) → Goes shape s1 s2 (CrashFinds shape commit s1.pages m') → Goes shape s0 s2 (CrashFinds shape (change m') s0.pages m)
+  change_goes s2 second = later_goes s2 (taken_goes shape s1 s2 m m' second)
 
 -- the step that was to keep the map stopped the drive
 pub put_broken : (a : Parts) (s0 s1 : BoardState) (key : Key) (value : List ℕ) (place : Option Place) → IsReady s0 a.log.shape → BreaksAll a s0 s1 → FailsToPut a s0 s1 key value place
@@ -166,19 +133,6 @@ some_puts a b s0 s1 key value page old ready may keeps same written place in_ope
           (puts_of b a.log.shape a.log.shape s1.pages may.0 key value page old refl mid written place in_open),
     )
 
--- what a change requires, for some map, after a step that keeps it
-pub some_may_put : (a b : Parts) (s0 s1 : BoardState) (key : Key) (value : List ℕ) (place : Option Place) → IsReady s0 a.log.shape
-    → (m : Map) × MayPut a a.log.shape s0.pages m key value place → KeepsAll a b s0 s1 → b.log.shape ≡ a.log.shape
-    → (m : Map) × MayPut b b.log.shape s1.pages m key value place
-some_may_put a b s0 s1 key value place ready may keeps same =
-    (may.0, subst (λ (s : Shape). MayPut b s s1.pages may.0 key value place) (sym same) (may_put_after a b a.log.shape may.0 s0 s1 key value place ready.shape_is may.1 (keeps a.log.shape may.0 may.1.stands)))
-
-pub some_may_take : (a b : Parts) (s0 s1 : BoardState) (key : Key) (place : Place) → IsReady s0 a.log.shape
-    → (m : Map) × MayTake a a.log.shape s0.pages m key place → KeepsAll a b s0 s1 → b.log.shape ≡ a.log.shape
-    → (m : Map) × MayTake b b.log.shape s1.pages m key place
-some_may_take a b s0 s1 key place ready may keeps same =
-    (may.0, subst (λ (s : Shape). MayTake b s s1.pages may.0 key place) (sym same) (may_take_after a b a.log.shape may.0 s0 s1 key place ready.shape_is may.1 (keeps a.log.shape may.0 may.1.stands)))
-
 pub some_drops : (a : Parts) (s0 : BoardState) (key : Key) (old : Place) → (m : Map) × MayTake a a.log.shape s0.pages m key old → (flash : Flash) × (m : Map) × Drops a a.log.shape flash m key old
 some_drops a s0 key old may = (s0.pages, may.0, drops_of a a.log.shape s0.pages may.0 key old may.1)
 
@@ -226,23 +180,13 @@ module _ (a c : Parts) (s0 : BoardState) (key : Key) (old : Place) (ready : IsRe
   some_taken may same =
       (remove may.0 key, subst (λ (s : Shape). StandsFor c s s0.pages (remove may.0 key)) (sym same) (noted a.log.shape s0.pages may.0 (drops_of a a.log.shape s0.pages may.0 key old may.1)))
 
-  -- the cuts after a change in memory
-  taken_cut : (shape : Shape) (m : Map) (f : Flash) (q : List ℕ) → CrashFinds shape commit s0.pages (remove m key) f q → CrashFinds shape (change (remove m key)) s0.pages m f q
-  taken_cut shape m f q (quiet, inl same) = (quiet, inl same)
-  taken_cut shape m f q (quiet, inr is) = (quiet, inr (inr is))
-
   pub take_changed : (r : Result Unit Fault) (e : Parts) (s2 : BoardState) → OnOk r (KeepsAll c e s0 s2) → OnOk r (TakesAll a e s0 s2 key old)
   take_changed (Ok x) e s2 kept = λ shape m may.
       let two = kept shape (remove m key) (noted shape s0.pages m (drops_of a shape s0.pages m key old may)) in
-      record {
-        stands = two.stands;
-        cuts =
-            (two.cuts.0, weaken two.cuts.0 s0 s2 (CrashFinds shape commit s0.pages (remove m key)) (CrashFinds shape (change (remove m key)) s0.pages m) (taken_cut shape m) two.cuts.1, two.cuts.2);
-      }
+      record { stands = two.stands; cuts = taken_reaches shape s0 s2 m (remove m key) two.cuts }
   take_changed (Err f) e s2 kept = tt
 
   pub take_failed : (r : Result Unit Fault) (s2 : BoardState) → OnErr r (BreaksAll c s0 s2) → OnErr r (FailsToTake a s0 s2 key old)
   take_failed (Ok x) s2 breaks = tt
   take_failed (Err f) s2 breaks = λ shape m may.
-      let two = breaks shape (remove m key) (noted shape s0.pages m (drops_of a shape s0.pages m key old may)) in
-      (two.0, weaken_went two.0 s0 s2 (CrashFinds shape commit s0.pages (remove m key)) (CrashFinds shape (change (remove m key)) s0.pages m) (taken_cut shape m) two.1, two.2)
+      taken_goes shape s0 s2 m (remove m key) (breaks shape (remove m key) (noted shape s0.pages m (drops_of a shape s0.pages m key old may)))

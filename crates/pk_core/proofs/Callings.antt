@@ -1,39 +1,35 @@
 -- How many flash operations a command makes.
-use Rattle.std.proofs.Common.{◌≡◌, ℕ, ◌-◌, ◌≤◌, sym, ap, subst, ◌∙◌, arith, false}
+use Rattle.std.proofs.Common.{◌≡◌, ℕ, ◌+◌, ◌-◌, ◌≤◌, sym, ap, subst, ◌∙◌, arith, false}
 use Rattle.std.specs.Prelude.{if◌then◌else◌, ◌==◌}
 use Rattle.pk_base.{specs.Shape.Shape, specs.Shape.IsShape, specs.Shape.most_calls, proofs.ShapeLemmas.block_pages_positive}
-use Rattle.pk_nand.{specs.BoardState.BoardState, specs.BoardState.shape_or_none, specs.Calls.last_count, specs.Counts.counted_by}
+use Rattle.pk_nand.{specs.BoardState.BoardState, specs.BoardState.shape_or_none, specs.Calls.last_count, specs.Counts.counted_by, specs.Effects.OnlyReading}
 use Rattle.pk_model.specs.Wear.{roots}
 use Rattle.pk_call.specs.Calling.{FewCalls, most_calls_of}
 use Rattle.pk_background.{specs.Costs.Spends, proofs.Callings.spends_still}
 use Rattle.pk_parts.{specs.Parts.Parts, specs.Parts.most_looks, specs.Agreeing.DriveOnFlash, specs.Quiet.ReadsOnly, specs.Quiet.ReadsFailing, proofs.Unchanging.counted_by-min}
+use Rattle.pk_core.proofs.Sights.{only_reads, only_failing}
 
 -- ---- reads alone
 
 reads_are : (before now : ℕ) → before ≤ now → now ≤ last_count → now ≡ counted_by (now - before) before
 reads_are before now up few = let e = counted_by-min (now - before) before (omega (arith, up, few)) in omega (arith, e, up, few)
 
-pub few_reads : (old new : BoardState) (most n : ℕ) → most ≤ n → ReadsOnly old new most → FewCalls n old new
-few_reads old new most n less made = record {
+few_only : (old new : BoardState) (n : ℕ) → OnlyReading old new → new.reads ≤ old.reads + n → old.reads ≤ new.reads → new.reads ≤ last_count → FewCalls n old new
+few_only old new n only within up few = record {
   reads_made = new.reads - old.reads;
   programs_made = 0;
   erases_made = 0;
-  few = (let within = made.within in omega (arith, within, less));
-  reads = reads_are old.reads new.reads made.up made.few;
-  programs = ap (λ (b : BoardState). b.programs) made.board;
-  erases = ap (λ (b : BoardState). b.erases) made.board;
+  few = omega (arith, within);
+  reads = reads_are old.reads new.reads up few;
+  programs = ap (λ (b : BoardState). b.programs) only;
+  erases = ap (λ (b : BoardState). b.erases) only;
 }
 
+pub few_reads : (old new : BoardState) (most n : ℕ) → most ≤ n → ReadsOnly old new most → FewCalls n old new
+few_reads old new most n less made = let within = made.within in few_only old new n (only_reads old new most made) (omega (arith, within, less)) made.up made.few
+
 pub few_breaks : (old new : BoardState) (most n : ℕ) → most ≤ n → ReadsFailing old new most → FewCalls n old new
-few_breaks old new most n less made = record {
-  reads_made = new.reads - old.reads;
-  programs_made = 0;
-  erases_made = 0;
-  few = (let within = made.within in omega (arith, within, less));
-  reads = reads_are old.reads new.reads made.up made.few;
-  programs = ap (λ (b : BoardState). b.programs) made.board;
-  erases = ap (λ (b : BoardState). b.erases) made.board;
-}
+few_breaks old new most n less made = let within = made.within in few_only old new n (only_failing old new most made) (omega (arith, within, less)) made.up made.few
 
 pub looks_less : (d : Parts) → most_looks d ≤ 68
 looks_less d = omega arith

@@ -1,12 +1,19 @@
 -- A command that is refused by the checks that read it alone.
-use Rattle.std.proofs.Common.{◌≡◌, ◌≤◌, inl, ℕ, length, refl, sym, ap, subst, ◌∙◌, arith, false, List, Some}
-use Rattle.pk_nvme.{specs.Command.Command, specs.Reply.refusal}
+use Rattle.std.proofs.Common.{◌≡◌, ◌≤◌, inl, ℕ, length, refl, sym, ap, subst, ◌∙◌, arith, false, List, [], Some}
+use Rattle.pk_base.specs.declared.sizes.TheConstants.{MOST_SPACES}
+use Rattle.pk_nvme.{specs.Command.Command, specs.Reply.refusal, specs.Opcode.op_of, specs.Seen.command_of, specs.declared.opcode.Opcode.Opcode, specs.declared.request.Request.Request}
 use Rattle.pk_nand.{specs.BoardState.BoardState, specs.BoardState.shape_of as shape_told, specs.BoardState.shape_or_none, specs.Calls.last_count}
-use Rattle.pk_model.{specs.Answer.early, proofs.Answering.refuses_early}
+use Rattle.pk_model.{specs.Answer.early, proofs.Answering.refuses_early, proofs.Answering.NamesSpace, proofs.Answering.key_spaced}
 use Rattle.pk_call.{specs.Seen.reply_of, specs.declared.types.Outcome.Outcome}
 use Rattle.pk_parts.{specs.Parts.Parts, specs.Parts.drive_limits, specs.Parts.sight_of, specs.Agreeing.DriveOnFlash, proofs.Unchanging.reads_none}
-use Rattle.pk_core.{specs.Done.Does, specs.Quiet.eleven, proofs.Standing.stands_for, proofs.Standing.own_limits, proofs.Statuses.early_sound}
+use Rattle.pk_core.{specs.Done.Does, specs.Quiet.eleven, specs.Serving.IsServable, proofs.Standing.stands_for, proofs.Standing.own_limits, proofs.Statuses.early_sound}
 use Rattle.pk_core.proofs.Unchanging.{AnswersAll, does_reads}
+
+-- a command that is served names a namespace that there may be
+pub request_space : (d : Parts) (board : BoardState) (r : Request) (k : Opcode) → NamesSpace k → op_of r.opcode ≡ Some k → IsServable d board r → (1 ≤ r.namespace) × (r.namespace ≤ MOST_SPACES)
+request_space d board r k names is s =
+    let spaced = key_spaced (length (drive_limits d)) d.log.shape (command_of r []) k names is s.passed in
+    (spaced.some, omega (arith, spaced.most, s.few_spaces))
 
 -- the board has the drive's shape
 pub told_shape : (d : Parts) (board : BoardState) → DriveOnFlash d board.shape board.pages → shape_told board ≡ d.log.shape

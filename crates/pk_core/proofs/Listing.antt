@@ -101,10 +101,7 @@ pub record ListsMore (all : List Key) (room : ℕ) (new : List ℕ) (at next : F
 
 pub lists_next : (all : List Key) (room : ℕ) (into new : List ℕ) (at next : Filled) (rest later : List Key) → 4 ≤ at.end → at.end ≤ length into → at.count ≤ at.end
     → Lists all room into at rest → OffersFirst into at room rest (Some next) new later → ListsMore all room new at next later
-lists_next all room into new at next [] later least within few l o = absurd (some_none next o.0)
-  where
-    some_none : (n : Filled) → ◌≡◌ {A = Option Filled} (Some n) None → ⊥
-    some_none n e = cc
+lists_next all room into new at next [] later least within few l o = absurd cc
 lists_next all room into new at next (x ∷ rest) later least within few l o =
     let some = listed_some x in
     let end : next.end ≡ at.end + length (listed x) = ap (λ (n : Filled). n.end) o.0.0 in
@@ -146,10 +143,7 @@ left_once w flash arena rs active frozen a b one other =
 pub gives_key : (space : ℕ) (into new : List ℕ) (at : Filled) (room : ℕ) (e : RustEntry) (key : Key) (next : Option Filled) (rest later : List (Key × Place))
     → key ≡ key_of (seen e) → WalkGives (Some e) rest later → OffersFirst into at room (own_keys space (key ∷ [])) next new []
     → OffersFirst into at room (own_keys space (keys_of rest)) next new (own_keys space (keys_of later))
-gives_key space into new at room e key next [] later is gives o = absurd (some_none e gives.0)
-  where
-    some_none : (x : RustEntry) → ◌≡◌ {A = Option RustEntry} (Some x) None → ⊥
-    some_none x same = cc
+gives_key space into new at room e key next [] later is gives o = absurd cc
 gives_key space into new at room e key next (x ∷ rest) later is gives o =
     let T : Bool → Type 0 = λ t. OffersFirst into at room (if t then x.0 ∷ [] else []) next new []
     → OffersFirst into at room (if t then x.0 ∷ own_keys space (keys_of rest) else []) next new (own_keys space (keys_of later)) in

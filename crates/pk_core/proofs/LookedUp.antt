@@ -5,11 +5,12 @@ use Rattle.pk_base.{specs.Entry.Place, specs.Key.Key, specs.Shape.charge}
 use Rattle.pk_nvme.{specs.Command.Command, specs.Command.key, specs.Opcode.op_of, specs.declared.opcode.Opcode.TheVariants.Retrieve, specs.Seen.command_of, specs.declared.request.Request.Request}
 use Rattle.pk_nand.{specs.declared.types.Fault.Fault, specs.BoardState.BoardState, specs.Calls.last_count}
 use Rattle.pk_call.specs.declared.types.Outcome.{Outcome}
-use Rattle.pk_parts.{specs.Parts.Parts, specs.Parts.is_half, specs.Parts.most_looks, specs.Quiet.ReadsOnly, specs.Quiet.ReadsFailing, specs.Quiet.Looks}
+use Rattle.pk_parts.{specs.Parts.Parts, specs.Parts.is_half, specs.Parts.most_looks, specs.Agreeing.DriveOnFlash, specs.Quiet.ReadsOnly, specs.Quiet.ReadsFailing, specs.Quiet.Looks}
 use Rattle.pk_parts.{specs.Staying.Stays, specs.Staying.StaysOrOpens, specs.Staying.IsNoted, proofs.Staying.stays_opens, proofs.Staying.stays_same}
 use Rattle.pk_background.specs.Emptying.{OnRunning}
 use Rattle.pk_core.{specs.Done.Executes, specs.Serving.IsServable, specs.Serving.IsCounted, specs.Serving.outcome_for, specs.Programming.ReadsNone, proofs.Came.came_running, proofs.Came.came_served}
-use Rattle.pk_core.{specs.LookedUp.IsLookedUp, specs.LookedUp.StoresOver, specs.LookedUp.DeletesAt, proofs.Executing.executes_quiet, proofs.Served.looks_behind, proofs.Served.does_behind}
+use Rattle.pk_core.{specs.LookedUp.IsLookedUp, specs.LookedUp.StoresOver, specs.LookedUp.DeletesAt, proofs.Executing.executes_quiet, proofs.Executing.same_but_walk, proofs.Served.looks_behind}
+use Rattle.pk_core.{specs.Quiet.OnlyLooks, proofs.Served.does_behind, proofs.Sights.only_reads, proofs.Sights.only_failing, proofs.Callings.few_looked, proofs.Callings.few_failed}
 use Rattle.pk_core.proofs.Unchanging.{unread_look}
 use Rattle.pk_changes.specs.Programming.{PutsQuietly, TakesQuietly, ReadsQuietly}
 
@@ -97,6 +98,14 @@ executes_behind d e f old mid new most c into o same made other count told did =
   agrees = did.agrees;
   does = does_behind d e f old mid new most c into o same made other count told did.does;
 }
+
+-- it changed nothing
+module _ (d e : Parts) (old new : BoardState) (most : ℕ) (same : e ≡ d) (a : DriveOnFlash d old.shape old.pages) (less : most ≤ 68) where
+  pub only_looked : ReadsOnly old new most → OnlyLooks d e old new
+  only_looked made = record { same = same_but_walk d e same; rest = only_reads old new most made; few = few_looked d old new a most less made }
+
+  pub only_unread : ReadsFailing old new most → OnlyLooks d e old new
+  only_unread made = record { same = same_but_walk d e same; rest = only_failing old new most made; few = few_failed d old new a most less made }
 
 -- a read of the lookup failed
 pub executes_unread : (d e : Parts) (old new : BoardState) (r : Request) (v into : List ℕ) (o : Outcome) (reads : ℕ)

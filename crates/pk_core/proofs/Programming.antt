@@ -1,10 +1,11 @@
 -- When a Store and a Delete wait for nothing, and what they program after their lookup.
 use Rattle.std.proofs.Common.{◌≡◌, ◌≢◌, inl, inr, ℕ, ◌+◌, ◌-◌, ◌*◌, ◌<◌, ◌≤◌, refl, sym, ap, subst, ◌∙◌, arith, Bool, true, false, not, ◌&&◌, ◌||◌, ◌==◌, List, [], ◌∷◌, ◌++◌, ◌⊎◌, length, reverse}
-use Rattle.std.proofs.Common.{Option, Some, None, Result, Ok, is_some, cond}
-use Rattle.std.{specs.Prelude.IsSome, specs.Prelude.if◌then◌else◌, specs.FinMap.Entries.find, specs.Ordering.eq_by_cmp, proofs.lemmas.List.reverse-append}
+use Rattle.std.proofs.Common.{Option, Some, None, is_some, cond}
 use Rattle.std.proofs.lemmas.Bool.{ne_eqb, cases_lt}
+use Rattle.std.{specs.Prelude.IsSome, specs.Prelude.if◌then◌else◌, specs.FinMap.Entries.find, specs.Ordering.eq_by_cmp, proofs.lemmas.List.reverse-append}
 use Rattle.pk_base.{specs.Shape.Shape, specs.Shape.IsShape, specs.Shape.charge, specs.Shape.buffer, specs.Shape.epoch_commits, specs.Entry.Entry, specs.Key.Key, specs.Key.key_cmp, specs.Firsts.firsts}
-use Rattle.pk_base.{specs.Page.Flash, specs.Page.page_at, specs.Page.commit_page, specs.Page.erased, specs.Map.Map, proofs.ShapeLemmas.block_pages_positive, specs.Refusal.Refusal}
+use Rattle.pk_base.{specs.Page.Flash, specs.Page.page_at, specs.Page.commit_page, specs.Page.erased, specs.Map.Map, proofs.ShapeLemmas.block_pages_positive}
+use Rattle.pk_base.proofs.Logic.{some_same, ok_same}
 use Rattle.pk_buf.specs.Table.{Table}
 use Rattle.pk_rootfmt.specs.Root.{Root}
 use Rattle.pk_nand.{specs.BoardState.BoardState, specs.Counts.counted_by}
@@ -71,12 +72,6 @@ none_length : (es : List Entry) → es ≢ [] → (length es == 0) ≡ false
 none_length [] some = absurd (some refl)
 none_length (e ∷ es) some = ne_eqb (length (e ∷ es)) 0 (λ x. omega (arith, x))
 
-same_tree : (x y : ℕ × Root) → ◌≡◌ {A = Option (ℕ × Root)} (Some x) (Some y) → x ≡ y
-same_tree x y e = cc
-
-same_lists : (x y : Found) → ◌≡◌ {A = Result Found Refusal} (Ok x) (Ok y) → x ≡ y
-same_lists x y e = cc
-
 -- of an epoch whose commits are all used the last one is not Erased
 commits_left : (e : JournalEpoch) → 0 < epoch_commits e.shape → (pages_of e ≤ 2 * (epoch_commits e.shape - 1)) → e.used < epoch_commits e.shape
 commits_left e positive few = by e.half few
@@ -88,10 +83,10 @@ commits_left e positive few = by e.half few
 module _ (d : Parts) (shape : Shape) (flash : Flash) (top : ℕ × Root) (found : Found) (without all : Map)
     (a : DriveOnFlashWith (settled_parts d) shape flash top found without all) (k : Key) (q : IsQuiet shape flash (sight_of d) k) where
   its_top : (q.is_tree.page_of_root, q.tree.root) ≡ top
-  its_top = same_tree _ top (sym q.is_tree.is_newest ∙ a.committed.is_top)
+  its_top = some_same _ top (sym q.is_tree.is_newest ∙ a.committed.is_top)
 
   its_found : q.tree.found ≡ found
-  its_found = same_lists q.tree.found found (sym q.is_tree.is_found ∙ (ap (λ (t : ℕ × Root). found_under shape (page_at flash) t.1) its_top ∙ a.committed.is_found))
+  its_found = ok_same q.tree.found found (sym q.is_tree.is_found ∙ (ap (λ (t : ℕ × Root). found_under shape (page_at flash) t.1) its_top ∙ a.committed.is_found))
 
   abbrev entries : List Entry
   entries = found.newest ++ d.log.pending

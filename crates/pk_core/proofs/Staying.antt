@@ -1,6 +1,6 @@
 -- What of a drive is unchanged, as the contract of a drive sees it.
-use Rattle.std.proofs.Common.{◌≡◌, ◌⊎◌, inl, inr, ℕ, sym, ap, subst, ◌∙◌, arith, Option, Some}
-use Rattle.pk_base.{specs.Shape.charge, specs.Page.page_at}
+use Rattle.std.proofs.Common.{◌≡◌, ◌⊎◌, inl, inr, ℕ, sym, ap, subst, ◌∙◌, arith, Some}
+use Rattle.pk_base.{specs.Shape.charge, specs.Page.page_at, proofs.Logic.some_same}
 use Rattle.pk_rootfmt.{specs.Root.Root, specs.Newest.newest_root}
 use Rattle.pk_nand.{specs.BoardState.BoardState, specs.BoardState.shape_of, specs.BoardState.shape_or_none, specs.Effects.OnlyFlash}
 use Rattle.pk_call.specs.Moving.{KeepsFresh, BlocksGrow}
@@ -17,15 +17,12 @@ frees_then a b c first second = record {
 
 -- ---- what is seen of it
 
-same_top : (x y : ℕ × Root) → ◌≡◌ {A = Option (ℕ × Root)} (Some x) (Some y) → x ≡ y
-same_top x y e = cc
-
 -- the epoch of the newest root
 epoch_is : (d : Parts) (board : BoardState) (a : DriveOnFlash d board.shape board.pages) (top : ℕ × Root)
     → newest_root (shape_or_none board.shape) (page_at board.pages) ≡ Some top → d.log.root.epoch ≡ top.1.epoch
 epoch_is d board a top is =
     let told : newest_root a.shape (page_at board.pages) ≡ Some top = subst (λ o. newest_root (shape_or_none o) (page_at board.pages) ≡ Some top) a.told_is is in
-    let same : a.top ≡ top = same_top a.top top (sym a.with.committed.is_top ∙ told) in
+    let same : a.top ≡ top = some_same a.top top (sym a.with.committed.is_top ∙ told) in
     ap (λ (r : Root). r.epoch) a.with.index.logs.root_is ∙ ap (λ (t : ℕ × Root). t.1.epoch) same
 
 pub keeps_fresh : (d e : Parts) (old new : BoardState) → DriveOnFlash d old.shape old.pages → DriveOnFlash e new.shape new.pages

@@ -20,12 +20,9 @@ use Rattle.pk_background.specs.Spacing.{SameMapAll, MovesOrReads, StaysSame, nee
 use Rattle.pk_background.proofs.ReadSteps.{Passes, passes_none, reading_then, reading_failed, running_says}
 use Rattle.pk_background.proofs.SameMaps.{same_of, same_unread, passes_moved, SameMapAll-then}
 use Rattle.pk_changes.{specs.Changes.MayPut, specs.Changes.CanPut, specs.Changes.PutsAll, specs.Changes.FailsToPut, specs.Changes.PutsOrReads, specs.Changes.StaysBetween, proofs.Changing.kept_goes}
-use Rattle.pk_changes.{proofs.Putting.later_reaches, proofs.Putting.later_goes, proofs.Putting.room_after}
+use Rattle.pk_changes.{specs.Programming.PutsQuietly, proofs.Putting.later_reaches, proofs.Putting.later_goes, proofs.Putting.room_after}
 use Rattle.pk_core.{specs.Programming.ReadsNone, proofs.Amounts.store_few, proofs.Amounts.numbers_last}
 use Rattle.pk_core.specs.Spacing.{MayStore, StoresAll, FailsToStore, StoresOrReads, CanStore, store_most}
-
-true_false : true ≡ false → ⊥
-true_false e = cc
 
 -- ---- a lookup finds the former value
 
@@ -140,29 +137,28 @@ opens_looked r d e c size same is = subst (λ (x : Parts). OnRunning (StaysOrOpe
 
 -- ---- after the reclaims
 
-module _ (a b : Parts) (s0 s1 : BoardState) (n : ℕ) (key : Key) (value : List ℕ) (can : CanStore a s0 key value)
+module _ {a b : Parts} {s0 s1 : BoardState} {n : ℕ} {key : Key} {value : List ℕ} (can : CanStore a s0 key value)
     (stays : StaysSame a b) (none : b.log.pending ≡ []) (step : MovesOrReads {T = Unit {0}} a b n s0 s1 (Ok tt)) where
   no_entries : length b.log.pending ≡ 0
   no_entries = ap (λ (es : List Entry). length es) none
 
+  store_may : (shape : Shape) (m : Map) → MayStore a shape s0.pages m key value → MayStore b shape s1.pages m key value
+  store_may shape m may =
+      let same = step.came.0 shape m may.stands in
+      record {
+        stands = same.stands;
+        bytes = may.bytes;
+        room = room_after shape s0 s1 (CrashFinds shape commit s0.pages m) (board_has a s0 shape m can.ready may.stands) same.cuts key m value may.room;
+      }
+
   pub can_behind : CanStore b s1 key value
   can_behind =
-      let m = can.may.0 in
-      let may = can.may.1 in
-      let P : Shape → Type 0 = λ s. MayStore b s s1.pages m key value in
-      let some = entries_some a.log.shape may.stands.with.index.logs.is_shape in
+      let P : Shape → Type 0 = λ s. MayStore b s s1.pages can.may.0 key value in
+      let some = entries_some a.log.shape can.may.1.stands.with.index.logs.is_shape in
       let empty = no_entries in
-      let same = step.came.0 a.log.shape m may.stands in
       record {
         ready = subst (λ (s : Shape). IsReady s1 s) (sym stays.same_shape) step.ready;
-        may = (
-          m,
-          subst P (sym stays.same_shape) (record {
-            stands = same.stands;
-            bytes = may.bytes;
-            room = room_after a.log.shape s0 s1 (CrashFinds a.log.shape commit s0.pages m) can.ready.shape_is same.cuts key m value may.room;
-          }),
-        );
+        may = (can.may.0, subst P (sym stays.same_shape) (store_may a.log.shape can.may.0 can.may.1));
         short = subst (λ (s : Shape). length value ≤ greatest s) (sym stays.same_shape) can.short;
         few = subst (λ (s : Shape). length b.log.pending < page_entries s) (sym stays.same_shape) (omega (arith, some, empty));
       }
@@ -177,15 +173,6 @@ module _ (a b : Parts) (s0 s1 : BoardState) (n : ℕ) (key : Key) (value : List 
       omega (arith, few, most, calls)
 
   module _ (c : Parts) (s2 : BoardState) where
-    store_may : (shape : Shape) (m : Map) → MayStore a shape s0.pages m key value → MayStore b shape s1.pages m key value
-    store_may shape m may =
-        let same = step.came.0 shape m may.stands in
-        record {
-          stands = same.stands;
-          bytes = may.bytes;
-          room = room_after shape s0 s1 (CrashFinds shape commit s0.pages m) (board_has a s0 shape m can.ready may.stands) same.cuts key m value may.room;
-        }
-
     stores_then : StoresAll b c s1 s2 key value → StoresAll a c s0 s2 key value
     stores_then stores shape m may =
         let one = step.came.0 shape m may.stands in
@@ -251,7 +238,7 @@ blocks_least : (d : Parts) (flash : Flash) (m : Map) (count : ℕ) → StandsFor
 blocks_least d flash m count stands wanted = blocks_at d.reclaim.phase (used_by Values d.pool.states) (data_blocks d.log.shape) (wanted_full d count wanted) stands.with.reclaim.full
 
 not_left : (x y : Bool) → (not x && y) ≡ true → x ≡ false
-not_left true y e = absurd (true_false (sym e))
+not_left true y e = cc
 not_left false y e = refl
 
 pub no_fit : (d : Parts) (count : ℕ) → needs count d ≡ true → fits_open d.log.shape d.values count ≡ false
@@ -268,6 +255,15 @@ module _ (a : Parts) (s0 : BoardState) (key : Key) (value : List ℕ) (count : �
   opens_behind (Ok x) c s2 most step fresh = makes_room c s2 (insert can.may.0 key value) (step.came.0 a.log.shape can.may.0 can.may.1).stands fresh
   opens_behind (Err Reading) c s2 most step fresh = makes_room c s2 can.may.0 (step.came.0 a.log.shape can.may.0 can.may.1.stands).stands fresh
   opens_behind (Err Stopped) c s2 most step fresh = tt
+
+  -- such a value has no room in the open block
+  pub no_quiet : (r : Result Unit Fault) (s2 : BoardState) → OnOk r (PutsQuietly a key count s0 s2)
+  no_quiet (Ok x) s2 = λ none fits. absurd (cc (no_fit a count wanted))
+  no_quiet (Err e) s2 = tt
+
+  pub no_reads : (r : Result Unit Fault) (s2 : BoardState) → OnOk r (ReadsNone a key count s0 s2)
+  no_reads (Ok x) s2 = λ fits. absurd (cc (no_fit a count wanted))
+  no_reads (Err e) s2 = tt
 
 -- ---- if it has room
 

@@ -1,6 +1,6 @@
 -- The second program of a pair that is half made, before a change of the map.
 use Rattle.std.proofs.Common.{◌≡◌, ◌⊎◌, inl, inr, ℕ, ◌+◌, ◌≤◌, ◌<◌, refl, sym, ap, subst, ◌∙◌, arith, Bool, true, false, nat_le, List, [], length, Option, Some, Result, Ok, Err}
-use Rattle.std.{specs.Prelude.IsOk, specs.Prelude.OnOk, specs.FinMap.insert, specs.FinMap.remove, specs.FinMap.Entries.find}
+use Rattle.std.{specs.Prelude.IsOk, specs.FinMap.insert, specs.FinMap.remove, specs.FinMap.Entries.find}
 use Rattle.pk_base.{specs.Entry.Entry, specs.Entry.Place, specs.Key.Key, specs.Key.key_cmp, specs.Key.space_of, specs.Page.Flash, specs.Map.Map}
 use Rattle.pk_base.specs.Shape.{Shape, charge, greatest, page_entries}
 use Rattle.pk_nand.{specs.declared.types.Fault.Fault, specs.declared.types.Fault.TheVariants.Reading, specs.declared.types.Fault.TheVariants.Stopped, specs.BoardState.BoardState, specs.Calls.IsReady}
@@ -15,12 +15,11 @@ use Rattle.pk_parts.{specs.Parts.Parts, specs.Parts.frames_of, specs.Parts.is_ha
 use Rattle.pk_parts.{specs.Staying.Stays, specs.Staying.StaysOrOpens, proofs.Halves.whole_of, proofs.Halves.with_whole, proofs.Halves.not_made, proofs.Halves.is_whole}
 use Rattle.pk_parts.proofs.Staying.{opens_behind, stays_same, stays_then}
 use Rattle.pk_background.{specs.Emptying.StepOrRead, specs.Emptying.OnRunning, specs.Pairing.FinishesHalf, specs.Pairing.FailsToFinish, specs.Pairing.FinishesOr, specs.Spacing.SameMapAll}
-use Rattle.pk_background.{specs.Costs.Spends, specs.Costs.space_and_put_calls, proofs.Callings.few_program, proofs.Callings.few_same, proofs.Callings.spends_then}
+use Rattle.pk_background.{specs.Costs.Spends, specs.Costs.space_and_put_calls, proofs.Callings.few_program, proofs.Callings.few_same, proofs.Callings.few_within, proofs.Callings.spends_then}
 use Rattle.pk_background.{proofs.ReadSteps.Passes, proofs.ReadSteps.reading_then, proofs.ReadSteps.running_says, proofs.SameMaps.SameMap-then, proofs.SameMaps.same_of}
-use Rattle.pk_changes.specs.Programming.{PutsQuietly, TakesQuietly, ReadsQuietly}
-use Rattle.pk_changes.specs.Changes.{MayPut, MayTake, CanPut, CanTake, TakesAll, FailsToTake, TakesOrReads, StaysBetween, HasRoomFor}
+use Rattle.pk_changes.specs.Changes.{Changes, MayPut, MayTake, CanPut, CanTake, TakesAll, FailsToTake, TakesOrReads, StaysBetween, HasRoomFor}
 use Rattle.pk_changes.proofs.Putting.{later_reaches, later_goes, room_after, spaced_after}
-use Rattle.pk_core.{specs.Programming.ReadsNone, specs.Spacing.MayStore, specs.Spacing.StoresAll, specs.Spacing.FailsToStore, specs.Spacing.StoresOrReads, specs.Spacing.store_most}
+use Rattle.pk_core.{specs.Spacing.MayStore, specs.Spacing.StoresAll, specs.Spacing.FailsToStore, specs.Spacing.StoresOrReads, specs.Spacing.store_most}
 use Rattle.pk_core.specs.Whole.{MayStoreBetween, MayTakeBetween, SameMapBetween, StoresBetween, FailsToStoreBetween, TakesBetween, FailsToTakeBetween, StoresWhole, TakesWhole, CanPutBetween}
 use Rattle.pk_core.specs.Whole.{CanTakeBetween}
 
@@ -35,6 +34,7 @@ pub record MadeWhole (b : Parts) (shape : Shape) (m : Map) (s0 s1 : BoardState) 
 
 -- So it is for every map, by at most one program.
 pub record Wholes (a b : Parts) (s0 s1 : BoardState) : Type 0 where
+  pub before : IsReady s0 a.log.shape
   pub made : (shape : Shape) (m : Map) (was : StandsBetween a shape s0.pages m) → MadeWhole b shape m s0 s1 was.found
   pub same_shape : b.log.shape ≡ a.log.shape
   pub same_pending : b.log.pending ≡ a.log.pending
@@ -60,8 +60,9 @@ module _ (shape : Shape) (s0 s1 : BoardState) (m : Map) where
   ends_so run = (at_end run.0 s0 s1 (CrashFinds shape background s0.pages m) run.1).1
 
 -- by its second program
-wholes_half : (a b : Parts) (s0 s1 : BoardState) → FinishesHalf a b s0 s1 → Wholes a b s0 s1
-wholes_half a b s0 s1 f = record {
+wholes_half : (a b : Parts) (s0 s1 : BoardState) → IsReady s0 a.log.shape → FinishesHalf a b s0 s1 → Wholes a b s0 s1
+wholes_half a b s0 s1 ready f = record {
+  before = ready;
   made = λ shape m was.
       let is = f.finished shape m was in
       record { stands = is.stands; same_found = is.same_found was; still = inr (ends_so shape s0 s1 m is.cuts); cuts = committed shape s0 s1 m is.cuts };
@@ -86,6 +87,7 @@ wholes_none a b s0 s1 whole ready same_parts same =
     let S : BoardState → Type 0 = λ s. Wholes a a s0 s in
     let keeps : KeepsAll a a s0 s0 = KeepsAll-none a a s0 s0 refl refl in
     let here : S s0 = record {
+      before = ready;
       made = λ shape m was.
           let w = whole_of a s0.pages was.top was.found was.without was.course whole in
           let there : StandsFor a shape s0.pages m = record {
@@ -95,8 +97,7 @@ wholes_none a b s0 s1 whole ready same_parts same =
             with = with_whole a shape s0.pages was.top was.found was.without m w.settles was.with;
             whole = w;
           } in
-          let kept = keeps shape m there in
-          record { stands = there; same_found = refl; still = inl refl; cuts = kept.cuts };
+          record { stands = there; same_found = refl; still = inl refl; cuts = (keeps shape m there).cuts };
       same_shape = refl;
       same_pending = refl;
       frames = refl;
@@ -117,7 +118,7 @@ pub wholes : (a b : Parts) (s0 s1 : BoardState) → IsReady s0 a.log.shape → (
 wholes a b s0 s1 ready finishes rests = by (is_half a) refl
   where
     by : (h : Bool) → is_half a ≡ h → Wholes a b s0 s1
-    by true e = wholes_half a b s0 s1 (finishes e)
+    by true e = wholes_half a b s0 s1 ready (finishes e)
     by false e = let r = rests e in wholes_none a b s0 s1 e ready r.1 r.2
 
 -- the program failed
@@ -129,12 +130,9 @@ fails_half f a b s0 s1 finishes rests = by (is_half a) refl
     by true e = let is = finishes e in (is.0, is.2)
     by false e = absurd (not_made f (rests e).0)
 
-between_has : (a : Parts) (board : BoardState) (shape : Shape) (m : Map) → IsReady board a.log.shape → StandsBetween a shape board.pages m → board.shape ≡ Some shape
-between_has a board shape m ready is = ready.shape_is ∙ ap (λ s. Some s) is.with.shape_is
-
 -- ---- what comes after it
 
-module _ (a b : Parts) (s0 s1 : BoardState) (ready : IsReady s0 a.log.shape) (w : Wholes a b s0 s1) where
+module _ {a b : Parts} {s0 s1 : BoardState} (w : Wholes a b s0 s1) where
   ready_then : IsReady s1 b.log.shape
   ready_then = subst (λ (s : Shape). IsReady s1 s) (sym w.same_shape) w.ready
 
@@ -159,22 +157,35 @@ module _ (a b : Parts) (s0 s1 : BoardState) (ready : IsReady s0 a.log.shape) (w 
       let entries : page_entries b.log.shape ≡ page_entries a.log.shape = ap (λ (s : Shape). page_entries s) w.same_shape in
       omega (arith, few, same, entries)
 
-  -- the lists are the same, and so are the places
-  found_there : (key : Key) (shape : Shape) (m : Map) (was : StandsBetween a shape s0.pages m)
-      → find key_cmp key (places (w.made shape m was).stands.found b.log.pending) ≡ find key_cmp key (places was.found a.log.pending)
-  found_there key shape m was = λ i. find key_cmp key (places ((w.made shape m was).same_found i) (w.same_pending i))
+  module _ (shape : Shape) (m : Map) (was : StandsBetween a shape s0.pages m) where
+    has : s0.shape ≡ Some shape
+    has = w.before.shape_is ∙ ap (λ s. Some s) was.with.shape_is
+
+    -- the lists are the same, and so are the places
+    found_there : (key : Key) → find key_cmp key (places (w.made shape m was).stands.found b.log.pending) ≡ find key_cmp key (places was.found a.log.pending)
+    found_there key = λ i. find key_cmp key (places ((w.made shape m was).same_found i) (w.same_pending i))
+
+    -- the limits are the same, and so is the room
+    room_then : (key : Key) (value : List ℕ) → HasRoomFor shape s0.pages m key value → HasRoomFor shape s1.pages m key value
+    room_then key value = room_after shape s0 s1 (CrashFinds shape commit s0.pages m) has (w.made shape m was).cuts key m value
+
+    spaced_then : (key : Key) → space_of key ≤ length (limits_at shape s0.pages) → space_of key ≤ length (limits_at shape s1.pages)
+    spaced_then key = spaced_after shape s0 s1 (CrashFinds shape commit s0.pages m) has (w.made shape m was).cuts key
+
+    -- a change of the map comes after it
+    module _ (m' : Map) (s2 : BoardState) where
+      changes_then : (c : Parts) → Changes c shape m m' s1 s2 → Changes c shape m m' s0 s2
+      changes_then c later =
+          let one = w.made shape m was in
+          record { stands = later.stands; cuts = later_reaches shape s0 s1 has m m' one.cuts one.still s2 later.cuts }
+
+      goes_then : Goes shape s1 s2 (CrashFinds shape (change m') s1.pages m) → Goes shape s0 s2 (CrashFinds shape (change m') s0.pages m)
+      goes_then later = let one = w.made shape m was in later_goes shape s0 s1 has m m' one.cuts one.still s2 later
 
   same_map : (c : Parts) (s2 : BoardState) → SameMapAll b c s1 s2 → SameMapBetween a c s0 s2
   same_map c s2 same shape m was =
       let one = w.made shape m was in
-      SameMap-then b shape m s0 s1 (between_has a s0 shape m ready was) (record { stands = one.stands; still = one.still; cuts = one.cuts }) c s2 (same shape m one.stands)
-
-  -- the limits are the same, and so is the room
-  room_then : (shape : Shape) (m : Map) (key : Key) (value : List ℕ) → StandsBetween a shape s0.pages m → HasRoomFor shape s0.pages m key value → HasRoomFor shape s1.pages m key value
-  room_then shape m key value was = room_after shape s0 s1 (CrashFinds shape commit s0.pages m) (between_has a s0 shape m ready was) (w.made shape m was).cuts key m value
-
-  spaced_then : (shape : Shape) (m : Map) (key : Key) → StandsBetween a shape s0.pages m → space_of key ≤ length (limits_at shape s0.pages) → space_of key ≤ length (limits_at shape s1.pages)
-  spaced_then shape m key was = spaced_after shape s0 s1 (CrashFinds shape commit s0.pages m) (between_has a s0 shape m ready was) (w.made shape m was).cuts key
+      SameMap-then b shape m s0 s1 (has shape m was) (record { stands = one.stands; still = one.still; cuts = one.cuts }) c s2 (same shape m one.stands)
 
   -- ---- a key gets a value
 
@@ -191,87 +202,53 @@ module _ (a b : Parts) (s0 s1 : BoardState) (ready : IsReady s0 a.log.shape) (w 
             m,
             subst P (sym w.same_shape) (record {
               stands = (w.made a.log.shape m may.stands).stands;
-              old_is = found_there key a.log.shape m may.stands ∙ may.old_is;
+              old_is = found_there a.log.shape m may.stands key ∙ may.old_is;
               bytes = may.bytes;
-              room = room_then a.log.shape m key value may.stands may.room;
+              room = room_then a.log.shape m may.stands key value may.room;
             }),
           );
           short = subst Q (sym w.same_shape) can.short;
           few = few_then_pending can.few;
         }
 
-    module _ (c : Parts) (s2 : BoardState) where
-      store_may : (shape : Shape) (m : Map) → MayStoreBetween a shape s0.pages m key value → MayStore b shape s1.pages m key value
-      store_may shape m may = record { stands = (w.made shape m may.stands).stands; bytes = may.bytes; room = room_then shape m key value may.stands may.room }
+    store_may : (shape : Shape) (m : Map) → MayStoreBetween a shape s0.pages m key value → MayStore b shape s1.pages m key value
+    store_may shape m may = record { stands = (w.made shape m may.stands).stands; bytes = may.bytes; room = room_then shape m may.stands key value may.room }
 
-      stores_then : StoresAll b c s1 s2 key value → StoresBetween a c s0 s2 key value
-      stores_then stores shape m may =
-          let one = w.made shape m may.stands in
-          let later = stores shape m (store_may shape m may) in
-          record { stands = later.stands; cuts = later_reaches shape s0 s1 (between_has a s0 shape m ready may.stands) m (insert m key value) one.cuts one.still s2 later.cuts }
-
-      fails_then : FailsToStore b s1 s2 key value → FailsToStoreBetween a s0 s2 key value
-      fails_then fails shape m may =
-          let one = w.made shape m may.stands in
-          later_goes shape s0 s1 (between_has a s0 shape m ready may.stands) m (insert m key value) one.cuts one.still s2 (fails shape m (store_may shape m may))
-
-      pub stores_whole : (r : Result Unit Fault) → StoresOrReads b c (store_most b.log.shape) s1 s2 key value r → StoresWhole a c (store_most a.log.shape) s0 s2 key value r
-      stores_whole r second =
-          let S : Shape → Type 0 = λ s. StepOrRead (λ (x : Unit). StoresAll b c s1 s2 key value) (SameMapAll b c s1 s2) (FailsToStore b s1 s2 key value) s (store_most s) s1 s2 r in
-          reading_then r (λ (x : Unit). StoresAll b c s1 s2 key value) (λ (x : Unit). StoresBetween a c s0 s2 key value)
-          (SameMapAll b c s1 s2) (SameMapBetween a c s0 s2) (FailsToStore b s1 s2 key value)
-          (FailsToStoreBetween a s0 s2 key value) a.log.shape 0 (store_most a.log.shape) (store_most a.log.shape) s0 s1 s2
-          (omega arith) passes (λ x stores. stores_then stores) (same_map c s2) fails_then (subst S w.same_shape second)
+    pub stores_whole : (c : Parts) (s2 : BoardState) (r : Result Unit Fault)
+        → StoresOrReads b c (store_most b.log.shape) s1 s2 key value r → StoresWhole a c (store_most a.log.shape) s0 s2 key value r
+    stores_whole c s2 r second =
+        let S : Shape → Type 0 = λ s. StepOrRead (λ (x : Unit). StoresAll b c s1 s2 key value) (SameMapAll b c s1 s2) (FailsToStore b s1 s2 key value) s (store_most s) s1 s2 r in
+        reading_then r (λ (x : Unit). StoresAll b c s1 s2 key value) (λ (x : Unit). StoresBetween a c s0 s2 key value)
+        (SameMapAll b c s1 s2) (SameMapBetween a c s0 s2) (FailsToStore b s1 s2 key value)
+        (FailsToStoreBetween a s0 s2 key value) a.log.shape 0 (store_most a.log.shape) (store_most a.log.shape) s0 s1 s2 (omega arith) passes
+        (λ x stores shape m may. changes_then shape m may.stands (insert m key value) s2 c (stores shape m (store_may shape m may))) (same_map c s2)
+        (λ fails shape m may. goes_then shape m may.stands (insert m key value) s2 (fails shape m (store_may shape m may))) (subst S w.same_shape second)
 
   -- ---- a key loses its value
 
   module _ (key : Key) (p : Place) where
+    take_may : (shape : Shape) (m : Map) → MayTakeBetween a shape s0.pages m key p → MayTake b shape s1.pages m key p
+    take_may shape m may = record {
+      stands = (w.made shape m may.stands).stands;
+      old_is = found_there shape m may.stands key ∙ may.old_is;
+      bytes = may.bytes;
+      spaced = spaced_then shape m may.stands key may.spaced;
+    }
+
     pub can_take_then : CanTakeBetween a s0 key p → CanTake b s1 key p
     can_take_then can =
-        let m = can.may.0 in
-        let may = can.may.1 in
-        let P : Shape → Type 0 = λ s. MayTake b s s1.pages m key p in
-        record {
-          ready = ready_then;
-          may = (
-            m,
-            subst P (sym w.same_shape) (record {
-              stands = (w.made a.log.shape m may.stands).stands;
-              old_is = found_there key a.log.shape m may.stands ∙ may.old_is;
-              bytes = may.bytes;
-              spaced = spaced_then a.log.shape m key may.stands may.spaced;
-            }),
-          );
-          few = few_then_pending can.few;
-        }
+        let P : Shape → Type 0 = λ s. MayTake b s s1.pages can.may.0 key p in
+        record { ready = ready_then; may = (can.may.0, subst P (sym w.same_shape) (take_may a.log.shape can.may.0 can.may.1)); few = few_then_pending can.few }
 
-    module _ (c : Parts) (s2 : BoardState) where
-      take_may : (shape : Shape) (m : Map) → MayTakeBetween a shape s0.pages m key p → MayTake b shape s1.pages m key p
-      take_may shape m may = record {
-        stands = (w.made shape m may.stands).stands;
-        old_is = found_there key shape m may.stands ∙ may.old_is;
-        bytes = may.bytes;
-        spaced = spaced_then shape m key may.stands may.spaced;
-      }
-
-      takes_then : TakesAll b c s1 s2 key p → TakesBetween a c s0 s2 key p
-      takes_then takes shape m may =
-          let one = w.made shape m may.stands in
-          let later = takes shape m (take_may shape m may) in
-          record { stands = later.stands; cuts = later_reaches shape s0 s1 (between_has a s0 shape m ready may.stands) m (remove m key) one.cuts one.still s2 later.cuts }
-
-      fails_to_take_then : FailsToTake b s1 s2 key p → FailsToTakeBetween a s0 s2 key p
-      fails_to_take_then fails shape m may =
-          let one = w.made shape m may.stands in
-          later_goes shape s0 s1 (between_has a s0 shape m ready may.stands) m (remove m key) one.cuts one.still s2 (fails shape m (take_may shape m may))
-
-      pub takes_whole : (r : Result Unit Fault) → TakesOrReads b c (room_calls b.log.shape) s1 s2 key p r → TakesWhole a c (room_calls a.log.shape) s0 s2 key p r
-      takes_whole r second =
-          let S : Shape → Type 0 = λ s. StepOrRead (λ (x : Unit). TakesAll b c s1 s2 key p) (KeepsAll b c s1 s2) (FailsToTake b s1 s2 key p) s (room_calls s) s1 s2 r in
-          reading_then r (λ (x : Unit). TakesAll b c s1 s2 key p) (λ (x : Unit). TakesBetween a c s0 s2 key p)
-          (KeepsAll b c s1 s2) (SameMapBetween a c s0 s2) (FailsToTake b s1 s2 key p) (FailsToTakeBetween a s0 s2 key p)
-          a.log.shape 0 (room_calls a.log.shape) (room_calls a.log.shape) s0 s1 s2 (omega arith) passes
-          (λ x takes. takes_then takes) (λ keeps. same_map c s2 (same_of b c s1 s2 keeps)) fails_to_take_then (subst S w.same_shape second)
+    pub takes_whole : (c : Parts) (s2 : BoardState) (r : Result Unit Fault)
+        → TakesOrReads b c (room_calls b.log.shape) s1 s2 key p r → TakesWhole a c (room_calls a.log.shape) s0 s2 key p r
+    takes_whole c s2 r second =
+        let S : Shape → Type 0 = λ s. StepOrRead (λ (x : Unit). TakesAll b c s1 s2 key p) (KeepsAll b c s1 s2) (FailsToTake b s1 s2 key p) s (room_calls s) s1 s2 r in
+        reading_then r (λ (x : Unit). TakesAll b c s1 s2 key p) (λ (x : Unit). TakesBetween a c s0 s2 key p)
+        (KeepsAll b c s1 s2) (SameMapBetween a c s0 s2) (FailsToTake b s1 s2 key p) (FailsToTakeBetween a s0 s2 key p)
+        a.log.shape 0 (room_calls a.log.shape) (room_calls a.log.shape) s0 s1 s2 (omega arith) passes
+        (λ x takes shape m may. changes_then shape m may.stands (remove m key) s2 c (takes shape m (take_may shape m may))) (λ keeps. same_map c s2 (same_of b c s1 s2 keeps))
+        (λ fails shape m may. goes_then shape m may.stands (remove m key) s2 (fails shape m (take_may shape m may))) (subst S w.same_shape second)
 
   -- ---- what stays beside the map
 
@@ -283,36 +260,35 @@ module _ (a b : Parts) (s0 s1 : BoardState) (ready : IsReady s0 a.log.shape) (w 
     few = subst (λ (s : Shape). length c.log.pending < page_entries s) w.same_shape second.few;
   }
 
-  pub stays_whole : (r : Result Unit Fault) (c : Parts) → OnRunning (StaysBetween b c) r → OnRunning (StaysBetween a c) r
-  stays_whole r c second = running_says (StaysBetween b c) (StaysBetween a c) r (between_then c) second
+  module _ (r : Result Unit Fault) (c : Parts) where
+    pub stays_whole : OnRunning (StaysBetween b c) r → OnRunning (StaysBetween a c) r
+    stays_whole second = running_says (StaysBetween b c) (StaysBetween a c) r (between_then c) second
 
-  pub moves_whole : (r : Result Unit Fault) (c : Parts) → OnRunning (Stays b c) r → OnRunning (Stays a c) r
-  moves_whole r c second = running_says (Stays b c) (Stays a c) r (stays_then a b c w.stays) second
+    pub moves_whole : OnRunning (Stays b c) r → OnRunning (Stays a c) r
+    moves_whole second = running_says (Stays b c) (Stays a c) r (stays_then a b c w.stays) second
 
-  pub opens_whole : (r : Result Unit Fault) (c : Parts) (len : ℕ) → OnRunning (StaysOrOpens b c (charge b.log.shape len)) r → OnRunning (StaysOrOpens a c (charge a.log.shape len)) r
-  opens_whole r c len second =
-      running_says (StaysOrOpens b c (charge a.log.shape len)) (StaysOrOpens a c (charge a.log.shape len)) r (opens_behind a b c (charge a.log.shape len) w.stays w.same_shape w.values)
-      (subst (λ (s : Shape). OnRunning (StaysOrOpens b c (charge s len)) r) w.same_shape second)
+    pub opens_whole : (len : ℕ) → OnRunning (StaysOrOpens b c (charge b.log.shape len)) r → OnRunning (StaysOrOpens a c (charge a.log.shape len)) r
+    opens_whole len second =
+        running_says (StaysOrOpens b c (charge a.log.shape len)) (StaysOrOpens a c (charge a.log.shape len)) r (opens_behind a b c (charge a.log.shape len) w.stays w.same_shape w.values)
+        (subst (λ (s : Shape). OnRunning (StaysOrOpens b c (charge s len)) r) w.same_shape second)
 
-  first_spends : Spends pair_calls 0 s0 s1
-  first_spends = let same = w.same_roots in record { calls = w.calls; installs = omega (arith, same) }
+  -- the calls of what comes after it, which are so many by the shape
+  spends_whole : (calls : Shape → ℕ) (k : ℕ) (s2 : BoardState) → Spends (calls b.log.shape) k s1 s2 → Spends (pair_calls + calls a.log.shape) k s0 s2
+  spends_whole calls k s2 second =
+      let same = w.same_roots in
+      spends_then pair_calls (calls a.log.shape) (pair_calls + calls a.log.shape) 0 k k s0 s1 s2 (omega arith) (omega arith)
+      (record { calls = w.calls; installs = omega (arith, same) }) (subst (λ (s : Shape). Spends (calls s) k s1 s2) w.same_shape second)
 
   pub put_spends : (s2 : BoardState) (len : ℕ) → Spends (space_and_put_calls b.log.shape (charge b.log.shape len)) store_roots s1 s2
       → Spends (pair_calls + space_and_put_calls a.log.shape (charge a.log.shape len)) store_roots s0 s2
-  put_spends s2 len second =
-      let calls = space_and_put_calls a.log.shape (charge a.log.shape len) in
-      let here = subst (λ (s : Shape). Spends (space_and_put_calls s (charge s len)) store_roots s1 s2) w.same_shape second in
-      spends_then pair_calls calls (pair_calls + calls) 0 store_roots store_roots s0 s1 s2 (omega arith) (omega arith) first_spends here
+  put_spends s2 len = spends_whole (λ s. space_and_put_calls s (charge s len)) store_roots s2
 
   pub take_spends : (s2 : BoardState) → Spends (room_calls b.log.shape + commit_calls) room_roots s1 s2 → Spends (pair_calls + (room_calls a.log.shape + commit_calls)) room_roots s0 s2
-  take_spends s2 second =
-      let calls = room_calls a.log.shape + commit_calls in
-      let here = subst (λ (s : Shape). Spends (room_calls s + commit_calls) room_roots s1 s2) w.same_shape second in
-      spends_then pair_calls calls (pair_calls + calls) 0 room_roots room_roots s0 s1 s2 (omega arith) (omega arith) first_spends here
+  take_spends = spends_whole (λ s. room_calls s + commit_calls) room_roots
 
 -- ---- the second program failed
 
-module _ (a : Parts) (s0 s1 : BoardState) (fails : FailsToFinish a s0 s1) where
+module _ {a : Parts} {s0 s1 : BoardState} (fails : FailsToFinish a s0 s1) where
   goes_changed : (shape : Shape) (m m' : Map) → StandsBetween a shape s0.pages m → Goes shape s0 s1 (CrashFinds shape (change m') s0.pages m)
   goes_changed shape m m' was =
       let run = fails.fails shape m was in
@@ -344,20 +320,7 @@ module _ (a : Parts) (s0 s1 : BoardState) (fails : FailsToFinish a s0 s1) where
   pub unmade_spends : (n k : ℕ) → 1 ≤ n → Spends n k s0 s1
   unmade_spends n k some =
       let few = fails.no_root in
-      let one = few_program s0 s1 fails.program in
-      let least = one.few in
-      record {
-        calls = record {
-          reads_made = one.reads_made;
-          programs_made = one.programs_made;
-          erases_made = one.erases_made;
-          few = omega (arith, least, some);
-          reads = one.reads;
-          programs = one.programs;
-          erases = one.erases;
-        };
-        installs = omega (arith, few);
-      }
+      record { calls = few_within 1 n s0 s1 some (few_program s0 s1 fails.program); installs = omega (arith, few) }
 
 -- ---- no pair is half made after it
 
@@ -376,19 +339,7 @@ take_makes_whole (Err Stopped) a c s0 s2 most key p can step = tt
 
 -- ---- if none was half made, nothing came before it
 
-module _ (a b : Parts) (s0 s1 s2 : BoardState) (same_parts : b ≡ a) (same : s1 ≡ s0) where
+module _ {a b : Parts} {s0 s1 : BoardState} (same_parts : b ≡ a) (same : s1 ≡ s0) where
   -- what holds of one holds of the other
-  quiet_from : (P : Parts → BoardState → Type 0) → P b s1 → P a s0
+  pub quiet_from : (P : Parts → BoardState → Type 0) → P b s1 → P a s0
   quiet_from P is = subst (λ (x : Parts). P x s0) same_parts (subst (λ (s : BoardState). P b s) same is)
-
-  pub puts_quietly : (r : Result Unit Fault) (key : Key) (len : ℕ) → OnOk r (PutsQuietly b key (charge b.log.shape len) s1 s2) → OnOk r (PutsQuietly a key (charge a.log.shape len) s0 s2)
-  puts_quietly r key len is = quiet_from (λ x s. OnOk r (PutsQuietly x key (charge x.log.shape len) s s2)) is
-
-  pub reads_nowhere : (r : Result Unit Fault) (key : Key) (len : ℕ) → OnOk r (ReadsNone b key (charge b.log.shape len) s1 s2) → OnOk r (ReadsNone a key (charge a.log.shape len) s0 s2)
-  reads_nowhere r key len is = quiet_from (λ x s. OnOk r (ReadsNone x key (charge x.log.shape len) s s2)) is
-
-  pub takes_quietly : (r : Result Unit Fault) (key : Key) → OnOk r (TakesQuietly b key s1 s2) → OnOk r (TakesQuietly a key s0 s2)
-  takes_quietly r key is = quiet_from (λ x s. OnOk r (TakesQuietly x key s s2)) is
-
-  pub reads_quietly : (r : Result Unit Fault) (key : Key) → OnOk r (ReadsQuietly b key s1 s2) → OnOk r (ReadsQuietly a key s0 s2)
-  reads_quietly r key is = quiet_from (λ x s. OnOk r (ReadsQuietly x key s s2)) is

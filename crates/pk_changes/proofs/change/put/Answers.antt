@@ -1,10 +1,10 @@
-use Rattle.std.proofs.Common.{◌∙◌, sym, ap, ◌≤◌, length, Err, arith}
+use Rattle.std.proofs.Common.{◌∙◌, sym, ap, length, arith}
 use Rattle.pk_base.specs.Shape.{charge}
-use Rattle.pk_parts.{specs.Parts.Parts, specs.Moves.KeepsAll, specs.Moves.LeavesValues, specs.Staying.Stays, specs.Staying.StaysOrOpens, proofs.Staying.stays_opens, proofs.Staying.opens_put}
+use Rattle.pk_parts.{specs.Parts.Parts, specs.Moves.KeepsAll, specs.Staying.Stays, specs.Staying.StaysOrOpens, proofs.Staying.stays_opens, proofs.Staying.opens_put}
 use Rattle.pk_parts.proofs.Stopping.{fails_stopped}
 use Rattle.pk_changes.{specs.Changes.StaysBetween, proofs.Quieted.put_reads_none, proofs.Programming.put_idle, proofs.StoreCalls.spends_put}
-use Rattle.pk_changes.proofs.Following.{can_put_after, still_room, step_puts_later, stays_then, stays_kept, put_failed_before}
-use Rattle.pk_background.{proofs.ReadSteps.running_ok, proofs.ReadSteps.running_failed, proofs.ReadSteps.running_both, proofs.Halted.fails_running, proofs.Halted.fails_step}
+use Rattle.pk_changes.proofs.Following.{can_put_after, still_room, step_puts_later, stays_then, stays_failed, put_failed_before}
+use Rattle.pk_background.{proofs.ReadSteps.running_ok, proofs.ReadSteps.running_failed, proofs.Halted.fails_running, proofs.Halted.fails_step}
 use Rattle.pk_background.proofs.Callings.{spends_still, spends_within}
 use Rattle.pk_changes.proofs.change.put.Goals as goal
 
@@ -14,8 +14,7 @@ make_room-requires-clause-may g c = record { ready = c.requires.can.0.ready; sta
 pub put_with_room-requires-clause-can : goal.put_with_room-requires-clause-can
 put_with_room-requires-clause-can g c =
     let e = c.in-Ok.ensures in (
-      can_put_after c.args.parts.now c.make_room.new.parts _ (g.B.Nand.state c.args.board.now)
-          (g.B.Nand.state c.make_room.new.board) tt e.leaves e.pending e.step c.args.key c.args.value.now c.args.old c.requires.can.0,
+      can_put_after e.leaves e.pending e.step c.args.key c.args.value.now c.args.old c.requires.can.0,
       c.requires.can.1
           ∙ ap (λ s. charge s (length c.args.value.now)) (sym e.leaves.same_shape),
     )
@@ -23,14 +22,12 @@ put_with_room-requires-clause-can g c =
 pub put_with_room-requires-clause-room : goal.put_with_room-requires-clause-room
 put_with_room-requires-clause-room g c =
     let e = c.in-Ok.ensures in
-    still_room c.args.parts.now c.make_room.new.parts _ (g.B.Nand.state c.args.board.now) (g.B.Nand.state c.make_room.new.board) tt e.leaves e.pending e.step (length c.args.value.now) c.requires.room
+    still_room e.leaves e.pending e.step (length c.args.value.now) c.requires.room
 
 pub returns-in-Ok-clause-step : goal.returns-in-Ok-clause-step
 returns-in-Ok-clause-step g c =
     let e = c.in-Ok.ensures in
-    step_puts_later c.args.parts.now c.make_room.new.parts _ (g.B.Nand.state c.args.board.now)
-    (g.B.Nand.state c.make_room.new.board) tt e.leaves e.pending e.step c.put_with_room.result c.put_with_room.new.parts (g.B.Nand.state c.put_with_room.new.board)
-    c.requires.can.0.ready c.args.key c.args.value.now c.args.old c.put_with_room.ensures.step
+    step_puts_later e.leaves e.pending e.step c.put_with_room.result c.put_with_room.new.parts (g.B.Nand.state c.put_with_room.new.board) c.requires.can.0.ready c.args.key c.args.value.now c.args.old c.put_with_room.ensures.step
 
 pub returns-in-Ok-clause-stays : goal.returns-in-Ok-clause-stays
 returns-in-Ok-clause-stays g c =
@@ -63,12 +60,8 @@ returns-in-Err-clause-step g c =
 
 pub returns-in-Err-clause-stays : goal.returns-in-Err-clause-stays
 returns-in-Err-clause-stays g c =
-    let e = c.in-Err.ensures in
-    let a = c.args.parts.now in
-    let b = c.make_room.new.parts in
     fails_running c.in-Err.fault c.fail.result c.make_room.new.parts c.fail.new.self c.fail.ensures.same c.fail.ensures.rest (λ x. StaysBetween c.args.parts.now x)
-    (running_failed Unit Unit (LeavesValues a b × (length b.log.pending ≤ length a.log.pending)) (StaysBetween a b) c.in-Err.fault (λ is. stays_kept a b is.0 is.1 c.requires.can.0.few)
-    (running_both {T = Unit {0}} (LeavesValues a b) (length b.log.pending ≤ length a.log.pending) (Err c.in-Err.fault) e.leaves e.pending))
+    (stays_failed c.in-Err.fault c.args.parts.now c.make_room.new.parts c.requires.can.0.few c.in-Err.ensures.leaves c.in-Err.ensures.pending)
 
 pub returns-in-Err-clause-opens : goal.returns-in-Err-clause-opens
 returns-in-Err-clause-opens g c =

@@ -1,8 +1,8 @@
-use Rattle.std.proofs.Common.{◌≤◌, length, Err, arith}
+use Rattle.std.proofs.Common.{arith}
 use Rattle.pk_changes.{specs.Changes.StaysBetween, proofs.Quieted.put_reads_none, proofs.Programming.take_idle}
-use Rattle.pk_changes.proofs.Following.{can_take_after, step_takes_later, stays_then, stays_kept, take_failed_before}
-use Rattle.pk_parts.{specs.Moves.KeepsAll, specs.Moves.LeavesValues, specs.Staying.Stays, proofs.Staying.stays_then as stays_twice, proofs.Stopping.fails_stopped}
-use Rattle.pk_background.{proofs.ReadSteps.running_ok, proofs.ReadSteps.running_failed, proofs.ReadSteps.running_both, proofs.Halted.fails_running, proofs.Halted.fails_step}
+use Rattle.pk_changes.proofs.Following.{can_take_after, step_takes_later, stays_then, stays_failed, take_failed_before}
+use Rattle.pk_parts.{specs.Moves.KeepsAll, specs.Staying.Stays, proofs.Staying.stays_then as stays_twice, proofs.Stopping.fails_stopped}
+use Rattle.pk_background.{proofs.ReadSteps.running_ok, proofs.Halted.fails_running, proofs.Halted.fails_step}
 use Rattle.pk_background.proofs.Callings.{spends_still, spends_within, spends_then}
 use Rattle.pk_changes.proofs.change.take_out.Goals as goal
 
@@ -12,14 +12,12 @@ make_room-requires-clause-may g c = record { ready = c.requires.can.ready; stand
 pub take_with_room-requires-clause-can : goal.take_with_room-requires-clause-can
 take_with_room-requires-clause-can g c =
     let e = c.in-Ok.ensures in
-    can_take_after c.args.parts.now c.make_room.new.parts _ (g.B.Nand.state c.args.board.now) (g.B.Nand.state c.make_room.new.board) tt e.leaves e.pending e.step c.args.key c.args.old c.requires.can
+    can_take_after e.leaves e.pending e.step c.args.key c.args.old c.requires.can
 
 pub returns-in-Ok-clause-step : goal.returns-in-Ok-clause-step
 returns-in-Ok-clause-step g c =
     let e = c.in-Ok.ensures in
-    step_takes_later c.args.parts.now c.make_room.new.parts _ (g.B.Nand.state c.args.board.now)
-    (g.B.Nand.state c.make_room.new.board) tt e.leaves e.pending e.step c.take_with_room.result c.take_with_room.new.parts (g.B.Nand.state c.take_with_room.new.board)
-    c.requires.can.ready c.args.key c.args.old c.take_with_room.ensures.step
+    step_takes_later e.leaves e.pending e.step c.take_with_room.result c.take_with_room.new.parts (g.B.Nand.state c.take_with_room.new.board) c.requires.can.ready c.args.key c.args.old c.take_with_room.ensures.step
 
 pub returns-in-Ok-clause-stays : goal.returns-in-Ok-clause-stays
 returns-in-Ok-clause-stays g c =
@@ -52,12 +50,8 @@ returns-in-Err-clause-step g c =
 
 pub returns-in-Err-clause-stays : goal.returns-in-Err-clause-stays
 returns-in-Err-clause-stays g c =
-    let e = c.in-Err.ensures in
-    let a = c.args.parts.now in
-    let b = c.make_room.new.parts in
     fails_running c.in-Err.fault c.fail.result c.make_room.new.parts c.fail.new.self c.fail.ensures.same c.fail.ensures.rest (λ x. StaysBetween c.args.parts.now x)
-    (running_failed Unit Unit (LeavesValues a b × (length b.log.pending ≤ length a.log.pending)) (StaysBetween a b) c.in-Err.fault (λ is. stays_kept a b is.0 is.1 c.requires.can.few)
-    (running_both {T = Unit {0}} (LeavesValues a b) (length b.log.pending ≤ length a.log.pending) (Err c.in-Err.fault) e.leaves e.pending))
+    (stays_failed c.in-Err.fault c.args.parts.now c.make_room.new.parts c.requires.can.few c.in-Err.ensures.leaves c.in-Err.ensures.pending)
 
 pub returns-in-Ok-clause-spends : goal.returns-in-Ok-clause-spends
 returns-in-Ok-clause-spends g c =

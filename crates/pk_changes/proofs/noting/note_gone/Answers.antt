@@ -1,7 +1,8 @@
 use Rattle.pk_changes.proofs.Entries.{gone_short, drops_spaced, drops_held, drops_leave, drops_fit, gone_stands}
 use Rattle.pk_changes.proofs.Programming.{pushed_more}
 use Rattle.std.proofs.Common.{◌∙◌, ap}
-use Rattle.pk_space.specs.Uses.{used_after}
+use Rattle.pk_base.specs.Key.{space_of}
+use Rattle.pk_space.specs.Uses.{IsSpace, used_after}
 use Rattle.pk_values.specs.declared.span.Span.{Span}
 use Rattle.pk_parts.proofs.Staying.{note_stays}
 use Rattle.pk_changes.proofs.noting.note_gone.Goals as goal
@@ -11,26 +12,18 @@ span_at-before-requires g c =
     let p = rw (← c.parts.view_is) at c.requires.drops in
     rw (c.shape-shape.ensures, ← c.parts.view_is) (gone_short _ p.0 p.1 c.args.key c.args.old p.2)
 
-pub change-requires-clause-space : goal.change-requires-clause-space
-change-requires-clause-space g c = rw c.space.ensures.value (c.space.ensures.key.space_some, c.space.ensures.key.space_most)
-
-pub change-requires-clause-there : goal.change-requires-clause-there
-change-requires-clause-there g c =
+pub change-requires : goal.change-requires
+change-requires g c =
     let p = rw (← c.parts.view_is) at c.requires.drops in
     let held = ap (λ (s : Span). s.count) (rw (c.shape-shape.ensures, ← c.parts.view_is) at c.span_at-before.ensures) in
-    rw (c.space.ensures.value, held) (drops_leave _ p.0 p.1 c.args.key c.args.old p.2 (c.space.ensures.key.space_some, c.space.ensures.key.space_most))
-
-pub change-requires-clause-live_fits : goal.change-requires-clause-live_fits
-change-requires-clause-live_fits g c =
-    let p = rw (← c.parts.view_is) at c.requires.drops in
-    let held = ap (λ (s : Span). s.count) (rw (c.shape-shape.ensures, ← c.parts.view_is) at c.span_at-before.ensures) in
-    rw (c.space.ensures.value, held) (drops_fit _ p.0 p.1 c.args.key c.args.old p.2 (c.space.ensures.key.space_some, c.space.ensures.key.space_most)).0
-
-pub change-requires-clause-keys_fit : goal.change-requires-clause-keys_fit
-change-requires-clause-keys_fit g c =
-    let p = rw (← c.parts.view_is) at c.requires.drops in
-    let held = ap (λ (s : Span). s.count) (rw (c.shape-shape.ensures, ← c.parts.view_is) at c.span_at-before.ensures) in
-    rw (c.space.ensures.value, held) (drops_fit _ p.0 p.1 c.args.key c.args.old p.2 (c.space.ensures.key.space_some, c.space.ensures.key.space_most)).1
+    let own : IsSpace (space_of c.args.key) = (c.space.ensures.key.space_some, c.space.ensures.key.space_most) in
+    let fit = drops_fit _ p.0 p.1 c.args.key c.args.old p.2 own in
+    record {
+      space = rw c.space.ensures.value own;
+      there = rw (c.space.ensures.value, held) (drops_leave _ p.0 p.1 c.args.key c.args.old p.2 own);
+      live_fits = rw (c.space.ensures.value, held) fit.0;
+      keys_fit = rw (c.space.ensures.value, held) fit.1;
+    }
 
 pub remove-requires : goal.remove-requires
 remove-requires g c =
@@ -48,20 +41,7 @@ returns-clause-stands g c shape flash m drops =
 
 pub returns-clause-moves : goal.returns-clause-moves
 returns-clause-moves g c =
-    rw (← c.parts.view_is) (note_stays
-    (record {
-      log = c.parts.inside.log;
-      levels = c.parts.inside.levels;
-      arena = c.parts.inside.arena;
-      schedule = c.parts.inside.schedule;
-      values = c.parts.inside.values;
-      reclaim = c.parts.inside.reclaim;
-      pool = c.parts.inside.pool;
-      spaces = c.parts.inside.spaces;
-      stopped = c.parts.inside.stopped;
-      walk = c.parts.inside.walk;
-    })
-    _ c.push.new.self c.remove.new.self _ c.push.ensures.pushed (ap (λ s. s.open_block) c.remove.ensures.removed))
+    rw (← c.parts.view_is) (note_stays _ _ c.push.new.self c.remove.new.self _ c.push.ensures.pushed (ap (λ s. s.open_block) c.remove.ensures.removed))
 
 pub returns-clause-more : goal.returns-clause-more
 returns-clause-more g c = rw (← c.parts.view_is) (pushed_more c.parts.inside.log c.push.new.self _ c.push.ensures.pushed)

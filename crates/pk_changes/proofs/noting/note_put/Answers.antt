@@ -1,8 +1,8 @@
 use Rattle.pk_changes.proofs.Entries.{old_short, puts_spaced, puts_leave, puts_fit, put_moves, put_stands}
-use Rattle.pk_changes.{specs.Noting.pages_at, proofs.Noted.put_noted, proofs.Programming.pushed_more}
+use Rattle.pk_changes.{proofs.Noted.put_noted, proofs.Programming.pushed_more}
 use Rattle.std.proofs.Common.{ℕ, ◌∙◌, ap, sym}
-use Rattle.pk_base.specs.Shape.{charge}
-use Rattle.pk_space.specs.Uses.{used_after}
+use Rattle.pk_base.specs.{Shape.charge, Key.space_of}
+use Rattle.pk_space.specs.Uses.{IsSpace, used_after}
 use Rattle.pk_parts.proofs.Staying.{note_stays}
 use Rattle.pk_changes.proofs.noting.note_put.Goals as goal
 
@@ -23,28 +23,19 @@ pages_at-requires g c =
     let p = rw (← c.parts.view_is) at c.requires.puts in
     rw (c.shape-shape.ensures, ← c.parts.view_is) (old_short _ p.0 p.1 c.args.key p.2 c.args.page c.args.old p.4)
 
-pub change-requires-clause-space : goal.change-requires-clause-space
-change-requires-clause-space g c = rw c.space.ensures.value (c.space.ensures.key.space_some, c.space.ensures.key.space_most)
-
-pub change-requires-clause-there : goal.change-requires-clause-there
-change-requires-clause-there g c =
-    let p = rw (← c.parts.view_is) at c.requires.puts in
-    let held = rw (c.shape-shape.ensures, ← c.parts.view_is) at c.pages_at.ensures in
-    rw (c.space.ensures.value, held) (puts_leave _ p.0 p.1 c.args.key p.2 c.args.page c.args.old p.4 (c.space.ensures.key.space_some, c.space.ensures.key.space_most))
-
-pub change-requires-clause-live_fits : goal.change-requires-clause-live_fits
-change-requires-clause-live_fits g c =
+pub change-requires : goal.change-requires
+change-requires g c =
     let p = rw (← c.parts.view_is) at c.requires.puts in
     let held = rw (c.shape-shape.ensures, ← c.parts.view_is) at c.pages_at.ensures in
     let count = (rw (← c.parts.view_is) at c.requires.counted) ∙ ap (charge c.parts.inside.log.shape) (sym p.3) in
-    rw (c.space.ensures.value, held, count) (puts_fit _ p.0 p.1 c.args.key p.2 c.args.page c.args.old p.4 (c.space.ensures.key.space_some, c.space.ensures.key.space_most)).0
-
-pub change-requires-clause-keys_fit : goal.change-requires-clause-keys_fit
-change-requires-clause-keys_fit g c =
-    let p = rw (← c.parts.view_is) at c.requires.puts in
-    let held = rw (c.shape-shape.ensures, ← c.parts.view_is) at c.pages_at.ensures in
-    let count = (rw (← c.parts.view_is) at c.requires.counted) ∙ ap (charge c.parts.inside.log.shape) (sym p.3) in
-    rw (c.space.ensures.value, held, count) (puts_fit _ p.0 p.1 c.args.key p.2 c.args.page c.args.old p.4 (c.space.ensures.key.space_some, c.space.ensures.key.space_most)).1
+    let own : IsSpace (space_of c.args.key) = (c.space.ensures.key.space_some, c.space.ensures.key.space_most) in
+    let fit = puts_fit _ p.0 p.1 c.args.key p.2 c.args.page c.args.old p.4 own in
+    record {
+      space = rw c.space.ensures.value own;
+      there = rw (c.space.ensures.value, held) (puts_leave _ p.0 p.1 c.args.key p.2 c.args.page c.args.old p.4 own);
+      live_fits = rw (c.space.ensures.value, held, count) fit.0;
+      keys_fit = rw (c.space.ensures.value, held, count) fit.1;
+    }
 
 pub returns-clause-stands : goal.returns-clause-stands
 returns-clause-stands g c shape flash m value is_len puts =
@@ -61,20 +52,7 @@ returns-clause-stands g c shape flash m value is_len puts =
 
 pub returns-clause-moves : goal.returns-clause-moves
 returns-clause-moves g c =
-    rw (← c.parts.view_is) (note_stays
-    (record {
-      log = c.parts.inside.log;
-      levels = c.parts.inside.levels;
-      arena = c.parts.inside.arena;
-      schedule = c.parts.inside.schedule;
-      values = c.parts.inside.values;
-      reclaim = c.parts.inside.reclaim;
-      pool = c.parts.inside.pool;
-      spaces = c.parts.inside.spaces;
-      stopped = c.parts.inside.stopped;
-      walk = c.parts.inside.walk;
-    })
-    _ c.push.new.self c.replace.new.self c.change.new.self c.push.ensures.pushed (ap (λ s. s.open_block) c.replace.ensures.moved))
+    rw (← c.parts.view_is) (note_stays _ _ c.push.new.self c.replace.new.self c.change.new.self c.push.ensures.pushed (ap (λ s. s.open_block) c.replace.ensures.moved))
 
 pub returns-clause-noted : goal.returns-clause-noted
 returns-clause-noted g c =

@@ -1,20 +1,16 @@
-use Rattle.std.proofs.Common.{◌≡◌, ◌+◌, ◌-◌, ◌≤◌, [], min, arith, refl, sym, ap, subst, ℕ, List, length, le_trans}
+use Rattle.std.proofs.Common.{◌≡◌, ◌+◌, ◌-◌, [], min, arith, refl, ap, List}
 use Rattle.pk_base.specs.Entry.{Entry}
 use Rattle.pk_level.specs.Levels.{RunsOnFlash}
 use Rattle.pk_walk.specs.Walking.{Reads, ReadsFail, most_read}
 use Rattle.pk_nvme.{specs.Opcode.op_of, specs.declared.opcode.Opcode.TheVariants.List as ListKeys, specs.Seen.command_of}
-use Rattle.pk_model.proofs.Answering.{key_spaced}
-use Rattle.pk_parts.specs.Parts.{drive_limits}
-use Rattle.pk_core.{proofs.Doing.list_executes, proofs.Doing.list_only, specs.Listed.first_listed}
+use Rattle.pk_core.proofs.Early.{request_space}
 use Rattle.pk_core.proofs.Listing.{from_first, at_first, walks_on, starts_may, starts_unread, starts_bytes}
 use Rattle.pk_core.proofs.ListReads.{reads_between, reads_until, lists_read, lists_unread, few_listed, few_unlisted}
+use Rattle.pk_core.{proofs.Doing.list_executes, proofs.Doing.list_only, specs.Listed.first_listed}
 use Rattle.pk_core.proofs.list.list.Goals as goal
 
 pub first_key-first-requires-clause-values : goal.first_key-first-requires-clause-values
-first_key-first-requires-clause-values g c =
-    let d = c.args.parts.now in
-    let spaced = key_spaced (length (drive_limits d)) d.log.shape (command_of c.args.request.now []) ListKeys (λ n k. refl) (ap op_of c.requires.opcode) c.requires.servable.passed in
-    (spaced.some, le_trans spaced.most c.requires.servable.few_spaces)
+first_key-first-requires-clause-values g c = request_space c.args.parts.now _ c.args.request.now ListKeys (λ n k. refl) (ap op_of c.requires.opcode) c.requires.servable
 
 pub put_left-requires-clause-may : goal.put_left-requires-clause-may
 put_left-requires-clause-may g c = starts_may c.args.parts.now c.start_keys.new.self

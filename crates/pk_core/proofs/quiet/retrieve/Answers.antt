@@ -1,19 +1,16 @@
-use Rattle.std.proofs.Common.{◌≤◌, ◌∙◌, length, ap, arith, subst, ◌-◌, refl, []}
+use Rattle.std.proofs.Common.{◌≤◌, ◌∙◌, length, ap, arith, subst, ◌-◌, refl}
 use Rattle.pk_nand.specs.Calls.{last_count}
-use Rattle.pk_parts.{specs.Parts.most_looks, specs.Parts.drive_limits, specs.Quiet.Looks}
+use Rattle.pk_parts.{specs.Parts.most_looks, specs.Quiet.Looks}
 use Rattle.pk_core.proofs.Unchanging.{retrieve_found, retrieve_none, unread_value, front_of, front_moved, room_of, value_reads, value_breaks, few_of}
-use Rattle.pk_core.{proofs.Executing.executes_quiet, proofs.Executing.same_but_walk, proofs.LookedUp.executes_unread, proofs.Sights.only_reads, proofs.Sights.only_failing}
 use Rattle.pk_core.proofs.Callings.{few_looked, few_failed, looks_less}
+use Rattle.pk_core.{proofs.Executing.executes_quiet, proofs.Executing.same_but_walk, proofs.LookedUp.executes_unread, proofs.Sights.only_reads, proofs.Sights.only_failing}
 use Rattle.pk_nvme.{specs.Seen.command_of, specs.Opcode.op_of, specs.declared.opcode.Opcode.TheVariants.Retrieve}
 use Rattle.pk_call.specs.declared.types.Outcome.{Outcome}
-use Rattle.pk_model.proofs.Answering.{key_spaced}
+use Rattle.pk_core.{proofs.Early.request_space, proofs.LookedUp.only_looked, proofs.LookedUp.only_unread}
 use Rattle.pk_core.proofs.quiet.retrieve.Goals as goal
 
 pub key-key-requires-clause-space : goal.key-key-requires-clause-space
-key-key-requires-clause-space g c =
-    let s = c.requires.servable in
-    let spaced = key_spaced (length (drive_limits c.args.parts.now)) c.args.parts.now.log.shape (command_of c.args.request.now []) Retrieve (λ n k. refl) (ap op_of c.requires.opcode) s.passed in
-    (spaced.some, omega (arith, spaced.most, s.few_spaces))
+key-key-requires-clause-space g c = request_space c.args.parts.now _ c.args.request.now Retrieve (λ n k. refl) (ap op_of c.requires.opcode) c.requires.servable
 
 pub hand_over-requires-clause-value : goal.hand_over-requires-clause-value
 hand_over-requires-clause-value g c =
@@ -148,15 +145,7 @@ returns-in-Err-hand_over-clause-only g c = record {
 }
 
 pub returns-in-Ok-None-clause-only : goal.returns-in-Ok-None-clause-only
-returns-in-Ok-None-clause-only g c = record {
-  same = same_but_walk _ _ (c.look.ensures.same);
-  rest = only_reads _ _ _ c.in-Ok-None.ensures.reads;
-  few = few_looked c.args.parts.now _ _ c.requires.servable.agrees (most_looks c.args.parts.now) (looks_less c.args.parts.now) c.in-Ok-None.ensures.reads;
-}
+returns-in-Ok-None-clause-only g c = only_looked _ _ _ _ (most_looks c.args.parts.now) c.look.ensures.same c.requires.servable.agrees (looks_less c.args.parts.now) c.in-Ok-None.ensures.reads
 
 pub returns-in-Err-clause-only : goal.returns-in-Err-clause-only
-returns-in-Err-clause-only g c = record {
-  same = same_but_walk _ _ (c.look.ensures.same);
-  rest = only_failing _ _ _ c.in-Err.ensures.failing;
-  few = few_failed c.args.parts.now _ _ c.requires.servable.agrees (most_looks c.args.parts.now) (looks_less c.args.parts.now) c.in-Err.ensures.failing;
-}
+returns-in-Err-clause-only g c = only_unread _ _ _ _ (most_looks c.args.parts.now) c.look.ensures.same c.requires.servable.agrees (looks_less c.args.parts.now) c.in-Err.ensures.failing

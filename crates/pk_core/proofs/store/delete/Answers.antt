@@ -1,17 +1,14 @@
-use Rattle.std.proofs.Common.{ap, arith, false, length, refl, []}
+use Rattle.std.proofs.Common.{ap, arith, false, refl}
 use Rattle.pk_core.{proofs.LookedUp.looked_up, proofs.LookedUp.executes_behind, proofs.LookedUp.executes_unread, proofs.Served.delete_is_other, proofs.Staying.stays_from, proofs.Statuses.told_refused}
 use Rattle.pk_core.{proofs.Programming.quiet_delete_behind, proofs.Quieted.reads_behind, proofs.Quieted.whole_looked, proofs.Callings.spends_reads, proofs.Callings.spends_failed}
-use Rattle.pk_parts.{proofs.Staying.stays_same, specs.Parts.Parts, specs.Parts.drive_limits}
+use Rattle.pk_parts.{proofs.Staying.stays_same, specs.Parts.Parts}
 use Rattle.pk_changes.proofs.StoreCalls.{spends_delete}
-use Rattle.pk_nvme.{specs.Opcode.op_of, specs.declared.opcode.Opcode.TheVariants.Delete, specs.Seen.command_of}
-use Rattle.pk_model.proofs.Answering.{key_spaced}
+use Rattle.pk_nvme.{specs.Opcode.op_of, specs.declared.opcode.Opcode.TheVariants.Delete}
+use Rattle.pk_core.proofs.Early.{request_space}
 use Rattle.pk_core.proofs.store.delete.Goals as goal
 
 pub key-key-requires-clause-space : goal.key-key-requires-clause-space
-key-key-requires-clause-space g c =
-    let s = c.requires.servable in
-    let spaced = key_spaced (length (drive_limits c.args.parts.now)) c.args.parts.now.log.shape (command_of c.args.request.now []) Delete (λ n k. refl) (ap op_of c.requires.opcode) s.passed in
-    (spaced.some, omega (arith, spaced.most, s.few_spaces))
+key-key-requires-clause-space g c = request_space c.args.parts.now _ c.args.request.now Delete (λ n k. refl) (ap op_of c.requires.opcode) c.requires.servable
 
 pub delete_at-requires-clause-looked_up : goal.delete_at-requires-clause-looked_up
 delete_at-requires-clause-looked_up g c =

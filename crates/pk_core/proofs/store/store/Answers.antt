@@ -1,18 +1,14 @@
-use Rattle.std.proofs.Common.{ap, arith, subst, false, length, refl, []}
+use Rattle.std.proofs.Common.{ap, arith, subst, false, refl}
 use Rattle.pk_core.{proofs.LookedUp.looked_up, proofs.LookedUp.executes_behind, proofs.LookedUp.executes_unread, proofs.Served.store_is_other, proofs.Staying.opens_from, proofs.Statuses.told_refused}
 use Rattle.pk_core.{proofs.Programming.quiet_store_behind, proofs.Quieted.reads_behind, proofs.Quieted.whole_looked, proofs.Stored.room_looked}
-use Rattle.pk_core.proofs.Callings.{spends_reads, spends_failed}
-use Rattle.pk_parts.{proofs.Staying.stays_same, proofs.Staying.stays_opens, specs.Staying.IsNoted, specs.Parts.Parts, specs.Parts.drive_limits, proofs.Unchanging.agrees_ready}
+use Rattle.pk_core.{proofs.Callings.spends_reads, proofs.Callings.spends_failed, proofs.Early.request_space}
+use Rattle.pk_parts.{proofs.Staying.stays_same, proofs.Staying.stays_opens, specs.Staying.IsNoted, specs.Parts.Parts, proofs.Unchanging.agrees_ready}
 use Rattle.pk_changes.proofs.StoreCalls.{spends_store}
-use Rattle.pk_nvme.{specs.Opcode.op_of, specs.declared.opcode.Opcode.TheVariants.Store, specs.Seen.command_of}
-use Rattle.pk_model.proofs.Answering.{key_spaced}
+use Rattle.pk_nvme.{specs.Opcode.op_of, specs.declared.opcode.Opcode.TheVariants.Store}
 use Rattle.pk_core.proofs.store.store.Goals as goal
 
 pub key-key-requires-clause-space : goal.key-key-requires-clause-space
-key-key-requires-clause-space g c =
-    let s = c.requires.servable in
-    let spaced = key_spaced (length (drive_limits c.args.parts.now)) c.args.parts.now.log.shape (command_of c.args.request.now []) Store (λ n k. refl) (ap op_of c.requires.opcode) s.passed in
-    (spaced.some, omega (arith, spaced.most, s.few_spaces))
+key-key-requires-clause-space g c = request_space c.args.parts.now _ c.args.request.now Store (λ n k. refl) (ap op_of c.requires.opcode) c.requires.servable
 
 pub look-requires-clause-ready : goal.look-requires-clause-ready
 look-requires-clause-ready g c = agrees_ready c.args.parts.now (g.B.Nand.state c.args.board.now) c.requires.servable.agrees

@@ -16,40 +16,33 @@ make_space-requires-clause-number g c = space_numbers c.args.parts.now (g.B.Nand
 pub put_found-requires-clause-can : goal.put_found-requires-clause-can
 put_found-requires-clause-can g c =
     let e = c.in-Ok.ensures in (
-      can_behind c.args.parts.now c.make_space.new.parts (g.B.Nand.state c.args.board.now) (g.B.Nand.state c.make_space.new.board) _ c.args.key c.args.value.now c.requires.can.0 e.stays e.none e.step,
+      can_behind c.requires.can.0 e.stays e.none e.step,
       c.requires.can.1 ∙ ap (λ s. charge s (length c.args.value.now)) (sym e.stays.same_shape),
     )
 
 pub put_found-requires-clause-room : goal.put_found-requires-clause-room
 put_found-requires-clause-room g c =
     let e = c.in-Ok.ensures in
-    room_behind c.args.parts.now c.make_space.new.parts (g.B.Nand.state c.args.board.now) (g.B.Nand.state c.make_space.new.board) _ c.args.key c.args.value.now c.requires.can.0 e.stays e.none e.step
-    (ap (λ n. needs n c.make_space.new.parts) (sym c.requires.can.1) ∙ e.room)
+    room_behind c.requires.can.0 e.stays e.none e.step (ap (λ n. needs n c.make_space.new.parts) (sym c.requires.can.1) ∙ e.room)
 
 pub put_found-requires-clause-number : goal.put_found-requires-clause-number
 put_found-requires-clause-number g c =
     let e = c.in-Ok.ensures in
-    numbers_behind c.args.parts.now c.make_space.new.parts (g.B.Nand.state c.args.board.now) (g.B.Nand.state c.make_space.new.board) _ c.args.key c.args.value.now c.requires.can.0 e.stays e.none e.step
-    (store_numbers c.args.parts.now (g.B.Nand.state c.args.board.now) c.args.key c.args.value.now c.requires.can.0 c.requires.unworn)
+    numbers_behind c.requires.can.0 e.stays e.none e.step (store_numbers c.args.parts.now (g.B.Nand.state c.args.board.now) c.args.key c.args.value.now c.requires.can.0 c.requires.unworn)
 
 pub returns-in-Ok-clause-step : goal.returns-in-Ok-clause-step
 returns-in-Ok-clause-step g c =
     let e = c.in-Ok.ensures in
-    stores_behind c.args.parts.now c.make_space.new.parts (g.B.Nand.state c.args.board.now) (g.B.Nand.state c.make_space.new.board) _ c.args.key c.args.value.now c.requires.can.0 e.stays e.none e.step
-    c.put_found.new.parts (g.B.Nand.state c.put_found.new.board) c.put_found.result c.put_found.ensures.step
+    stores_behind c.requires.can.0 e.stays e.none e.step c.put_found.new.parts (g.B.Nand.state c.put_found.new.board) c.put_found.result c.put_found.ensures.step
 
 pub returns-in-Ok-clause-stays : goal.returns-in-Ok-clause-stays
 returns-in-Ok-clause-stays g c = stays_behind c.put_found.result c.args.parts.now c.make_space.new.parts c.put_found.new.parts c.in-Ok.ensures.stays c.put_found.ensures.stays
 
 pub returns-in-Ok-clause-opens : goal.returns-in-Ok-clause-opens
 returns-in-Ok-clause-opens g c =
-    let e = c.in-Ok.ensures in
-    let step = stores_behind c.args.parts.now c.make_space.new.parts (g.B.Nand.state c.args.board.now) (g.B.Nand.state c.make_space.new.board)
-    (space_calls c.args.parts.now.log.shape) c.args.key c.args.value.now c.requires.can.0 e.stays e.none e.step
-    c.put_found.new.parts (g.B.Nand.state c.put_found.new.board) c.put_found.result c.put_found.ensures.step in
-    opens_behind c.args.parts.now (g.B.Nand.state c.args.board.now) c.args.key c.args.value.now
-    (charge c.args.parts.now.log.shape (length c.args.value.now)) c.requires.can.0 c.requires.no_room c.put_found.result c.put_found.new.parts (g.B.Nand.state c.put_found.new.board) _ step
-    (fresh_behind c.put_found.result c.args.parts.now c.make_space.new.parts c.put_found.new.parts _ e.stays c.put_found.ensures.opens)
+    opens_behind c.args.parts.now (g.B.Nand.state c.args.board.now) c.args.key c.args.value.now (charge c.args.parts.now.log.shape (length c.args.value.now)) c.requires.can.0 c.requires.no_room
+    c.put_found.result c.put_found.new.parts (g.B.Nand.state c.put_found.new.board) _ (returns-in-Ok-clause-step g c)
+    (fresh_behind c.put_found.result c.args.parts.now c.make_space.new.parts c.put_found.new.parts _ c.in-Ok.ensures.stays c.put_found.ensures.opens)
 
 pub returns-in-Err-clause-step : goal.returns-in-Err-clause-step
 returns-in-Err-clause-step g c =
@@ -63,12 +56,8 @@ returns-in-Err-clause-stays g c =
 
 pub returns-in-Err-clause-opens : goal.returns-in-Err-clause-opens
 returns-in-Err-clause-opens g c =
-    let e = c.in-Err.ensures in
-    let step = stores_failed c.in-Err.fault c.args.parts.now c.make_space.new.parts (g.B.Nand.state c.args.board.now) (g.B.Nand.state c.make_space.new.board)
-    (space_calls c.args.parts.now.log.shape) (space_calls c.args.parts.now.log.shape) c.args.key c.args.value.now c.requires.can.0 (omega arith) e.step in
-    opens_behind c.args.parts.now (g.B.Nand.state c.args.board.now) c.args.key c.args.value.now
-    (charge c.args.parts.now.log.shape (length c.args.value.now)) c.requires.can.0 c.requires.no_room _ c.make_space.new.parts (g.B.Nand.state c.make_space.new.board) _ step
-    (fresh_failed c.in-Err.fault c.args.parts.now c.make_space.new.parts e.stays)
+    opens_behind c.args.parts.now (g.B.Nand.state c.args.board.now) c.args.key c.args.value.now (charge c.args.parts.now.log.shape (length c.args.value.now)) c.requires.can.0 c.requires.no_room
+    _ c.make_space.new.parts (g.B.Nand.state c.make_space.new.board) _ (returns-in-Err-clause-step g c) (fresh_failed c.in-Err.fault c.args.parts.now c.make_space.new.parts c.in-Err.ensures.stays)
 
 pub returns-in-Ok-clause-spends : goal.returns-in-Ok-clause-spends
 returns-in-Ok-clause-spends g c = spends_behind _ _ _ _ _ c.in-Ok.ensures.stays.same_shape (length c.args.value.now) c.make_space.ensures.spends c.put_found.ensures.spends
