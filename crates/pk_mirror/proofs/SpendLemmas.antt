@@ -6,7 +6,7 @@ use Rattle.pk_nvme.{specs.Command.Command, specs.declared.opcode.TheConstants.ST
 use Rattle.pk_model.proofs.MapLemmas.{key_total}
 use Rattle.pk_host.{specs.Port.PortState, specs.Port.Took, specs.Calls.delete_of, specs.Calls.store_of, specs.declared.types.StoreRule.TheVariants.Any}
 use Rattle.pk_host.specs.Outcomes.{TookSome, Fetches, Deletes, Tests, Leaves}
-use Rattle.pk_mirror.{specs.Causes.OnlyAsks, specs.Causes.AreAsking, specs.Agreement.NoOther, specs.Agreement.AreAny, specs.Agreement.IsPart, specs.Visits.Visits, specs.Visits.VisitsAll}
+use Rattle.pk_mirror.{specs.Agreement.NoOther, specs.Agreement.AreAny, specs.Agreement.IsPart, specs.Visits.Visits, specs.Visits.VisitsAll}
 use Rattle.pk_mirror.specs.Spending.{OnlyLooks, LooksOr, opcode_count, AreOfResync, Spent, Spending, Deleted, Deleting, Stored, Storing}
 use Rattle.pk_mirror.{proofs.MapLemmas.part_insert, proofs.MapLemmas.len_of_part, proofs.MapLemmas.some_len, proofs.KeyLemmas.found_some}
 
