@@ -10,11 +10,11 @@ use Rattle.pk_host.{specs.Port.PortState, specs.Port.Replies, specs.Port.Took, s
 use Rattle.pk_host.{specs.Outcomes.Gives, specs.Outcomes.AtMostOne, specs.Outcomes.IsCause as IsHostCause, specs.Outcomes.list_of, specs.Outcomes.retrieved, proofs.PageLemmas.map_after_same}
 use Rattle.pk_mirror.{specs.declared.error.Side.Side, specs.declared.error.Side.TheVariants.First, specs.declared.error.Side.TheVariants.Second, specs.declared.error.MirrorError.MirrorError}
 use Rattle.pk_mirror.specs.declared.error.MirrorError.TheVariants.{Refused, Port, Split}
-use Rattle.pk_mirror.{specs.Pair.Mirrored, specs.Pair.IsPair, specs.Asks.SecondAnswers, specs.Asks.Asks, specs.Asks.StaysUnlessPort, specs.Asks.KeepsMaps}
 use Rattle.pk_mirror.specs.Causes.{Decides, is_port, port_failed, is_unanswered, unanswered, IsCause, IsReadError, HasFailed, BothFailed}
 use Rattle.pk_mirror.proofs.ReplyLemmas.{Tells, retrieved_tells, listed_tells}
 use Rattle.pk_mirror.proofs.PairLemmas.{by_map, still_pair, one_leaves, ok_never, err_by, err_never}
-use Rattle.pk_mirror.proofs.WriteLemmas.{refused_or_port, refused_by, on_refused, on_port, refused_is, on_split, true_false}
+use Rattle.pk_mirror.proofs.WriteLemmas.{refused_or_port, by_side, refused_by, refused_is, never_split, true_false}
+use Rattle.pk_mirror.{specs.Pair.Mirrored, specs.Pair.IsPair, specs.Asks.SecondAnswers, specs.Asks.Asks, specs.Asks.StaysUnlessPort, specs.Asks.KeepsMaps}
 
 -- ---- a command that leaves the map
 
@@ -54,11 +54,27 @@ other_page old new c page other e (inr fault) = inr fault
 
 -- ---- both drives
 
+-- what a call that asks says of the pair
+pub record Asked {X : Type 0} (old new : Mirrored) (p p' q q' : PortState) (c : Command) (result : Result X MirrorError) : Type 1 where
+  pub pair : IsPair new p' q'
+  pub split : (old.split ≡ true → result ≡ Err Split) × (result ≡ Err Split → old.split ≡ true)
+  pub stays : old.split ≡ false → StaysUnlessPort new p p' q q'
+  pub keeps : KeepsMaps p p' q q'
+  pub causes : IfErr result (λ e. (e ≡ Split → ⊥) → IsCause p p' q q' e)
+  pub unread : (m : Map) → p.map ≡ Some m → IfErr result IsReadError
+  pub both_failed : (m : Map) → p.map ≡ Some m → IfErr result (λ e. BothFailed p p' q q' e)
+  -- in step, both maps are one
+  pub ok : (F : X → Type 0) → (p.map ≡ q.map → IfOk result F) → IfOk result F
+  pub on : (F : Type 0) → (p.map ≡ q.map → OnOk result F) → OnOk result F
+
 module _ {X : Type 0} (old new : Mirrored) (p p' q q' : PortState) (c : Command) (k : Opcode) (of : Reply → Result X HostError) (result : Result X MirrorError)
     (tells : Tells of) (is : op_of c.opcode ≡ Some k) (stays : (m : Map) → effect m c (Some k) ≡ m) (unread : OnlyUnread c of)
     (pair : IsPair old p q) (cs ds : List Command) (one : AtMostOne c cs) (two : AtMostOne c ds) (t : Took p p' cs) (u : Took q q' ds) (w : Asks old new p p' q q' c of result) where
-  pub ask_keeps : KeepsMaps p p' q q'
-  ask_keeps = record { first_keeps = one_keeps p p' c k cs is stays one t; second_keeps = one_keeps q q' c k ds is stays two u }
+  first_stays : p'.map ≡ p.map
+  first_stays = one_keeps p p' c k cs is stays one t
+
+  second_stays : q'.map ≡ q.map
+  second_stays = one_keeps q q' c k ds is stays two u
 
   was_in_step : new.split ≡ false → old.split ≡ false
   was_in_step off = elim w [
@@ -74,42 +90,15 @@ module _ {X : Type 0} (old new : Mirrored) (p p' q q' : PortState) (c : Command)
     | inr (inr s) ↦ ap (λ (x : Mirrored). x.shape) s.splits
   ]
 
-  pub ask_pair : IsPair new p' q'
-  ask_pair = still_pair p p' q q' cs ds t u old new pair same_mirror_shape (λ off.
-      ask_keeps.second_keeps ∙ pair.in_step (was_in_step off) ∙ sym ask_keeps.first_keeps)
-
-  error_same : (x y : MirrorError) → ◌≡◌ {A = Result X MirrorError} (Err x) (Err y) → x ≡ y
-  error_same x y e = cc
-
-  not_split : (side : Side) (answer : Result X HostError) → Decides side answer result → result ≡ Err Split → ⊥
-  not_split side (Ok x) d e = let clash : ◌≡◌ {A = Result X MirrorError} (Ok x) (Err Split) = sym d ∙ e in cc
-  not_split side (Err error) d e = on_split side error d.0 d.2 (error_same d.0 Split (sym d.1 ∙ e))
-
-  pub ask_split : (old.split ≡ true → result ≡ Err Split) × (result ≡ Err Split → old.split ≡ true)
-  ask_split = elim w [
-    | inl s ↦ (λ e. s.answer, λ e. s.split)
-    | inr (inl f) ↦ (λ e. true_false old.split e f.in_step, λ e. absurd (not_split First f.answer f.decides e))
-    | inr (inr s) ↦ (λ e. true_false old.split e s.in_step, λ e. absurd (not_split Second s.answer s.decides e))
-  ]
-
   or_false : (a b : Bool) → a ≡ false → b ≡ false → (a || b) ≡ false
   or_false a b e f = ap (λ x. x || b) e ∙ f
 
-  pub ask_stays : old.split ≡ false → StaysUnlessPort new p p' q q'
-  ask_stays step = elim w [
-    | inl s ↦ true_false old.split s.split step
-    | inr (inl f) ↦ inl (ap (λ (x : Mirrored). x.split) f.same ∙ step)
-    | inr (inr s) ↦ refused_or_port of tells p p' c s.error (StaysUnlessPort new p p' q q') s.gives_first
-        (λ a r e same fails. by_second s (refused_is s.error a.status same) s.answer refl s.gives)
-        (λ same rose. inr (inl rose))
-  ]
-    where
-      by_second : (s : SecondAnswers old new p p' q q' c of result) → is_port s.error ≡ false
-          → (answer : Result X HostError) → s.answer ≡ answer → Gives q q' c of answer → StaysUnlessPort new p p' q q'
-      by_second s off (Ok x) is g = inl (ap (λ (x : Mirrored). x.split) s.splits ∙ or_false (is_port s.error) (port_failed s.answer) off (ap (port_failed {X = X}) is))
-      by_second s off (Err error) is g = refused_or_port of tells q q' c error (StaysUnlessPort new p p' q q') g
-          (λ a r e same fails. inl (ap (λ (x : Mirrored). x.split) s.splits ∙ or_false (is_port s.error) (port_failed s.answer) off (ap (port_failed {X = X}) is ∙ refused_is error a.status same)))
-          (λ same rose. inr (inr rose))
+  by_second : (s : SecondAnswers old new p p' q q' c of result) → is_port s.error ≡ false
+      → (answer : Result X HostError) → s.answer ≡ answer → Gives q q' c of answer → StaysUnlessPort new p p' q q'
+  by_second s off (Ok x) is g = inl (ap (λ (x : Mirrored). x.split) s.splits ∙ or_false (is_port s.error) (port_failed s.answer) off (ap (port_failed {X = X}) is))
+  by_second s off (Err error) is g = refused_or_port of tells q q' c error (StaysUnlessPort new p p' q q') g
+      (λ a r e same fails. inl (ap (λ (x : Mirrored). x.split) s.splits ∙ or_false (is_port s.error) (port_failed s.answer) off (ap (port_failed {X = X}) is ∙ refused_is error a.status same)))
+      (λ same rose. inr (inr rose))
 
   -- ---- why there is no answer
 
@@ -119,17 +108,8 @@ module _ {X : Type 0} (old new : Mirrored) (p p' q q' : PortState) (c : Command)
       → (a.status == 0) ≡ false → answer ≡ Err (HostRefused a.status) → F (Refused side a.status))
       → (Rose drive.port_faults drive'.port_faults → F (Port side)) → IfErr result F
   by_cause F side drive drive' (Ok x) g d refused port = err_never result x F d
-  by_cause F side drive drive' (Err error) g d refused port = err_by result d.0 F d.1 (refused_or_port of tells drive drive' c error (F d.0) g
-      (λ a r e same fails. subst F (sym (on_refused side error a.status d.0 same d.2))
-      (refused a r (λ other is. e ∙ is) fails (ap (λ (x : HostError). Err x) same)))
-      (λ same rose. subst F (sym (on_port side error d.0 same d.2)) (port rose)))
-
-  pub ask_causes : IfErr result (λ e. (e ≡ Split → ⊥) → IsCause p p' q q' e)
-  ask_causes = elim w [
-    | inl s ↦ err_by result Split (λ e. (e ≡ Split → ⊥) → IsCause p p' q q' e) s.answer (λ off. absurd (off refl))
-    | inr (inl f) ↦ by_cause (λ e. (e ≡ Split → ⊥) → IsCause p p' q q' e) First p p' f.answer f.gives f.decides (λ a r e fails is off. refused_by of tells p p' c a r fails) (λ h off. h)
-    | inr (inr s) ↦ by_cause (λ e. (e ≡ Split → ⊥) → IsCause p p' q q' e) Second q q' s.answer s.gives s.decides (λ a r e fails is off. refused_by of tells q q' c a r fails) (λ h off. h)
-  ]
+  by_cause F side drive drive' (Err error) g d refused port = err_by result d.0 F d.1 (by_side of tells drive drive' c F side error d.0 g d.2
+      (λ a r e same fails. refused a r (λ other is. e ∙ is) fails (ap (λ (x : HostError). Err x) same)) port)
 
   -- the first never decides on a failed read
   no_first : (answer : Result X HostError) (a : Reply) → unanswered answer ≡ false → answer ≡ Err (HostRefused a.status) → a.status ≡ UNRECOVERED_ERROR → ⊥
@@ -138,14 +118,6 @@ module _ {X : Type 0} (old new : Mirrored) (p p' q q' : PortState) (c : Command)
 
   no_first_port : (answer : Result X HostError) → unanswered answer ≡ false → answer ≡ Err HostPort → ⊥
   no_first_port answer off is = let clash : true ≡ false = sym (ap (unanswered {X = X}) is) ∙ off in cc
-
-  pub ask_unread : (m : Map) → p.map ≡ Some m → IfErr result IsReadError
-  ask_unread m told = elim w [
-    | inl s ↦ err_by result Split IsReadError s.answer tt
-    | inr (inl f) ↦ by_cause IsReadError First p p' f.answer f.gives f.decides (λ a r e fails is. unread p p' a (HostRefused a.status) r (e (HostRefused a.status) is) m told) (λ h. tt)
-    | inr (inr s) ↦ by_cause IsReadError Second q q' s.answer s.gives s.decides
-        (λ a r e fails is. unread q q' a (HostRefused a.status) r (e (HostRefused a.status) is) m (pair.in_step s.in_step ∙ told)) (λ h. tt)
-  ]
 
   first_failed : (error : HostError) → Gives p p' c of (Err error) → is_unanswered error ≡ true → HasFailed p p'
   first_failed error g off = refused_or_port of tells p p' c error (HasFailed p p') g
@@ -159,31 +131,52 @@ module _ {X : Type 0} (old new : Mirrored) (p p' q q' : PortState) (c : Command)
       (λ a r e same fails. no_first (Err error) a off (ap (λ (x : HostError). Err x) same) (unread p p' a error r e m told))
       (λ same rose. no_first_port (Err error) off (ap (λ (x : HostError). Err x) same)))
 
-  pub ask_both_failed : (m : Map) → p.map ≡ Some m → IfErr result (λ e. BothFailed p p' q q' e)
-  ask_both_failed m told = elim w [
-    | inl s ↦ err_by result Split (λ e. BothFailed p p' q q' e) s.answer tt
-    | inr (inl f) ↦ first_decides f.answer f.gives f.decides f.answered m told
-    | inr (inr s) ↦ by_cause (λ e. BothFailed p p' q q' e) Second q q' s.answer s.gives s.decides
-        (λ a r e fails is. (first_failed s.error s.gives_first s.no_answer, inr (r.unread (unread q q' a (HostRefused a.status) r (e (HostRefused a.status) is) m (pair.in_step s.in_step ∙ told)))))
-        (λ rose. (first_failed s.error s.gives_first s.no_answer, inl rose))
-  ]
-
-  -- ---- answers
-
-  -- in step, both maps are one
-  pub ask_ok : (F : X → Type 0) → (p.map ≡ q.map → IfOk result F) → IfOk result F
-  ask_ok F h = elim w [
-    | inl s ↦ subst (λ y. IfOk y F) (sym s.answer) tt
-    | inr (inl f) ↦ h (sym (pair.in_step f.in_step))
-    | inr (inr s) ↦ h (sym (pair.in_step s.in_step))
-  ]
-
-  pub ask_on : (F : Type 0) → (p.map ≡ q.map → OnOk result F) → OnOk result F
-  ask_on F h = elim w [
-    | inl s ↦ ok_never result Split F s.answer
-    | inr (inl f) ↦ h (sym (pair.in_step f.in_step))
-    | inr (inr s) ↦ h (sym (pair.in_step s.in_step))
-  ]
+  pub asked : Asked old new p p' q q' c result
+  asked = record {
+    pair = still_pair p p' q q' cs ds t u old new pair same_mirror_shape (λ off.
+        second_stays ∙ pair.in_step (was_in_step off) ∙ sym first_stays);
+    split = elim w [
+      | inl s ↦ (λ e. s.answer, λ e. s.split)
+      | inr (inl f) ↦ (λ e. true_false old.split e f.in_step, λ e. absurd (never_split First f.answer result f.decides e))
+      | inr (inr s) ↦ (λ e. true_false old.split e s.in_step, λ e. absurd (never_split Second s.answer result s.decides e))
+    ];
+    stays = λ step. elim w [
+      | inl s ↦ true_false old.split s.split step
+      | inr (inl f) ↦ inl (ap (λ (x : Mirrored). x.split) f.same ∙ step)
+      | inr (inr s) ↦ refused_or_port of tells p p' c s.error (StaysUnlessPort new p p' q q') s.gives_first
+          (λ a r e same fails. by_second s (refused_is s.error a.status same) s.answer refl s.gives)
+          (λ same rose. inr (inl rose))
+    ];
+    keeps = record { first_keeps = first_stays; second_keeps = second_stays };
+    causes = elim w [
+      | inl s ↦ err_by result Split (λ e. (e ≡ Split → ⊥) → IsCause p p' q q' e) s.answer (λ off. absurd (off refl))
+      | inr (inl f) ↦ by_cause (λ e. (e ≡ Split → ⊥) → IsCause p p' q q' e) First p p' f.answer f.gives f.decides (λ a r e fails is off. refused_by of tells p p' c a r fails) (λ h off. h)
+      | inr (inr s) ↦ by_cause (λ e. (e ≡ Split → ⊥) → IsCause p p' q q' e) Second q q' s.answer s.gives s.decides (λ a r e fails is off. refused_by of tells q q' c a r fails) (λ h off. h)
+    ];
+    unread = λ m told. elim w [
+      | inl s ↦ err_by result Split IsReadError s.answer tt
+      | inr (inl f) ↦ by_cause IsReadError First p p' f.answer f.gives f.decides (λ a r e fails is. unread p p' a (HostRefused a.status) r (e (HostRefused a.status) is) m told) (λ h. tt)
+      | inr (inr s) ↦ by_cause IsReadError Second q q' s.answer s.gives s.decides
+          (λ a r e fails is. unread q q' a (HostRefused a.status) r (e (HostRefused a.status) is) m (pair.in_step s.in_step ∙ told)) (λ h. tt)
+    ];
+    both_failed = λ m told. elim w [
+      | inl s ↦ err_by result Split (λ e. BothFailed p p' q q' e) s.answer tt
+      | inr (inl f) ↦ first_decides f.answer f.gives f.decides f.answered m told
+      | inr (inr s) ↦ by_cause (λ e. BothFailed p p' q q' e) Second q q' s.answer s.gives s.decides
+          (λ a r e fails is. (first_failed s.error s.gives_first s.no_answer, inr (r.unread (unread q q' a (HostRefused a.status) r (e (HostRefused a.status) is) m (pair.in_step s.in_step ∙ told)))))
+          (λ rose. (first_failed s.error s.gives_first s.no_answer, inl rose))
+    ];
+    ok = λ F h. elim w [
+      | inl s ↦ subst (λ y. IfOk y F) (sym s.answer) tt
+      | inr (inl f) ↦ h (sym (pair.in_step f.in_step))
+      | inr (inr s) ↦ h (sym (pair.in_step s.in_step))
+    ];
+    on = λ F h. elim w [
+      | inl s ↦ ok_never result Split F s.answer
+      | inr (inl f) ↦ h (sym (pair.in_step f.in_step))
+      | inr (inr s) ↦ h (sym (pair.in_step s.in_step))
+    ];
+  }
 
 -- ---- two failures
 

@@ -15,8 +15,7 @@ use Rattle.pk_host.proofs.CommandLemmas.{keyed_fault, delete_by, exist_by, key-o
 use Rattle.pk_mirror.{specs.declared.error.Side.Side, specs.declared.error.Side.TheVariants.First, specs.declared.error.Side.TheVariants.Second, specs.declared.error.MirrorError.MirrorError}
 use Rattle.pk_mirror.{specs.Pair.Alike, specs.Causes.IsOn, specs.Causes.IsCause, specs.Causes.IsReadError, specs.Visits.Visits, specs.Visits.OnlyReadsFail}
 use Rattle.pk_mirror.{specs.Agreement.NoOther, specs.Agreement.HaveSame, specs.Agreement.AreAny, specs.Agreement.IsPart, proofs.AskLemmas.OnlyUnread, proofs.AskLemmas.one_keeps}
-use Rattle.pk_mirror.proofs.ReplyLemmas.{Tells, unless_refused, stored_tells}
-use Rattle.pk_mirror.proofs.WriteLemmas.{refused_or_port, refused_by, on_refused, on_port}
+use Rattle.pk_mirror.{proofs.ReplyLemmas.Tells, proofs.ReplyLemmas.unless_refused, proofs.ReplyLemmas.stored_tells, proofs.WriteLemmas.by_side, proofs.WriteLemmas.refused_by}
 use Rattle.pk_mirror.proofs.MapLemmas.{value_fits, by_key, get_removed, get_removed_other, get_inserted, get_inserted_other, missing_key, part_insert, live_of_part}
 
 -- ---- what a Retrieve found
@@ -137,21 +136,16 @@ visits_stored p q q' k into value len f fits is leaves a b ea eb part =
 
 module _ {X : Type 0} (of : Reply → Result X HostError) (tells : Tells of) (c : Command) (p p' q q' : PortState) (error : HostError) (e : MirrorError) where
   pub first_cause : Gives p p' c of (Err error) → IsOn First error e → IsCause p p' q q' e
-  first_cause g on = refused_or_port of tells p p' c error (IsCause p p' q q' e) g
-      (λ a r err same fails. subst (IsCause p p' q q') (sym (on_refused First error a.status e same on)) (refused_by of tells p p' c a r fails))
-      (λ same rose. subst (IsCause p p' q q') (sym (on_port First error e same on)) rose)
+  first_cause g on = by_side of tells p p' c (IsCause p p' q q') First error e g on (λ a r err same fails. refused_by of tells p p' c a r fails) (λ rose. rose)
 
   pub second_cause : Gives q q' c of (Err error) → IsOn Second error e → IsCause p p' q q' e
-  second_cause g on = refused_or_port of tells q q' c error (IsCause p p' q q' e) g
-      (λ a r err same fails. subst (IsCause p p' q q') (sym (on_refused Second error a.status e same on)) (refused_by of tells q q' c a r fails))
-      (λ same rose. subst (IsCause p p' q q') (sym (on_port Second error e same on)) rose)
+  second_cause g on = by_side of tells q q' c (IsCause p p' q q') Second error e g on (λ a r err same fails. refused_by of tells q q' c a r fails) (λ rose. rose)
 
 -- if the map of the side is known, its drive could not read
 pub side_unread : {X : Type 0} (of : Reply → Result X HostError) (tells : Tells of) (c : Command) (side : Side) (old new : PortState) (error : HostError) (e : MirrorError) → OnlyUnread c of
     → Gives old new c of (Err error) → IsOn side error e → (m : Map) → old.map ≡ Some m → IsReadError e
-side_unread of tells c side old new error e unread g on m told = refused_or_port of tells old new c error (IsReadError e) g
-    (λ a r err same fails. subst IsReadError (sym (on_refused side error a.status e same on)) (unread old new a error r err m told))
-    (λ same rose. subst IsReadError (sym (on_port side error e same on)) tt)
+side_unread of tells c side old new error e unread g on m told =
+    by_side of tells old new c IsReadError side error e g on (λ a r err same fails. unread old new a error r err m told) (λ rose. tt)
 
 -- a Delete or an Exist that has no answer met a failed read
 no_there : (b d : Bool) (s : ℕ) (e : HostError) → ◌≡◌ {A = Result Bool HostError} (if b then Ok true else if d then Ok false else Err (HostRefused s)) (Err e) → (b ≡ false) × (d ≡ false)
@@ -195,12 +189,11 @@ pub store_unread : (p p1 q q' : PortState) (k : Key) (into value : List ℕ) (le
     → IsKey k → space_of k ≡ 1 → Alike p q → Gives p p1 (retrieve_of k size) retrieved (Ok x)
     → greatest p.shape ≤ length into → Fetches p k (Some len) into → value ≡ take len into → Gives q q' (store_of k value Any) stored (Err error) → IsOn Second error e → OnlyReadsFail IsPart p q e
 store_unread p p1 q q' k into value len size x error e is first_space alike found wide f front g on a b ea eb part =
-    refused_or_port stored stored_tells q q' (store_of k value Any) error (IsReadError e) g
+    by_side stored stored_tells q q' (store_of k value Any) IsReadError Second error e g on
     (λ r replies err same fails.
     let s = replies.answers b eb in
-    subst IsReadError (sym (on_refused Second error r.status e same on))
-    (unless_refused q.shape q.limit b (store_of k value Any) Store refl s.frames r s.left (λ most frames m own. refl) (fits s.within.alone) fails s.stepped))
-    (λ same rose. subst IsReadError (sym (on_port Second error e same on)) tt)
+    unless_refused q.shape q.limit b (store_of k value Any) Store refl s.frames r s.left (λ most frames m own. refl) (fits s.within.alone) fails s.stepped)
+    (λ rose. tt)
   where
     room : (v : List ℕ) → get a k ≡ Some v → length v ≤ length into
     room v ev = fits_told p p1 (retrieve_of k size) retrieved x (length into) k found wide a ea v ev

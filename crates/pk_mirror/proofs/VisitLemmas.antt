@@ -4,7 +4,8 @@ use Rattle.std.specs.List.{AllByRecursion}
 use Rattle.pk_base.{specs.Key.Key, specs.Map.Map}
 use Rattle.pk_nvme.specs.Command.{Command}
 use Rattle.pk_host.{specs.Port.PortState, specs.Port.Took, specs.TookLaws.took_both, specs.Outcomes.TookSome}
-use Rattle.pk_mirror.{specs.declared.error.Side.TheVariants.First, specs.declared.error.Side.TheVariants.Second, specs.declared.error.MirrorError.MirrorError, specs.Spending.Spending, specs.Spending.OnlyLooks, specs.Progress.Looked, specs.Progress.Progress, specs.Progress.Failure}
+use Rattle.pk_mirror.{specs.declared.error.Side.TheVariants.First, specs.declared.error.Side.TheVariants.Second, specs.declared.error.MirrorError.MirrorError}
+use Rattle.pk_mirror.{specs.Spending.Spending, specs.Spending.OnlyLooks, specs.Progress.Looked, specs.Progress.Progress, specs.Progress.Failure}
 use Rattle.pk_mirror.specs.declared.error.MirrorError.TheVariants.{Refused, Port, Split}
 use Rattle.pk_mirror.proofs.SpendLemmas.{IsOther, spent_none, spent_looks, spending_looks, took_spent, took_spending, took_settled, goes_same}
 use Rattle.pk_mirror.{specs.Causes.RefusedBy, specs.Causes.IsCause, specs.Causes.OnlyAsks, specs.Causes.AreAsking, specs.Causes.NotEmpty, specs.Visits.Visits, specs.Visits.OnlyReadsFail}

@@ -67,17 +67,6 @@ says-long number line long = let e : nat_lt 2200000 (length line) ≡ true = gri
 
 -- ---- steps
 
-pub LineGives-nothing : (number : ℕ) (line : List ℕ) (a : BoardState) → says number line ≡ Some nothing → LineGives number line number a a
-LineGives-nothing number line a e = record { out = []; spells = λ more. ap (λ o. line_given o number more) e; input = refl; moved = Moved-none a }
-
-pub LineGives-entry : (number : ℕ) (line e bytes : List ℕ) (a b : BoardState) → says number line ≡ Some (entry e bytes) → b ≡ after_post a (e ++ bytes) → LineGives number line (number + 1) a b
-LineGives-entry number line e bytes a b said posted = record {
-  out = e ++ bytes;
-  spells = λ more. ap (λ o. line_given o number more) said;
-  input = ap (λ s. s.input) posted;
-  moved = Moved-post a b (e ++ bytes) posted;
-}
-
 pub Line-advances : (taken number next : ℕ) (p q line : List ℕ) (a b c : BoardState) → taken < 4294967295 → LineTaken p q a b line true → LineGives number line next b c
     → TextAdvances (assembled_from taken number) (assembled_from (suc taken) next) (ahead p a) (ahead q c) a c
 Line-advances taken number next p q line a b c few found given = record {
@@ -196,39 +185,38 @@ entry_said (Some (entry e' bytes)) e h = let same : e' ≡ e = cc in ap (λ x. S
 entry_said None e h = cc
 
 pub LineGives-none : (number : ℕ) (line : List ℕ) (a : BoardState) → option_map entry_in (says number line) ≡ Some None → LineGives number line number a a
-LineGives-none number line a h = LineGives-nothing number line a (nothing_said (says number line) h)
+LineGives-none number line a h = record { out = []; spells = λ more. ap (λ o. line_given o number more) (nothing_said (says number line) h); input = refl; moved = Moved-none a }
 
 pub LineGives-some : (number : ℕ) (line e bytes : List ℕ) (a b : BoardState)
     → option_map entry_in (says number line) ≡ Some (Some e) → bytes ≡ line_bytes (says number line) → b ≡ after_post a (e ++ bytes)
     → LineGives number line (number + 1) a b
-LineGives-some number line e bytes a b h same posted =
-    LineGives-entry number line e (line_bytes (says number line)) a b (entry_said (says number line) e h) (posted ∙ ap (λ t. after_post a (e ++ t)) same)
+LineGives-some number line e bytes a b h same posted = record {
+  out = e ++ bytes;
+  spells = λ more. ap (λ o. line_given o number more) (entry_said (says number line) e h ∙ ap (λ t. Some (entry e t)) (sym same));
+  input = ap (λ s. s.input) posted;
+  moved = Moved-post a b (e ++ bytes) posted;
+}
 
 pub LineGives-failed : (number : ℕ) (line e bytes : List ℕ) (a b : BoardState)
     → option_map entry_in (says number line) ≡ Some (Some e) → bytes ≡ line_bytes (says number line) → PostFailed a b (e ++ bytes)
     → GivesNot number line a b Output
 LineGives-failed number line e bytes a b h same f =
-    let T : List ℕ → Type 0 = λ t. PostFailed a b (e ++ t) in
-    (e, line_bytes (says number line), entry_said (says number line) e h, subst T same f)
+    (e, line_bytes (says number line), entry_said (says number line) e h, rw same at f)
 
 -- ---- byte by byte
 
 pub Line-ended : (p q r line : List ℕ) (a b c : BoardState) (next : Option ℕ) (byte : ℕ) → IsLine line → Fed p q a b line → Nexted q r b c next → next ≡ Some byte → byte ≡ 10
     → LineTaken p r a c line true
 Line-ended p q r line a b c next byte plain fed h e feed =
-    let T : Option ℕ → Type 0 = λ o. Nexted q r b c o in
     let U : ℕ → Type 0 = λ x. Fed p r a c (line ++ x ∷ []) in
-    (plain, subst U feed (Fed-more p q r a b c line byte fed (subst T e h)))
+    (plain, subst U feed (Fed-more p q r a b c line byte fed (rw e at h)))
 
 pub Line-more : (p q r line : List ℕ) (a b c : BoardState) (next : Option ℕ) (byte : ℕ) → Fed p q a b line → Nexted q r b c next → next ≡ Some byte → Fed p r a c (line ++ byte ∷ [])
-Line-more p q r line a b c next byte fed h e = let T : Option ℕ → Type 0 = λ o. Nexted q r b c o in Fed-more p q r a b c line byte fed (subst T e h)
+Line-more p q r line a b c next byte fed h e = Fed-more p q r a b c line byte fed (rw e at h)
 
 pub Line-final : (p q r line : List ℕ) (a b c : BoardState) (next : Option ℕ) → IsLine line → Fed p q a b line → Nexted q r b c next → next ≡ None → 0 < length line
     → LineTaken p r a c line false
-Line-final p q r line a b c next plain fed h e some =
-    let T : Option ℕ → Type 0 = λ o. Nexted q r b c o in
-    let n = subst T e h in
-    (plain, Fed-end p q r a b c line fed n.0, some, n.1)
+Line-final p q r line a b c next plain fed h e some = let n = rw e at h in (plain, Fed-end p q r a b c line fed n.0, some, n.1)
 
 pub plain_byte : (byte : ℕ) → (byte ≡ 10 → ⊥) → (byte == 10) ≡ false
 plain_byte byte h = grind (arith, nat_tests)
@@ -236,26 +224,3 @@ plain_byte byte h = grind (arith, nat_tests)
 pub some_of : (xs : List ℕ) → (xs ≡ [] → ⊥) → 0 < length xs
 some_of [] h = absurd (h refl)
 some_of (x ∷ xs) h = omega arith
-
-pub Line-advances_as : (taken number next : ℕ) (p q line l : List ℕ) (a b c : BoardState) (whole : Bool)
-    → taken < 4294967295 → LineTaken p q a b line whole → whole ≡ true → l ≡ line → LineGives number l next b c
-    → TextAdvances (assembled_from taken number) (assembled_from (suc taken) next) (ahead p a) (ahead q c) a c
-Line-advances_as taken number next p q line l a b c whole few h e same given =
-    let T : Bool → Type 0 = λ w. LineTaken p q a b line w in
-    let U : List ℕ → Type 0 = λ x. LineGives number x next b c in
-    Line-advances taken number next p q line a b c few (subst T e h) (subst U same given)
-
-pub Line-last_as : (taken number next : ℕ) (p q line l : List ℕ) (a b c : BoardState) (whole : Bool)
-    → taken < 4294967295 → LineTaken p q a b line whole → whole ≡ false → l ≡ line → LineGives number l next b c
-    → TurnsFrom (assembled_from taken number) (ahead p a) a c Done
-Line-last_as taken number next p q line l a b c whole few h e same given =
-    let T : Bool → Type 0 = λ w. LineTaken p q a b line w in
-    let U : List ℕ → Type 0 = λ x. LineGives number x next b c in
-    Line-last taken number next p q line a b c few (subst T e h) (subst U same given)
-
-pub Line-not_as : (taken number : ℕ) (p q line l : List ℕ) (a b c : BoardState) (whole : Bool) (end : TextEnd)
-    → taken < 4294967295 → LineTaken p q a b line whole → l ≡ line → GivesNot number l b c end
-    → TurnsFrom (assembled_from taken number) (ahead p a) a c end
-Line-not_as taken number p q line l a b c whole end few h same failed =
-    let U : List ℕ → Type 0 = λ x. GivesNot number x b c end in
-    Line-not taken number p q line a b c whole end few h (subst U same failed)

@@ -10,8 +10,8 @@ use Rattle.pk_show.specs.Shown.{shown_head, shown as record_line, words, head_of
 use Rattle.pk_nand.{specs.BoardState.BoardState, specs.Calls.put_back, specs.Operations.after_post, specs.Operations.PostFailed}
 use Rattle.pk_text.{specs.Written.Written, specs.Written.ended, specs.Written.before, specs.Turns.TurnsFrom, specs.declared.end.TextEnd.TextEnd, proofs.Feeding.Fed-used}
 use Rattle.pk_text.specs.Records.{cut_short, data_shown, head_shown, record_shown, records_shown, shown_from}
-use Rattle.pk_text.specs.Steps.{ahead, TextAdvances, Fed, IsOver, Filled, HeadTaken, TextStops}
-use Rattle.pk_text.specs.declared.end.TextEnd.TheVariants.{Done, Truncated, Output, TooMany}
+use Rattle.pk_text.specs.Steps.{ahead, TextAdvances, Fed, IsOver, HeadTaken, TextStops}
+use Rattle.pk_text.specs.declared.end.TextEnd.TheVariants.{Truncated, Output, TooMany}
 use Rattle.pk_text.proofs.Turning.{not_false, put_back-nil, before-before, Moved-none, Moved-then, Moved-post, known, known_is, told-back, none_ahead, Turns-output, Turns-stop, all_posted}
 
 nil_of : (xs : List ℕ) → length xs ≡ 0 → xs ≡ []
@@ -151,15 +151,6 @@ Head-advances taken p q head a b few h = record {
   moved = h.0.moved;
 }
 
-pub Head-none : (taken : ℕ) (p q head : List ℕ) (a b : BoardState) → head ≡ [] → HeadTaken p q a b head false → TurnsFrom (shown_from taken) (ahead p a) a b Done
-Head-none taken p q head a b empty h = record {
-  input = [];
-  told = told-back (ahead p a) (ahead q b) [] [] (h.0.came ∙ ap (λ l. put_back l (ahead q b)) empty) (none_ahead q b h.2);
-  out = [];
-  touched = h.0.moved.touched;
-  ends = (all_posted a b (ended Done) [] Done h.0.moved refl, h.2.at_end);
-}
-
 pub Head-part : (taken : ℕ) (p q head : List ℕ) (a b : BoardState) → taken < 4294967295 → 0 < length head → HeadTaken p q a b head false → TurnsFrom (shown_from taken) (ahead p a) a b Truncated
 Head-part taken p q head a b few some h =
     let e : head ++ [] ≡ head = append-nil head in
@@ -189,30 +180,31 @@ pub Front-failed : (more : List ℕ → Written) (p head : List ℕ) (a b : Boar
 Front-failed more p head a b f =
     Turns-output (head_shown head more) (ahead p a) (known (ahead p a)) a a b (shown_head head) (data_shown (u32_at head 20) more (known (ahead p a))) (known_is (ahead p a)) (Moved-none a) f refl
 
-pub Data-advances : (left count : ℕ) (more : List ℕ → Written) (p q : List ℕ) (a b c : BoardState) → Fed p q a b [] → count ≤ length q → count ≤ left → c ≡ after_post b (hex_text (take count q))
-    → TextAdvances (data_shown left more) (data_shown (left - count) more) (ahead p a) (ahead (drop count q) c) a c
-Data-advances left count more p q a b c fed fits few posted =
-    let size : length (take count q) ≡ count = length-take-le count q fits in
-    let used = Fed-used p q count a b fed in
+pub Data-advances : (left count : ℕ) (more : List ℕ → Written) (p q q' piece : List ℕ) (a b c : BoardState) → Fed p q a b [] → count ≤ length q → count ≤ left → piece ≡ take count q
+    → q' ≡ drop count q → c ≡ after_post b (hex_text piece) → TextAdvances (data_shown left more) (data_shown (left - count) more) (ahead p a) (ahead q' c) a c
+Data-advances left count more p q q' piece a b c fed fits few is is' posted =
+    let size : length piece ≡ count = ap length is ∙ length-take-le count q fits in
+    let F : List ℕ → Type 0 = λ x. Fed p (drop count q) a b x in
+    let G : List ℕ → Type 0 = λ x. Fed p x a b piece in
+    let used = subst G (sym is') (subst F (sym is) (Fed-used p q count a b fed)) in
     record {
-      bytes = take count q;
-      out = hex_text (take count q);
-      came = used.came ∙ ap (λ i. put_back (take count q) (put_back (drop count q) i)) (sym (ap (λ s. s.input) posted));
-      spells = λ rest.
-          data_step left more (take count q) rest (nat_lt (length rest) (left - length (take count q))) (omega arith) refl
-          ∙ ap (λ k. before (hex_text (take count q)) (data_shown (left - k) more rest)) size;
-      moved = Moved-then a b c [] (hex_text (take count q)) used.moved (Moved-post b c (hex_text (take count q)) posted);
+      bytes = piece;
+      out = hex_text piece;
+      came = used.came ∙ ap (λ i. put_back piece (put_back q' i)) (sym (ap (λ s. s.input) posted));
+      spells = λ rest. data_step left more piece rest (nat_lt (length rest) (left - length piece)) (omega arith) refl ∙ ap (λ k. before (hex_text piece) (data_shown (left - k) more rest)) size;
+      moved = Moved-then a b c [] (hex_text piece) used.moved (Moved-post b c (hex_text piece) posted);
     }
 
-pub Data-failed : (left count : ℕ) (more : List ℕ → Written) (p q : List ℕ) (a b c : BoardState) → Fed p q a b [] → count ≤ length q → count ≤ left → PostFailed b c (hex_text (take count q))
-    → TurnsFrom (data_shown left more) (ahead p a) a c Output
-Data-failed left count more p q a b c fed fits few f =
-    let size : length (take count q) ≡ count = length-take-le count q fits in
-    let used = Fed-used p q count a b fed in
+pub Data-failed : (left count : ℕ) (more : List ℕ → Written) (p q piece : List ℕ) (a b c : BoardState) → Fed p q a b [] → count ≤ length q → count ≤ left → piece ≡ take count q
+    → PostFailed b c (hex_text piece) → TurnsFrom (data_shown left more) (ahead p a) a c Output
+Data-failed left count more p q piece a b c fed fits few is f =
+    let size : length piece ≡ count = ap length is ∙ length-take-le count q fits in
+    let F : List ℕ → Type 0 = λ x. Fed p (drop count q) a b x in
+    let used = subst F (sym is) (Fed-used p q count a b fed) in
     let rest : List ℕ = known (ahead (drop count q) b) in
-    Turns-output (data_shown left more) (ahead p a) (take count q ++ rest) a b c (hex_text (take count q)) (data_shown (left - length (take count q)) more rest)
-    (told-back (ahead p a) (ahead (drop count q) b) (take count q) rest used.came (known_is (ahead (drop count q) b))) used.moved f
-    (data_step left more (take count q) rest (nat_lt (length rest) (left - length (take count q))) (omega arith) refl)
+    Turns-output (data_shown left more) (ahead p a) (piece ++ rest) a b c (hex_text piece) (data_shown (left - length piece) more rest)
+    (told-back (ahead p a) (ahead (drop count q) b) piece rest used.came (known_is (ahead (drop count q) b))) used.moved f
+    (data_step left more piece rest (nat_lt (length rest) (left - length piece)) (omega arith) refl)
 
 pub Data-part : (left : ℕ) (more : List ℕ → Written) (p q : List ℕ) (a b : BoardState) → 0 < left → Fed p q a b [] → IsOver q b → TurnsFrom (data_shown left more) (ahead p a) a b Truncated
 Data-part left more p q a b some fed over = record {
@@ -266,36 +258,6 @@ pub front_short : (head : List ℕ) (cid result reads : ℕ) → cid ≡ u16_at 
 front_short head cid result reads e f g cid_few result_few reads_few =
     let L : ℕ → Type 0 = λ n. n < 2 ^ 32 in
     front_length head (subst L e cid_few) (subst L f result_few) (subst L g reads_few)
-
--- ---- the same, by what the calls answered
-
-pub Data-part_as : (left : ℕ) (more : List ℕ → Written) (p q : List ℕ) (a b : BoardState) (r : Bool)
-    → 0 < left → Filled p q a b r → r ≡ false → TurnsFrom (data_shown left more) (ahead p a) a b Truncated
-Data-part_as left more p q a b r some h e = let T : Bool → Type 0 = λ x. Filled p q a b x in let f = subst T e h in Data-part left more p q a b some f.0 f.1
-
-pub Data-advances_as : (left count : ℕ) (more : List ℕ → Written) (p q q' piece : List ℕ) (a b c : BoardState) (r : Bool)
-    → Filled p q a b r → r ≡ true → count ≤ length q → count ≤ left → piece ≡ take count q → q' ≡ drop count q
-    → c ≡ after_post b (hex_text piece) → TextAdvances (data_shown left more) (data_shown (left - count) more) (ahead p a) (ahead q' c) a c
-Data-advances_as left count more p q q' piece a b c r h e fits few is is' posted =
-    let T : Bool → Type 0 = λ x. Filled p q a b x in
-    let U : List ℕ → Type 0 = λ x. TextAdvances (data_shown left more) (data_shown (left - count) more) (ahead p a) (ahead x c) a c in
-    subst U (sym is') (Data-advances left count more p q a b c (subst T e h).0 fits few (posted ∙ ap (λ x. after_post b (hex_text x)) is))
-
-pub Data-failed_as : (left count : ℕ) (more : List ℕ → Written) (p q piece : List ℕ) (a b c : BoardState) (r : Bool)
-    → Filled p q a b r → r ≡ true → count ≤ length q → count ≤ left → piece ≡ take count q
-    → PostFailed b c (hex_text piece) → TurnsFrom (data_shown left more) (ahead p a) a c Output
-Data-failed_as left count more p q piece a b c r h e fits few is f =
-    let T : Bool → Type 0 = λ x. Filled p q a b x in
-    let U : List ℕ → Type 0 = λ x. PostFailed b c (hex_text x) in
-    Data-failed left count more p q a b c (subst T e h).0 fits few (subst U is f)
-
-pub Head-advances_as : (taken : ℕ) (p q head : List ℕ) (a b : BoardState) (r : Bool) → taken < 4294967295 → HeadTaken p q a b head r → r ≡ true
-    → TextAdvances (shown_from taken) (head_shown head (shown_from (suc taken))) (ahead p a) (ahead q b) a b
-Head-advances_as taken p q head a b r few h e = let T : Bool → Type 0 = λ x. HeadTaken p q a b head x in Head-advances taken p q head a b few (subst T e h)
-
-pub Head-part_as : (taken : ℕ) (p q head : List ℕ) (a b : BoardState) (r : Bool) → taken < 4294967295
-    → 0 < length head → HeadTaken p q a b head r → r ≡ false → TurnsFrom (shown_from taken) (ahead p a) a b Truncated
-Head-part_as taken p q head a b r few some h e = let T : Bool → Type 0 = λ x. HeadTaken p q a b head x in Head-part taken p q head a b few some (subst T e h)
 
 -- the start of a line fits
 pub no_refusal : (old now : RoomyList) (text : List ℕ) (r : Bool) → length text ≤ 66 → old.room ≡ 8192

@@ -132,21 +132,17 @@ Fed-then p q r a b c x y f g = record {
 
 -- no byte was taken
 pub Fed-empty : (p : List ℕ) (a : BoardState) (bytes : List ℕ) → bytes ≡ [] → Fed p p a a bytes
-Fed-empty p a bytes none = let T : List ℕ → Type 0 = λ l. Fed p p a a l in subst T (sym none) (Fed-none p a)
+Fed-empty p a bytes none = rw none (Fed-none p a)
 
 -- and then none is ahead
 pub Fed-over : (p q r : List ℕ) (a b c : BoardState) (bytes : List ℕ) (o : Option ℕ) → Fed p q a b bytes → Nexted q r b c o → o ≡ None → Fed p r a c bytes × IsOver r c
 Fed-over p q r a b c bytes o f n none =
-    let N : Option ℕ → Type 0 = λ x. Nexted q r b c x in
     let F : List ℕ → Type 0 = λ l. Fed p r a c l in
-    let h : Fed q r b c [] × IsOver r c = subst N none n in
-    (subst F (append-nil bytes) (Fed-then p q r a b c bytes [] f h.0), h.1)
+    let h = rw none at n in (subst F (append-nil bytes) (Fed-then p q r a b c bytes [] f h.0), h.1)
 
 pub Fed-over_none : (p q r : List ℕ) (a b c : BoardState) (bytes : List ℕ) (o : Option ℕ) → bytes ≡ [] → Fed p q a b bytes → Nexted q r b c o → o ≡ None → Fed p r a c [] × IsOver r c
 Fed-over_none p q r a b c bytes o empty f n none =
-    let h = Fed-over p q r a b c bytes o f n none in
-    let F : List ℕ → Type 0 = λ l. Fed p r a c l in
-    (subst F empty h.0, h.1)
+    let h = Fed-over p q r a b c bytes o f n none in (rw empty at h.0, h.1)
 
 pub Failed-then : (a b c : BoardState) → Moved a b [] → FeedFailed b c → FeedFailed a c
 Failed-then a b c m f = record {
@@ -162,9 +158,7 @@ TextAdvances-none f o a = record { bytes = []; out = []; came = put_back-nil o; 
 
 -- no byte was fetched yet
 pub TextAdvances-empty : (f : List ℕ → Written) (pending : List ℕ) (a : BoardState) → pending ≡ [] → TextAdvances f f (ahead [] a) (ahead pending a) a a
-TextAdvances-empty f pending a none =
-    let T : List ℕ → Type 0 = λ p. TextAdvances f f (ahead [] a) (ahead p a) a a in
-    subst T (sym none) (TextAdvances-none f (ahead [] a) a)
+TextAdvances-empty f pending a none = rw none (TextAdvances-none f (ahead [] a) a)
 
 pub TextAdvances-then : (f g h : List ℕ → Written) (u v w : Option (List ℕ)) (a b c : BoardState) → TextAdvances f g u v a b → TextAdvances g h v w b c → TextAdvances f h u w a c
 TextAdvances-then f g h u v w a b c p q = record {
@@ -300,6 +294,4 @@ not_empty (x ∷ xs) r h e = omega arith
 
 pub TextAdvances-count : (e f : ℕ → List ℕ → Written) (n : ℕ) (u v : Option (List ℕ)) (a b : BoardState) → TextAdvances (e 0) (f (suc n)) u v a b → TextAdvances (e 0) (f (n + 1)) u v a b
 TextAdvances-count e f n u v a b h =
-    let one : suc n ≡ n + 1 = omega arith in
-    let T : ℕ → Type 0 = λ k. TextAdvances (e 0) (f k) u v a b in
-    subst T one h
+    let one : suc n ≡ n + 1 = omega arith in rw one at h

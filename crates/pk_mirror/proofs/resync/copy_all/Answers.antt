@@ -44,4 +44,5 @@ pub returns-in-Ok-None-clause-asked_first : goal.returns-in-Ok-None-clause-asked
 returns-in-Ok-None-clause-asked_first g c = asked_later g.P.Port.took g.met.P.Port.took_both _ _ _ _ c.loop-next.invariant.progress.took_first.2 c.in-Ok-None.ensures.asked_first
 
 pub returns-in-Err-clause-fails : goal.returns-in-Err-clause-fails
-returns-in-Err-clause-fails g c = fails_on g.met.P.Port.took_both g.met.Q.Port.took_both _ _ _ _ _ _ c.loop-next.invariant.progress g.met.P.Port.took_state g.met.Q.Port.took_state _ c.in-Err.ensures.fails
+returns-in-Err-clause-fails g c =
+    fails_on g.met.P.Port.took_both g.met.Q.Port.took_both _ _ _ _ _ _ c.loop-next.invariant.progress g.met.P.Port.took_state g.met.Q.Port.took_state _ c.in-Err.ensures.fails

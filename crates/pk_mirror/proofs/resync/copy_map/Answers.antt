@@ -1,6 +1,7 @@
 use Rattle.std.proofs.Common.{◌≤◌, length, sym, subst, ◌∙◌, arith}
 use Rattle.pk_base.specs.Shape.{Shape, greatest}
-use Rattle.pk_mirror.{specs.Agreement.AreAny, specs.Agreement.IsPart, specs.Spending.to_delete, specs.Spending.to_store, proofs.PairLemmas.still_alike, proofs.PairLemmas.on_ok_map, proofs.PairLemmas.if_err_map}
+use Rattle.pk_mirror.{specs.Agreement.AreAny, specs.Agreement.IsPart, specs.Spending.to_delete, specs.Spending.to_store}
+use Rattle.pk_mirror.proofs.PairLemmas.{still_alike, on_ok_map, if_err_map}
 use Rattle.pk_mirror.proofs.VisitLemmas.{asking_more, cause_later, asked_before, asked_later, any_exit}
 use Rattle.pk_mirror.{proofs.SpendLemmas.resync_took, proofs.SpendLemmas.resync_first, proofs.SpendLemmas.took_settled, proofs.PageLemmas.both_phases, proofs.PageLemmas.second_phase_fails}
 use Rattle.pk_nvme.specs.declared.opcode.TheConstants.{STORE, DELETE}

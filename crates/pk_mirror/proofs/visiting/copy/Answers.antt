@@ -2,7 +2,8 @@ use Rattle.std.proofs.Common.{◌≡◌, inr, List, ℕ, Some, None, [], refl, a
 use Rattle.std.specs.FinMap.{get}
 use Rattle.pk_base.specs.Map.{Map}
 use Rattle.pk_host.specs.Outcomes.{retrieved, stored, Fetches}
-use Rattle.pk_mirror.{specs.declared.error.Side.TheVariants.First, specs.Agreement.IsPart, specs.Agreement.HaveSame, specs.Progress.Looked, proofs.ReplyLemmas.retrieved_tells, proofs.ReplyLemmas.stored_tells}
+use Rattle.pk_mirror.{specs.declared.error.Side.TheVariants.First, specs.Agreement.IsPart, specs.Agreement.HaveSame, specs.Progress.Looked}
+use Rattle.pk_mirror.proofs.ReplyLemmas.{retrieved_tells, stored_tells}
 use Rattle.pk_mirror.{proofs.AskLemmas.retrieve_unread, proofs.VisitLemmas.asking_one, proofs.VisitLemmas.looked_goes, proofs.VisitLemmas.looked_fails}
 use Rattle.pk_mirror.proofs.KeyLemmas.{fetched_as, fits_told, visits_lacking, visits_stored, first_cause, second_cause, side_unread, store_unread, retrieve_keeps}
 use Rattle.pk_mirror.proofs.SpendLemmas.{looks_no_store, stored_one, storing_one, found_has, goes_visits}
@@ -21,7 +22,8 @@ seen g c = record {
 found : (g : given.Over) (c : In-Ok-Some g) → Fetches (g.P.Port.state c.args.first.now) c.args.key.now (Some c.in-Ok-Some.len) c.retrieve.new.into
 found g c = fetched_as (g.P.Port.state c.args.first.now) c.args.key.now c.retrieve.new.into _ (Some c.in-Ok-Some.len) c.in-Ok-Some.field-0-is c.in-Ok-Some.ensures.fetches
 
-has : (g : given.Over) (c : In-Ok-Some g) (a b : Map) → (g.P.Port.state c.args.first.now).map ≡ Some a → (g.Q.Port.state c.args.second.now).map ≡ Some b → (v : List ℕ) × (get a c.args.key.now ≡ Some v)
+has : (g : given.Over) (c : In-Ok-Some g) (a b : Map) → (g.P.Port.state c.args.first.now).map ≡ Some a
+    → (g.Q.Port.state c.args.second.now).map ≡ Some b → (v : List ℕ) × (get a c.args.key.now ≡ Some v)
 has g c a b ea eb = found_has (g.P.Port.state c.args.first.now) c.args.key.now c.in-Ok-Some.len c.retrieve.new.into (found g c) a b (g.Q.Port.state c.args.second.now) ea eb
 
 pub returns-in-Ok-None-clause-visits : goal.returns-in-Ok-None-clause-visits

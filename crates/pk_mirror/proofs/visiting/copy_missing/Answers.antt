@@ -3,7 +3,8 @@ use Rattle.pk_host.{specs.Outcomes.existed, specs.TookLaws.took_none}
 use Rattle.pk_mirror.{specs.declared.error.Side.TheVariants.Second, specs.Agreement.IsPart, specs.Agreement.HaveSame, specs.Progress.Looked, proofs.ReplyLemmas.existed_tells}
 use Rattle.pk_mirror.{proofs.PairLemmas.still_alike, proofs.PairLemmas.on_ok_map, proofs.PairLemmas.if_err_map, proofs.visiting.copy_missing.Goals.After-exist}
 use Rattle.pk_mirror.proofs.KeyLemmas.{visits_there, visits_from, lacked, second_cause, side_unread, exist_unread, exist_keeps}
-use Rattle.pk_mirror.{proofs.VisitLemmas.asking_none, proofs.VisitLemmas.looked_goes, proofs.VisitLemmas.looked_fails, proofs.VisitLemmas.goes_on, proofs.VisitLemmas.fails_on, proofs.SpendLemmas.looks_no_store}
+use Rattle.pk_mirror.proofs.VisitLemmas.{asking_none, looked_goes, looked_fails, goes_on, fails_on}
+use Rattle.pk_mirror.proofs.SpendLemmas.{looks_no_store}
 use Rattle.pk_mirror.proofs.visiting.copy_missing.Given as given
 use Rattle.pk_mirror.proofs.visiting.copy_missing.Goals as goal
 

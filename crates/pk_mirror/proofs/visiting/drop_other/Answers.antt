@@ -1,6 +1,7 @@
 use Rattle.std.proofs.Common.{sym, refl, ◌∙◌}
 use Rattle.pk_host.{specs.Outcomes.existed}
-use Rattle.pk_mirror.{specs.declared.error.Side.TheVariants.Second, proofs.ReplyLemmas.existed_tells, proofs.VisitLemmas.asking_none, proofs.VisitLemmas.looked_goes, proofs.VisitLemmas.goes_on, proofs.VisitLemmas.fails_on}
+use Rattle.pk_mirror.{specs.declared.error.Side.TheVariants.Second, proofs.ReplyLemmas.existed_tells}
+use Rattle.pk_mirror.proofs.VisitLemmas.{asking_none, looked_goes, goes_on, fails_on}
 use Rattle.pk_mirror.proofs.KeyLemmas.{visits_kept, visits_deleted, second_cause, side_unread, delete_unread}
 use Rattle.pk_mirror.proofs.SpendLemmas.{looks_no_delete, deleted_one, deleting_one}
 use Rattle.pk_mirror.proofs.visiting.drop_other.Goals as goal

@@ -1,7 +1,8 @@
 use Rattle.std.proofs.Common.{◌≡◌, true, false, inl, inr, Some, None, refl, sym, subst, arith, ◌≤◌, length}
 use Rattle.pk_base.specs.Shape.{Shape, greatest}
 use Rattle.pk_host.specs.Outcomes.{retrieved, Fetches}
-use Rattle.pk_mirror.{specs.declared.error.Side.TheVariants.First, specs.declared.error.Side.TheVariants.Second, specs.Progress.Looked, proofs.ReplyLemmas.retrieved_tells, proofs.AskLemmas.retrieve_unread}
+use Rattle.pk_mirror.{specs.declared.error.Side.TheVariants.First, specs.declared.error.Side.TheVariants.Second, specs.Progress.Looked}
+use Rattle.pk_mirror.{proofs.ReplyLemmas.retrieved_tells, proofs.AskLemmas.retrieve_unread}
 use Rattle.pk_mirror.proofs.KeyLemmas.{fetched_as, fits_told, no_other_none, no_other_same, first_cause, second_cause, side_unread, retrieve_keeps}
 use Rattle.pk_mirror.proofs.visiting.has_other.Goals.{After-retrieve, After-retrieve-in-Ok-Some, In-Ok-Some}
 use Rattle.pk_mirror.{proofs.SpendLemmas.found_there, proofs.SpendLemmas.looks_no_delete, proofs.VisitLemmas.asking_none, proofs.VisitLemmas.asking_one, proofs.VisitLemmas.looked_fails}

@@ -1,4 +1,4 @@
-use Rattle.pk_text.proofs.Lining.{Line-advances_as, Line-last_as, Line-not_as, No-line}
+use Rattle.pk_text.proofs.Lining.{Line-advances, Line-last, Line-not, No-line}
 use Rattle.pk_text.proofs.assembler.Assembler.assemble_next.Goals as goal
 
 pub returns-in-Err-clause-quits : goal.returns-in-Err-clause-quits
@@ -6,12 +6,12 @@ returns-in-Err-clause-quits g c = λ taken few. No-line taken c.args.number _ _ 
 
 pub returns-then-ended-clause-advances : goal.returns-then-ended-clause-advances
 returns-then-ended-clause-advances g c = λ taken few.
-    Line-advances_as taken c.args.number c.in-Ok-give_line.next _ _ _ _ _ _ _ c.in-Ok.ended few c.in-Ok.ensures.ok c.if-ended.true c.bytes-line.ensures c.in-Ok-give_line.ensures.ok
+    Line-advances taken c.args.number c.in-Ok-give_line.next _ _ _ _ _ _ few (rw c.if-ended.true at c.in-Ok.ensures.ok) (rw c.bytes-line.ensures at c.in-Ok-give_line.ensures.ok)
 
 pub returns-else-ended-clause-quits : goal.returns-else-ended-clause-quits
 returns-else-ended-clause-quits g c = λ taken few.
-    Line-last_as taken c.args.number c.in-Ok-give_line.next _ _ _ _ _ _ _ c.in-Ok.ended few c.in-Ok.ensures.ok c.if-ended.false c.bytes-line.ensures c.in-Ok-give_line.ensures.ok
+    Line-last taken c.args.number c.in-Ok-give_line.next _ _ _ _ _ _ few (rw c.if-ended.false at c.in-Ok.ensures.ok) (rw c.bytes-line.ensures at c.in-Ok-give_line.ensures.ok)
 
 pub returns-in-Err-give_line-clause-quits : goal.returns-in-Err-give_line-clause-quits
 returns-in-Err-give_line-clause-quits g c = λ taken few.
-    Line-not_as taken c.args.number _ _ _ _ _ _ _ c.in-Ok.ended c.in-Err-give_line.end few c.in-Ok.ensures.ok c.bytes-line.ensures c.in-Err-give_line.ensures.err
+    Line-not taken c.args.number _ _ _ _ _ _ c.in-Ok.ended c.in-Err-give_line.end few c.in-Ok.ensures.ok (rw c.bytes-line.ensures at c.in-Err-give_line.ensures.err)
