@@ -1,19 +1,19 @@
 -- How many entries a run and an epoch have, and how many blocks hold them.
-use Rattle.std.proofs.Common.{◌≡◌, inl, inr, ℕ, zero, suc, ◌+◌, ◌-◌, ◌*◌, ◌/◌, ◌<◌, ◌≤◌, min, max, refl, sym, ap, subst, ◌∙◌, arith, Bool, true, false, not, ◌&&◌, ◌||◌, T, List, [], ◌∷◌, ◌++◌, length}
-use Rattle.std.proofs.Common.{map, zip, nat_le, nat_lt, ◌==◌, is_some, Some, Ok, leb→le, length-append, mul-le-mul_right, add-mul, le_trans}
+use Rattle.std.proofs.Common.{◌≡◌, inl, inr, ℕ, zero, suc, ◌+◌, ◌-◌, ◌*◌, ◌/◌, ◌<◌, ◌≤◌, min, max, refl, sym, ap, subst, ◌∙◌, arith, Bool, true, ◌&&◌, T, List, [], ◌∷◌, ◌++◌, length, map, zip, nat_le}
+use Rattle.std.proofs.Common.{◌==◌, Some, Ok, leb→le, length-append, mul-le-mul_right, add-mul, le_trans}
 use Rattle.std.{specs.Prelude.bytes_eq, specs.List.list_all, specs.List.concat, specs.FinMap.Entries.is_sorted}
 use Rattle.pk_base.{specs.Key.key_cmp, specs.Entry.Entry, specs.EntryBytes.entries_from, specs.Refusal.damaged, specs.Refusal.ensure, specs.Refusal.some_or, specs.Firsts.firsts, specs.Merge.room}
 use Rattle.pk_base.specs.Shape.{Shape, IsShape, page_entries, buffer, caps, run_pages, run_blocks, blocks_of, meta_blocks, deepest}
 use Rattle.pk_base.specs.Page.{Page, erased, whole, torn, page_in, pages_of_blocks, NumberedPages, commits_of}
+use Rattle.pk_base.proofs.Logic.{left_part, right_part, ok_same, passed, is_true, of_true}
 use Rattle.pk_base.{proofs.Sound.if_some, proofs.ShapeLemmas.block_pages_positive, proofs.ShapeLemmas.ceil_most}
-use Rattle.pk_base.proofs.Logic.{left_part, right_part, ok_same, passed}
 use Rattle.pk_space.specs.Entries.{in_spaces}
 use Rattle.pk_jrnfmt.{specs.Page.journal_entries, specs.Epoch.may_follow, specs.Epoch.journal, specs.Epoch.epoch}
 use Rattle.pk_meta.{specs.Page.meta_entries, specs.Run.may_hold, specs.Run.meta, specs.Run.run}
-use Rattle.pk_rootfmt.specs.Root.{Root, is_root, is_number, has_runs, named, differ, is_laid_out, are_limits}
+use Rattle.pk_rootfmt.{specs.Root.Root, specs.Root.is_root, proofs.PageLemmas.root_parts}
 use Rattle.pk_model.{proofs.StrangePages.bind_ok, proofs.StrangePages.some_ok, proofs.Live.ceil_room}
-use Rattle.pk_model.proofs.RootAlone.{bytes_equal, third_of, head_same, tail_same}
-use Rattle.pk_law_steps.{specs.Fitting.QuotaFits, proofs.FourRuns.IsLevel, proofs.FourRuns.four_of_root, proofs.FourRuns.four_of, proofs.FourRuns.runs_part}
+use Rattle.pk_model.proofs.RootAlone.{bytes_equal, head_same, tail_same}
+use Rattle.pk_law_steps.{specs.Fitting.QuotaFits, proofs.FourRuns.IsLevel, proofs.FourRuns.four_of_root, proofs.FourRuns.four_of}
 
 -- ---- entries that are read
 
@@ -79,23 +79,15 @@ pub record Counted (shape : Shape) (root : Root) : Type 0 where
   pub fit : T (list_all (λ p. nat_le p.0 (p.1 * page_entries shape)) (zip root.counts (caps shape)))
   pub sizes : map (λ bs. length bs) root.runs ≡ map (run_blocks shape) root.counts
 
-second_of : (a b c : Bool) → T (a && b && c) → T b
-second_of true true c is = tt
-second_of false b c is = absurd is
-second_of true false c is = absurd is
-
 pub counted_of : (shape : Shape) (root : Root) → T (is_root shape root) → Counted shape root
 counted_of shape root is =
-    let has = runs_part (is_number root.number) (nat_le 1 root.epoch) (nat_le root.epoch root.number)
-    (length root.newest == 2) (length root.older == 0 || (length root.older == 2 && nat_le 2 root.epoch))
-    (has_runs shape root) (list_all (λ b. nat_le 2 b && nat_lt b shape.blocks) (named root)) (differ (named root))
-    (left_part (is_laid_out shape root) (are_limits shape root.limits) is) in
+    let sized : Bool = length root.counts == 4 in
+    let fit : Bool = list_all (λ p. nat_le p.0 (p.1 * page_entries shape)) (zip root.counts (caps shape)) in
+    let same : Bool = bytes_eq (map length root.runs) (map (run_blocks shape) root.counts) in
+    let has = of_true _ (root_parts shape root (is_true _ is)).runs in
     record {
-      fit = second_of (length root.counts == 4) (list_all (λ p. nat_le p.0 (p.1 * page_entries shape)) (zip root.counts (caps shape)))
-          (bytes_eq (map length root.runs) (map (run_blocks shape) root.counts)) has;
-      sizes = bytes_equal (map length root.runs) (map (run_blocks shape) root.counts)
-          (third_of (length root.counts == 4) (list_all (λ p. nat_le p.0 (p.1 * page_entries shape)) (zip root.counts (caps shape)))
-          (bytes_eq (map length root.runs) (map (run_blocks shape) root.counts)) has);
+      fit = right_part sized fit (left_part (sized && fit) same has);
+      sizes = bytes_equal (map length root.runs) (map (run_blocks shape) root.counts) (right_part (sized && fit) same has);
     }
 
 -- four counts within the caps

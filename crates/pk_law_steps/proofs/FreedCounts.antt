@@ -4,16 +4,17 @@ use Rattle.std.specs.List.{concat}
 use Rattle.pk_rootfmt.specs.Root.{differ}
 use Rattle.pk_model.{specs.Tree.blocks_after, proofs.SamePages.any_front, proofs.Commits.apart, proofs.Commits.differ_front, proofs.Commits.blocks_of_root}
 use Rattle.pk_law_steps.{proofs.Places.In, proofs.Places.differ_back, specs.Merging.FreedCounted, specs.Merging.blocks_at, proofs.FourRuns.IsLevel, proofs.FourRuns.four_of_root, proofs.Amounts.levels}
-use Rattle.pk_law_steps.{proofs.Freeing.in_one, proofs.Freeing.was_named, proofs.Spelling.differ_both}
+use Rattle.pk_law_steps.{proofs.Freeing.in_one, proofs.Freeing.was_named}
 use Rattle.pk_base.proofs.Logic.{is_true}
+use Rattle.pk_law_steps.proofs.Places.{differ_append}
 
 -- ---- two consecutive runs
 
 pair_differs : (i : ℕ) (runs : List (List ℕ)) → T (differ (concat runs)) → T (differ (slice_index_or runs i [] ++ slice_index_or runs (suc i) []))
 pair_differs i [] d = tt
-pair_differs zero (bs ∷ []) d = differ_both bs [] (differ_front bs [] d) tt (λ b here there. there)
+pair_differs zero (bs ∷ []) d = differ_append bs [] (differ_front bs [] d) tt (λ b here there. there)
 pair_differs zero (bs ∷ cs ∷ runs) d =
-    differ_both bs cs (differ_front bs (cs ++ concat runs) d) (differ_front cs (concat runs) (differ_back bs (cs ++ concat runs) d))
+    differ_append bs cs (differ_front bs (cs ++ concat runs) d) (differ_front cs (concat runs) (differ_back bs (cs ++ concat runs) d))
     (λ b here there. apart b bs (cs ++ concat runs) d here (any_front (λ c. b ≡ c) cs (concat runs) there))
 pair_differs (suc i) (bs ∷ runs) d = pair_differs i runs (differ_back bs (concat runs) d)
 
@@ -85,7 +86,7 @@ module _ (newest older taken : List ℕ) (runs : List (List ℕ)) (four : length
   runs_differ = differ_back (newest ++ older) (concat runs) d
 
   first_differs : T (differ (older ++ slice_index_or runs 0 []))
-  first_differs = differ_both older (slice_index_or runs 0 []) (differ_back newest older (differ_front (newest ++ older) (concat runs) d)) (one_differs runs runs_differ)
+  first_differs = differ_append older (slice_index_or runs 0 []) (differ_back newest older (differ_front (newest ++ older) (concat runs) d)) (one_differs runs runs_differ)
       (λ b here there. apart b (newest ++ older) (concat runs) d (behind b newest here) (in_one b 0 runs there))
     where
       behind : (b : ℕ) (xs : List ℕ) → In b older → In b (xs ++ older)

@@ -1,32 +1,18 @@
 -- The blocks of the newest epoch of a root, and that a root which is found keeps to its grammar.
-use Rattle.std.proofs.Common.{◌≡◌, ◌≢◌, ℕ, ◌<◌, arith, Bool, true, false, ◌&&◌, ◌||◌, T, ◌++◌, length, nat_le, nat_lt, slice_index, ◌==◌, Some}
+use Rattle.std.proofs.Common.{◌≡◌, ◌≢◌, ℕ, ◌<◌, arith, Bool, ◌&&◌, T, ◌++◌, length, nat_le, nat_lt, slice_index, Some}
 use Rattle.std.{specs.List.list_all, specs.List.concat, proofs.lemmas.Bool.ltb-true}
-use Rattle.pk_base.{specs.Shape.Shape, specs.Page.Page, proofs.Logic.is_true, proofs.Logic.right_part, proofs.Logic.left_part}
-use Rattle.pk_rootfmt.specs.Root.{Root, named, is_root, is_number, has_runs, differ, is_laid_out, are_limits}
-use Rattle.pk_rootfmt.specs.Newest.{newest_root}
+use Rattle.pk_base.{specs.Shape.Shape, specs.Page.Page, proofs.Logic.is_true, proofs.Logic.right_part}
+use Rattle.pk_rootfmt.{specs.Root.Root, specs.Root.named, specs.Root.is_root, specs.Root.differ, specs.Newest.newest_root, proofs.PageLemmas.root_parts}
 use Rattle.pk_model.proofs.Roots.{newest_sound}
 use Rattle.pk_model.proofs.Commits.{all_at, all_front, root_valid, blocks_of_root, differ_front, injective}
-
-all_of_root : (a b c d e f g h : Bool) → T (a && b && c && d && e && f && g && h) → T g
-all_of_root true true true true true true true true is = tt
-all_of_root false b c d e f g h is = absurd is
-all_of_root true false c d e f g h is = absurd is
-all_of_root true true false d e f g h is = absurd is
-all_of_root true true true false e f g h is = absurd is
-all_of_root true true true true false f g h is = absurd is
-all_of_root true true true true true false g h is = absurd is
-all_of_root true true true true true true false h is = absurd is
-all_of_root true true true true true true true false is = absurd is
+use Rattle.pk_base.proofs.Logic.{of_true}
 
 -- they are blocks of the flash
 pub newest_exist : (shape : Shape) (root : Root) → T (is_root shape root) → (n : ℕ) → n < 2 → slice_index root.newest n < shape.blocks
 newest_exist shape root is n small =
     let in_flash : ℕ → Bool = λ b. nat_le 2 b && nat_lt b shape.blocks in
     let two : length root.newest ≡ 2 = (blocks_of_root shape root is).two in
-    let every : T (list_all in_flash (named root)) = all_of_root (is_number root.number) (nat_le 1 root.epoch)
-    (nat_le root.epoch root.number) (length root.newest == 2) (length root.older == 0 || (length root.older == 2 && nat_le 2 root.epoch))
-    (has_runs shape root) (list_all in_flash (named root)) (differ (named root))
-    (left_part (is_laid_out shape root) (are_limits shape root.limits) is) in
+    let every : T (list_all in_flash (named root)) = of_true _ (root_parts shape root (is_true _ is)).blocks in
     let newest : T (list_all in_flash root.newest) = all_front in_flash root.newest root.older (all_front in_flash (root.newest ++ root.older) (concat root.runs) every) in
     ltb-true (slice_index root.newest n) shape.blocks
     (is_true (nat_lt (slice_index root.newest n) shape.blocks) (right_part (nat_le 2 (slice_index root.newest n)) (nat_lt (slice_index root.newest n) shape.blocks)

@@ -8,8 +8,8 @@ use Rattle.pk_base.proofs.Logic.{is_true, left_part, right_part, both, or_cases}
 use Rattle.pk_segfmt.specs.Value.{value_pages}
 use Rattle.pk_rootfmt.specs.Root.{differ}
 use Rattle.pk_model.{specs.Values.fits, specs.Values.blocks_with, specs.Values.all_pages, specs.Values.KeepsWithin, specs.Values.pages_of_space, specs.Laws.AnyByRecursion, proofs.SamePages.any_front}
-use Rattle.pk_model.proofs.Commits.{refuted, rest_differs, any_behind, apart, differ_front, all_front, is_any}
-use Rattle.pk_model.proofs.ValueSets.{fits_parts, parts_fit, any_more, filter_more}
+use Rattle.pk_model.proofs.Commits.{refuted, rest_differs, any_behind, apart, differ_front, all_front, is_any, or_right}
+use Rattle.pk_model.{proofs.ValueSets.fits_parts, proofs.ValueSets.parts_fit, proofs.ValueSets.any_more, proofs.ValueSets.filter_more, proofs.RootAlone.all_back}
 use Rattle.pk_law_steps.{specs.Under.IsValuePage, specs.Stores.Fits}
 
 abbrev pub In : ℕ → List ℕ → Type 0
@@ -58,10 +58,6 @@ all_append : (p : ℕ → Bool) (xs ys : List ℕ) → T (list_all p xs) → T (
 all_append p [] ys front back = back
 all_append p (x ∷ xs) ys front back = both (p x) (list_all p (xs ++ ys)) (left_part (p x) (list_all p xs) front) (all_append p xs ys (right_part (p x) (list_all p xs) front) back)
 
-all_back : (p : ℕ → Bool) (xs ys : List ℕ) → T (list_all p (xs ++ ys)) → T (list_all p ys)
-all_back p [] ys all = all
-all_back p (x ∷ xs) ys all = all_back p xs ys (right_part (p x) (list_all p (xs ++ ys)) all)
-
 any_behind_test : (p : ℕ → Bool) (xs ys : List ℕ) → T (list_any p ys) → T (list_any p (xs ++ ys))
 any_behind_test p [] ys is = is
 any_behind_test p (x ∷ xs) ys is = elim (p x) as (λ b. T (b || list_any p (xs ++ ys))) [ true ↦ tt | false ↦ any_behind_test p xs ys is ]
@@ -70,12 +66,8 @@ any_front_test : (p : ℕ → Bool) (xs ys : List ℕ) → T (list_any p (xs ++ 
 any_front_test p [] ys is = inr is
 any_front_test p (x ∷ xs) ys is = elim (or_cases (p x) (list_any p (xs ++ ys)) is) [
   | inl here ↦ inl (or_left (p x) (list_any p xs) here)
-  | inr there ↦ elim (any_front_test p xs ys there) [ inl front ↦ inl (or_right' (p x) (list_any p xs) front) | inr back ↦ inr back ]
+  | inr there ↦ elim (any_front_test p xs ys there) [ inl front ↦ inl (or_right (p x) (list_any p xs) front) | inr back ↦ inr back ]
 ]
-  where
-    or_right' : (a b : Bool) → T b → T (a || b)
-    or_right' true b t = tt
-    or_right' false b t = t
 
 -- ---- lists without repetition
 

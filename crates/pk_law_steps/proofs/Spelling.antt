@@ -1,50 +1,16 @@
 -- The root after a merge is one of the grammar.
-use Rattle.std.proofs.Common.{◌≡◌, ◌⊎◌, inl, inr, ℕ, zero, suc, ◌+◌, ◌-◌, ◌*◌, ◌/◌, ◌%◌, ◌<◌, ◌≤◌, min, refl, sym, ap, subst, ◌∙◌, arith, Bool, true, false, not, ◌&&◌, ◌||◌, T, List, [], ◌∷◌, ◌++◌}
-use Rattle.std.proofs.Common.{length, map, zip, nat_le, nat_lt, ◌==◌, slice_set, if◌then◌else◌, leb→le, le→leb, append-nil}
-use Rattle.std.{specs.Prelude.bytes_eq, proofs.Math.Nat.zero-div, proofs.Math.Nat.zero-mod, proofs.lemmas.Slice.Eq.bytes_eq-Decides, specs.List.list_all, specs.List.list_any, specs.List.concat}
+use Rattle.std.proofs.Common.{◌≡◌, ◌⊎◌, inl, inr, ℕ, zero, suc, ◌+◌, ◌-◌, ◌*◌, ◌/◌, ◌%◌, ◌<◌, ◌≤◌, min, sym, ap, subst, ◌∙◌, arith, Bool, true, false, ◌&&◌, ◌||◌, T, List, [], ◌∷◌, ◌++◌, length, map}
+use Rattle.std.proofs.Common.{zip, nat_le, nat_lt, ◌==◌, slice_set, if◌then◌else◌, leb→le, le→leb, append-nil}
+use Rattle.std.{specs.Prelude.bytes_eq, proofs.Math.Nat.zero-div, proofs.Math.Nat.zero-mod, proofs.lemmas.Slice.Eq.bytes_eq-Decides, specs.List.list_all, specs.List.concat}
 use Rattle.pk_base.{specs.Shape.Shape, specs.Shape.page_entries, specs.Shape.caps, specs.Shape.deepest, specs.Shape.run_pages, specs.Shape.run_blocks, specs.Merge.room}
-use Rattle.pk_base.proofs.Logic.{is_true, left_part, right_part, both}
-use Rattle.pk_rootfmt.specs.Root.{Root, named, is_root, is_number, has_runs, differ, is_laid_out, are_limits}
+use Rattle.pk_base.proofs.Logic.{is_true, left_part, right_part, both, of_true}
+use Rattle.pk_rootfmt.specs.Root.{Root, named, is_root, has_runs, differ}
+use Rattle.pk_rootfmt.proofs.PageLemmas.{Parts, root_parts, parts_root}
 use Rattle.pk_model.{specs.Tree.blocks_after, proofs.SamePages.any_front, proofs.SamePages.any_back, proofs.RootAlone.head_same, proofs.RootAlone.tail_same}
-use Rattle.pk_model.proofs.Commits.{rest_differs, apart, differ_front, is_any}
-use Rattle.pk_law_steps.proofs.Places.{In, in_append, all_of, not_of, any_in, differ_back}
+use Rattle.pk_model.proofs.Commits.{apart, differ_front}
+use Rattle.pk_law_steps.proofs.Places.{In, in_append, all_of, differ_back, differ_append}
 use Rattle.pk_law_steps.{specs.Merging.merged_root, specs.Merging.counts_after, specs.Merging.MergedGrammar, proofs.FourRuns.IsLevel, proofs.FourRuns.four_of, proofs.FourRuns.four_of_root}
 use Rattle.pk_law_steps.{proofs.Amounts.WithinCaps, proofs.Amounts.within_caps, proofs.Amounts.counted_of, proofs.Amounts.levels, proofs.Merging.in_set, proofs.Merging.in_after}
-
--- ---- tests one after another
-
--- the eight tests of a root
-pub record Eight (a b c d e f g h : Bool) : Type 0 where
-  pub one : T a
-  pub two : T b
-  pub three : T c
-  pub four : T d
-  pub five : T e
-  pub six : T f
-  pub seven : T g
-  pub eight : T h
-
-parts : (a b c d e f g h : Bool) → T (a && b && c && d && e && f && g && h) → Eight a b c d e f g h
-parts true true true true true true true true is = record { one = tt; two = tt; three = tt; four = tt; five = tt; six = tt; seven = tt; eight = tt }
-parts false b c d e f g h is = absurd is
-parts true false c d e f g h is = absurd is
-parts true true false d e f g h is = absurd is
-parts true true true false e f g h is = absurd is
-parts true true true true false f g h is = absurd is
-parts true true true true true false g h is = absurd is
-parts true true true true true true false h is = absurd is
-parts true true true true true true true false is = absurd is
-
-all_parts : (a b c d e f g h : Bool) → Eight a b c d e f g h → T (a && b && c && d && e && f && g && h)
-all_parts true true true true true true true true is = tt
-all_parts false b c d e f g h is = absurd is.one
-all_parts true false c d e f g h is = absurd is.two
-all_parts true true false d e f g h is = absurd is.three
-all_parts true true true false e f g h is = absurd is.four
-all_parts true true true true false f g h is = absurd is.five
-all_parts true true true true true false g h is = absurd is.six
-all_parts true true true true true true false h is = absurd is.seven
-all_parts true true true true true true true false is = absurd is.eight
 
 -- ---- lists
 
@@ -53,28 +19,12 @@ all_at_each p [] b all is = absurd is
 all_at_each p (x ∷ xs) b all (inl e) = subst (λ y. T (p y)) (sym e) (left_part (p x) (list_all p xs) all)
 all_at_each p (x ∷ xs) b all (inr is) = all_at_each p xs b (right_part (p x) (list_all p xs) all) is
 
--- two lists of different blocks that have none in common
-pub differ_both : (xs ys : List ℕ) → T (differ xs) → T (differ ys) → ((b : ℕ) → In b xs → In b ys → ⊥) → T (differ (xs ++ ys))
-differ_both [] ys front back none = back
-differ_both (x ∷ xs) ys front back none =
-    both (not (list_any (λ c. x == c) (xs ++ ys))) (differ (xs ++ ys)) (not_of (list_any (λ c. x == c) (xs ++ ys)) (λ t. elim (in_append x xs ys (any_in x (xs ++ ys) t)) [
-      | inl here ↦ fresh x xs front here
-      | inr there ↦ none x (inl refl) there
-    ])) (differ_both xs ys (rest_differs x xs front) back (λ b here there. none b (inr here) there))
-  where
-    refuted : (b : Bool) → T (not b) → T b → ⊥
-    refuted true p q = p
-    refuted false p q = q
-
-    fresh : (x : ℕ) (xs : List ℕ) → T (differ (x ∷ xs)) → In x xs → ⊥
-    fresh x xs d is = refuted (list_any (λ c. x == c) xs) (left_part (not (list_any (λ c. x == c) xs)) (differ xs) d) (is_any x xs is)
-
 -- the runs with one set to blocks that none of them has
 differ_set : (i : ℕ) (new : List ℕ) (runs : List (List ℕ)) → T (differ (concat runs)) → T (differ new) → ((b : ℕ) → In b new → In b (concat runs) → ⊥) → T (differ (concat (slice_set runs i new)))
 differ_set i new [] d fresh none = tt
-differ_set zero new (bs ∷ runs) d fresh none = differ_both new (concat runs) fresh (differ_back bs (concat runs) d) (λ b here there. none b here (any_back (λ c. b ≡ c) bs (concat runs) there))
+differ_set zero new (bs ∷ runs) d fresh none = differ_append new (concat runs) fresh (differ_back bs (concat runs) d) (λ b here there. none b here (any_back (λ c. b ≡ c) bs (concat runs) there))
 differ_set (suc i) new (bs ∷ runs) d fresh none =
-    differ_both bs (concat (slice_set runs i new)) (differ_front bs (concat runs) d)
+    differ_append bs (concat (slice_set runs i new)) (differ_front bs (concat runs) d)
     (differ_set i new runs (differ_back bs (concat runs) d) fresh (λ b here there. none b here (any_back (λ c. b ≡ c) bs (concat runs) there)))
     (λ b here there. elim (in_set b i new runs there) [ inl is_new ↦ none b is_new (any_front (λ c. b ≡ c) bs (concat runs) here) | inr was ↦ apart b bs (concat runs) d here was ])
 
@@ -91,11 +41,7 @@ within : (a b : ℕ) → a ≤ b → T (nat_le a b)
 within a b h = le→leb a b h
 
 four_tests : (a b c d : Bool) → T a → T b → T c → T d → T (a && (b && (c && (d && true))))
-four_tests true true true true p q r s = tt
-four_tests false b c d p q r s = absurd p
-four_tests true false c d p q r s = absurd q
-four_tests true true false d p q r s = absurd r
-four_tests true true true false p q r s = absurd s
+four_tests a b c d p q r s = both a _ p (both b _ q (both c _ r (both d true s tt)))
 
 module _ (shape : Shape) where
   no_run : run_blocks shape 0 ≡ 0
@@ -165,11 +111,8 @@ module _ (shape : Shape) (root : Root) (level count : ℕ) (taken : List ℕ) (i
   abbrev then_runs : List (List ℕ)
   then_runs = blocks_after level taken root.runs
 
-  was : Eight (is_number root.number) (nat_le 1 root.epoch) (nat_le root.epoch root.number) (length root.newest == 2)
-      (length root.older == 0 || (length root.older == 2 && nat_le 2 root.epoch)) (has_runs shape root) (list_all in_flash (named root)) (differ (named root))
-  was = parts (is_number root.number) (nat_le 1 root.epoch) (nat_le root.epoch root.number) (length root.newest == 2)
-      (length root.older == 0 || (length root.older == 2 && nat_le 2 root.epoch)) (has_runs shape root) (list_all in_flash (named root)) (differ (named root))
-      (left_part (is_laid_out shape root) (are_limits shape root.limits) is)
+  was : Parts shape root
+  was = root_parts shape root (is_true _ is)
 
   older_in : (one : Bool) (b : ℕ) → In b (if one then [] else root.older) → In b root.older
   older_in true b is_in = absurd is_in
@@ -194,23 +137,24 @@ module _ (shape : Shape) (root : Root) (level count : ℕ) (taken : List ℕ) (i
 
   inside : T (list_all in_flash (named (merged_root root level count taken)))
   inside = all_of in_flash (named (merged_root root level count taken))
-      (λ b among. elim (either b among) [ inl is_new ↦ in_place b is_new | inr former ↦ all_at_each in_flash (named root) b was.seven former ])
+      (λ b among. elim (either b among) [ inl is_new ↦ in_place b is_new | inr former ↦ all_at_each in_flash (named root) b (of_true _ was.blocks) former ])
 
   epochs_differ : T (differ (root.newest ++ then_older))
   epochs_differ = by_case (level == 1)
     where
       by_case : (one : Bool) → T (differ (root.newest ++ (if one then [] else root.older)))
-      by_case true = subst (λ xs. T (differ xs)) (sym (append-nil root.newest)) (differ_front root.newest root.older (differ_front (root.newest ++ root.older) (concat root.runs) was.eight))
-      by_case false = differ_front (root.newest ++ root.older) (concat root.runs) was.eight
+      by_case true = subst (λ xs. T (differ xs)) (sym (append-nil root.newest))
+          (differ_front root.newest root.older (differ_front (root.newest ++ root.older) (concat root.runs) (of_true _ was.differs)))
+      by_case false = differ_front (root.newest ++ root.older) (concat root.runs) (of_true _ was.differs)
 
   runs_differ : T (differ (concat then_runs))
-  runs_differ = differ_after level taken root.runs (differ_back (root.newest ++ root.older) (concat root.runs) was.eight) fresh
+  runs_differ = differ_after level taken root.runs (differ_back (root.newest ++ root.older) (concat root.runs) (of_true _ was.differs)) fresh
       (λ b here there. new b here (any_back (λ c. b ≡ c) (root.newest ++ root.older) (concat root.runs) there))
 
   different : T (differ (named (merged_root root level count taken)))
-  different = differ_both (root.newest ++ then_older) (concat then_runs) epochs_differ runs_differ (λ b front run. elim (in_after b level taken root.runs run) [
+  different = differ_append (root.newest ++ then_older) (concat then_runs) epochs_differ runs_differ (λ b front run. elim (in_after b level taken root.runs run) [
     | inl is_new ↦ new b is_new (any_front (λ c. b ≡ c) (root.newest ++ root.older) (concat root.runs) (front_in b front))
-    | inr former ↦ apart b (root.newest ++ root.older) (concat root.runs) was.eight (front_in b front) former
+    | inr former ↦ apart b (root.newest ++ root.older) (concat root.runs) (of_true _ was.differs) (front_in b front) former
   ])
 
   suits_root : Suits shape (counts_after level count root.counts) then_runs
@@ -227,17 +171,12 @@ module _ (shape : Shape) (root : Root) (level count : ℕ) (taken : List ℕ) (i
       subst (λ ns. Suits shape (counts_after level count ns) then_runs) (sym c.are)
       (subst (λ bs. Suits shape (counts_after level count (c.a ∷ c.b ∷ c.c ∷ c.d ∷ [])) (blocks_after level taken bs)) (sym b.are) now)
 
-  three : (a b c : Bool) → T a → T b → T c → T (a && b && c)
-  three true true true p q r = tt
-  three false b c p q r = absurd p
-  three true false c p q r = absurd q
-  three true true false p q r = absurd r
-
   runs_fit : T (has_runs shape (merged_root root level count taken))
   runs_fit =
       let s = suits_root in
       let counts = counts_after level count root.counts in
-      three (length counts == 4) (list_all (λ p. nat_le p.0 (p.1 * page_entries shape)) (zip counts (caps shape))) (bytes_eq (map length then_runs) (map (run_blocks shape) counts)) s.four s.caps_fit
+      both (length counts == 4 && list_all (λ p. nat_le p.0 (p.1 * page_entries shape)) (zip counts (caps shape)))
+      (bytes_eq (map length then_runs) (map (run_blocks shape) counts)) (both _ _ s.four s.caps_fit)
       (subst T (sym ((bytes_eq-Decides (map length then_runs) (map (run_blocks shape) counts)).1 s.sizes)) tt)
 
   older_fits : T (length then_older == 0 || (length then_older == 2 && nat_le 2 root.epoch))
@@ -245,26 +184,23 @@ module _ (shape : Shape) (root : Root) (level count : ℕ) (taken : List ℕ) (i
     where
       by_case : (one : Bool) → T (length (if one then [] else root.older) == 0 || (length (if one then [] else root.older) == 2 && nat_le 2 root.epoch))
       by_case true = tt
-      by_case false = was.five
+      by_case false = of_true _ was.older
 
   pub merged_is_root : T (is_root shape (merged_root root level count taken))
   merged_is_root =
-      let most = leb→le root.epoch root.number was.three in
-      let laid : T (is_laid_out shape (merged_root root level count taken)) =
-      all_parts (is_number (root.number + 1)) (nat_le 1 root.epoch) (nat_le root.epoch (root.number + 1))
-      (length root.newest == 2) (length then_older == 0 || (length then_older == 2 && nat_le 2 root.epoch))
-      (has_runs shape (merged_root root level count taken)) (list_all in_flash (named (merged_root root level count taken))) (differ (named (merged_root root level count taken)))
-      (record {
-        one = both (nat_le 1 (root.number + 1)) (nat_lt (root.number + 1) 18446744073709551616) (le→leb 1 (root.number + 1) (omega arith)) (le→leb (suc (root.number + 1)) 18446744073709551616 small);
+      let high = leb→le root.epoch root.number (of_true _ was.most) in
+      of_true _ (parts_root shape (merged_root root level count taken) (record {
+        number = is_true _ (both (nat_le 1 (root.number + 1)) (nat_lt (root.number + 1) 18446744073709551616)
+            (le→leb 1 (root.number + 1) (omega arith)) (le→leb (suc (root.number + 1)) 18446744073709551616 small));
+        some = was.some;
+        most = is_true _ (le→leb root.epoch (root.number + 1) (omega (arith, high)));
         two = was.two;
-        three = le→leb root.epoch (root.number + 1) (omega (arith, most));
-        four = was.four;
-        five = older_fits;
-        six = runs_fit;
-        seven = inside;
-        eight = different;
-      }) in
-      both (is_laid_out shape (merged_root root level count taken)) (are_limits shape root.limits) laid (right_part (is_laid_out shape root) (are_limits shape root.limits) is)
+        older = is_true _ older_fits;
+        runs = is_true _ runs_fit;
+        blocks = is_true _ inside;
+        differs = is_true _ different;
+        limits = was.limits;
+      }))
 
 pub merged_grammar : MergedGrammar
 merged_grammar shape root level count taken is low high few size fresh place new small = is_true _

@@ -1,5 +1,6 @@
 -- What was found under a root, list by list.
-use Rattle.std.proofs.Common.{◌≡◌, ℕ, ◌-◌, ap, subst, ◌∙◌, arith, refl, Bool, true, false, ◌||◌, ◌==◌, T, List, [], ◌∷◌, length, nat_le, Result, Ok, eqb→eq}
+use Rattle.std.proofs.Common.{◌≡◌, ℕ, ◌-◌, ap, subst, ◌∙◌, Bool, true, false, ◌||◌, ◌==◌, T, List, [], length, nat_le, Result, Ok, eqb→eq}
+use Rattle.std.proofs.lemmas.List.{nil_from_length}
 use Rattle.pk_base.{specs.Shape.Shape, specs.Page.Page, specs.Page.page_in, specs.Entry.Entry, specs.Refusal.Refusal, specs.Refusal.ensure, proofs.Logic.ok_same, proofs.Logic.passed}
 use Rattle.pk_rootfmt.specs.Root.{Root}
 use Rattle.pk_jrnfmt.specs.Epoch.{epoch}
@@ -20,10 +21,6 @@ newest_found shape at root found is =
 
 -- ---- an older epoch without entries is not named
 
-length_none : (xs : List ℕ) → length xs ≡ 0 → xs ≡ []
-length_none [] none = refl
-length_none (x ∷ xs) none = absurd (omega (arith, none))
-
 or_false : (b : Bool) → T (b || false) → T b
 or_false true t = tt
 or_false false t = t
@@ -39,4 +36,4 @@ none_named shape at root found is none =
     let older_is : first.0 ≡ found.older = ap (λ (f : Found). f.older) (ok_same (record { newest = second.0; older = first.0; runs = third.0 }) found third.2) in
     let empty : es.0 ≡ [] = ok_same es.0 first.0 tested.2 ∙ older_is ∙ none in
     let passes : T (length root.older == 0 || nat_le 1 (length es.0)) = passed _ _ tested.0 tested.1 in
-    length_none root.older (eqb→eq _ _ (or_false (length root.older == 0) (subst (λ (xs : List Entry). T (length root.older == 0 || nat_le 1 (length xs))) empty passes)))
+    nil_from_length root.older (eqb→eq _ _ (or_false (length root.older == 0) (subst (λ (xs : List Entry). T (length root.older == 0 || nat_le 1 (length xs))) empty passes)))

@@ -1,9 +1,9 @@
 -- A tree's entries as a finite map.
-use Rattle.std.proofs.Common.{◌≡◌, ℕ, refl, sym, ap, ◌∙◌, Bool, true, false, cond, ◌&&◌, T, List, [], ◌∷◌, length, Some, None}
+use Rattle.std.proofs.Common.{◌≡◌, ℕ, refl, sym, ap, ◌∙◌, cond, T, List, [], ◌∷◌, length, Some, None}
+use Rattle.std.specs.FinMap.{get, insert, remove, len, entries, from_entries, from_sorted, get-from_entries, get-from_sorted, entries-from_sorted, get-insert, get-remove, len-entries, same_map}
 use Rattle.std.{specs.declared.cmp.Ordering.TheVariants.Less, specs.Ordering.is_eq, specs.Ordering.eq_by_cmp, specs.Cmp.eq_by_cmp_equiv, specs.List.AllByRecursion, specs.Map.lookup, specs.Map.keys_of}
 use Rattle.std.{specs.List.Sorted.IsStrictlySortedBy, specs.FinMap.Entries.find, specs.FinMap.Entries.is_sorted, specs.FinMap.Entries.below_all}
-use Rattle.std.specs.FinMap.{get, insert, remove, len, entries, from_entries, from_sorted, get-from_entries, get-from_sorted, entries-from_sorted, get-insert, get-remove, len-entries, same_map}
-use Rattle.pk_base.specs.Key.{Key, key_cmp}
+use Rattle.pk_base.{specs.Key.Key, specs.Key.key_cmp, proofs.Logic.both}
 use Rattle.pk_model.proofs.MapLemmas.{key_total, key_antisymm}
 
 pub find-lookup : (q : Key) (es : List (Key × List ℕ)) → find key_cmp q es ≡ lookup (λ k. is_eq (key_cmp q k)) es
@@ -40,10 +40,6 @@ pub sorted-tree : (es : List (Key × List ℕ)) → IsStrictlySortedBy key_cmp (
 unfolding IsStrictlySortedBy
 sorted-tree [] h = tt
 sorted-tree (e ∷ es) h = both _ _ (below e.0 es h.0) (sorted-tree es h.1)
-  where
-    both : (a b : Bool) → T a → T b → T (a && b)
-    both true b p q = q
-    both false b p q = p
 
 -- the entries of a tree are those of its map, in order
 pub entries-tree : (es : List (Key × List ℕ)) → IsStrictlySortedBy key_cmp (keys_of es) → entries (from_entries {R = key_cmp} es) ≡ es
