@@ -2,8 +2,9 @@
 use Rattle.std.proofs.Common.{◌≡◌, ◌≢◌, ℕ, ◌+◌, ◌*◌, ◌/◌, ◌-◌, ◌<◌, ◌≤◌, Bool, List, length, get_or, take, drop, ap, sym, ◌∙◌, arith, sum, replicate, length-set, length-take, length-drop}
 use Rattle.std.proofs.Common.{get_or-set_same, get_or-set_other, get_or-take, get_or-drop, suc, min, inl, inr, false}
 use Rattle.std.proofs.lemmas.List.{length-replicate, get_or-replicate, drop-set-add, drop-set-lt, take-set-le}
-use Rattle.std.{proofs.lemmas.List.Elements.All-replicate, proofs.lemmas.List.Elements.All-set, proofs.Math.ListN.set, specs.Prelude.All, proofs.Math.Seq.take-set-lt, proofs.lemmas.Nat.mul-le}
 use Rattle.std.proofs.Math.Nat.{div-lt_iff_lt-mul, mul-le-mul_right, suc-mul, lt-div-mul-add, div-mul-le_self, mul_comm}
+use Rattle.std.{specs.Prelude.slice_get, specs.Prelude.Some, proofs.lemmas.Option.slice_get_within, proofs.lemmas.Option.get_or_from_slice_get}
+use Rattle.std.{proofs.lemmas.List.Elements.All-replicate, proofs.lemmas.List.Elements.All-set, proofs.Math.ListN.set, specs.Prelude.All, proofs.Math.Seq.take-set-lt, proofs.lemmas.Nat.mul-le}
 use Rattle.std.{proofs.lemmas.List.Sums.sum_by-set, proofs.lemmas.List.Sums.sum_by-le, proofs.lemmas.Bool.cases_lt, proofs.lemmas.Bool.cases_eq}
 use Rattle.pk_live.specs.Values.{block_sum, IsCounted}
 
@@ -76,19 +77,31 @@ counted_set n t u c hs cs cl page x y i h small was all one =
       all = omega (arith, sum_by-set (λ x. x) hs page y 0 h, i.all);
     }
 
--- the block of a page has a count
-pub block_of : (n t page : ℕ) (hs cs : List ℕ) (cl : List Bool) → IsCounted n t hs cs cl → page < length hs → page / n < length cs
-block_of n t page hs cs cl i h = rw i.blocks (in_block n (length cl) page i.positive (omega (arith, h, i.pages)))
+-- a page whose head is x: its block has a count, and neither this nor the total is large or less than x
+pub record HeadAt (n t page x : ℕ) (hs cs : List ℕ) : Type 0 where
+  pub exists : page < length hs
+  pub head : get_or hs page 0 ≡ x
+  pub block : page / n < length cs
+  pub count_small : get_or cs (page / n) 0 ≤ 65536
+  pub total_small : t ≤ 268435456
+  pub count_covers : x ≤ get_or cs (page / n) 0
+  pub total_covers : x ≤ t
 
--- no count and no total is large
-pub counts_are_small : (n t page : ℕ) (hs cs : List ℕ) (cl : List Bool) → IsCounted n t hs cs cl → page < length hs → (get_or cs (page / n) 0 ≤ 65536) × (t ≤ 268435456)
-counts_are_small n t page hs cs cl i h =
-    (rw (i.counted (page / n) (block_of n t page hs cs cl i h)) (block_sum-le hs n (page / n) i.small i.short), rw i.all (sum-le-pages hs n (length cl) i.small i.few i.pages i.short))
-
--- each has at least the pages of the value that is taken from it
-pub counts_cover : (n t page : ℕ) (hs cs : List ℕ) (cl : List Bool) → IsCounted n t hs cs cl → page < length hs → (get_or hs page 0 ≤ get_or cs (page / n) 0) × (get_or hs page 0 ≤ t)
-counts_cover n t page hs cs cl i h =
-    (omega (arith, i.counted (page / n) (block_of n t page hs cs cl i h), block_sum-set_same hs n page 0 i.positive h), omega (arith, sum_by-set (λ x. x) hs page 0 0 h, i.all))
+pub head_at : (n t page x : ℕ) (hs cs : List ℕ) (cl : List Bool) → IsCounted n t hs cs cl → slice_get hs page ≡ Some x → HeadAt n t page x hs cs
+head_at n t page x hs cs cl i is =
+    let h = slice_get_within hs page x is in
+    let head = get_or_from_slice_get hs page x 0 is in
+    let block : page / n < length cs = rw i.blocks (in_block n (length cl) page i.positive (omega (arith, h, i.pages))) in
+    let count = i.counted (page / n) block in
+    record {
+      exists = h;
+      head = head;
+      block = block;
+      count_small = rw count (block_sum-le hs n (page / n) i.small i.short);
+      total_small = rw i.all (sum-le-pages hs n (length cl) i.small i.few i.pages i.short);
+      count_covers = omega (arith, head, count, block_sum-set_same hs n page 0 i.positive h);
+      total_covers = omega (arith, head, sum_by-set (λ x. x) hs page 0 0 h, i.all);
+    }
 
 -- at the start there is no value
 pub counted_none : (n m : ℕ) → 0 < n → n ≤ 256 → m ≤ 4096 → IsCounted n 0 (replicate (n * m) 0) (replicate m 0) (replicate m false)

@@ -1,10 +1,10 @@
 -- The live map of a list of values.
 use Rattle.std.proofs.Common.{◌≡◌, ◌≢◌, inl, inr, ℕ, ◌+◌, ◌/◌, ◌<◌, ◌≤◌, Bool, true, false, not, ◌&&◌, ◌||◌, cond, List, [], ◌∷◌, ◌++◌, length, get_or, map, sum, replicate, refl, sym, subst, ap, ◌∙◌}
 use Rattle.std.proofs.Common.{arith, ◌==◌, length-append, append-nil, append_assoc, length-set, get_or-set_same, get_or-set_other}
-use Rattle.std.{specs.Prelude.count_by, specs.List.list_any, specs.List.range_with_len, specs.List.AllByRecursion, proofs.Math.ListN.set, proofs.lemmas.List.Folds.list_any-append}
-use Rattle.std.proofs.lemmas.Bool.{false≢true, or_cases, or_left, or_right, and_parts, eq-eqb, ne_eqb, cases_lt, cases_eq}
-use Rattle.std.{proofs.lemmas.List.length-replicate, proofs.lemmas.List.get_or-replicate, proofs.lemmas.List.get_or_past, proofs.lemmas.List.Sums.sum_by-set, proofs.lemmas.List.Sums.sum_by-cons}
+use Rattle.std.proofs.lemmas.Bool.{false≢true, not-true, or_cases, or_left, or_right, and_parts, eq-eqb, ne_eqb, cases_lt, cases_eq}
 use Rattle.std.proofs.lemmas.List.FromFn.{length-range_with_len, length-map-range_with_len, get_or-map-range_with_len, fill_by_all}
+use Rattle.std.{specs.Prelude.count_by, specs.List.list_any, specs.List.range_with_len, specs.List.AllByRecursion, proofs.Math.ListN.set, proofs.lemmas.List.Folds.list_any-append}
+use Rattle.std.{proofs.lemmas.List.length-replicate, proofs.lemmas.List.get_or-replicate, proofs.lemmas.List.get_or_past, proofs.lemmas.List.Sums.sum_by-set, proofs.lemmas.List.Sums.sum_by-cons}
 use Rattle.pk_base.{specs.Key.Key, specs.Shape.Shape, specs.Shape.IsShape, specs.Shape.page_count, specs.Shape.charge, specs.Entry.Place, specs.EntryChecks.IsPlace}
 use Rattle.pk_live.{specs.Values.block_sum, proofs.Counts.block_sum-set_same, proofs.Counts.block_sum-set_other, proofs.Counts.counted_none, specs.Lives.head_of, specs.Lives.is_used}
 use Rattle.pk_live.proofs.Blocks.{same_block}
@@ -100,7 +100,7 @@ module _ (shape : Shape) (is_shape : IsShape shape) where
               | inl more ↦
                   (let again = covered es each.1 h h (omega arith) (omega (arith, more)) in
                   let front = has_range h e.1.page (charge shape e.1.len) (omega (arith, same)) (omega (arith, same, charge_some shape is_shape e.1.len)) in
-                  absurd (false≢true (sym (not_true (meets own rest) whole.1) ∙ meets_from h own rest front again)))
+                  absurd (false≢true (sym (not-true (meets own rest) whole.1) ∙ meets_from h own rest front again)))
               | inr none ↦
                   list_any-append (λ c. p == c) own rest ∙ or_left (has p own) (has p rest) (has_range p e.1.page (charge shape e.1.len) (omega (arith, same, low)) (omega (arith, same, high', none)))
             ])
@@ -109,10 +109,6 @@ module _ (shape : Shape) (is_shape : IsShape shape) where
             let high' : p < h + (0 + head_of shape es h) = rw other at high in
             list_any-append (λ c. p == c) own rest ∙ or_right (has p own) (has p rest) (covered es each.1 h p low (omega (arith, high'))))
       ]
-    where
-      not_true : (b : Bool) → not b ≡ true → b ≡ false
-      not_true true e = sym e
-      not_true false e = refl
 
   -- each of them is covered
   pub covers : (es : List (Key × Place)) (p : ℕ) → has p (all_pages shape es) ≡ true → (h : ℕ) × (h ≤ p) × (p < h + head_of shape es h)
