@@ -1,15 +1,15 @@
 -- Keys with places: one entry more, and one less.
-use Rattle.std.proofs.Common.{◌≡◌, ◌⊎◌, inl, inr, ℕ, ◌+◌, true, false, not, cond, T, List, [], ◌∷◌, ◌++◌, Some, None, refl, sym, ap, subst, ◌∙◌, arith, ◌==◌}
+use Rattle.std.proofs.Common.{◌≡◌, ◌⊎◌, inl, inr, ℕ, ◌+◌, true, false, not, cond, T, List, [], ◌∷◌, Some, None, refl, sym, ap, subst, ◌∙◌, arith, ◌==◌}
+use Rattle.std.specs.FinMap.Entries.{put, find, is_sorted, below_all, by_order, find-where_key}
 use Rattle.std.{specs.List.AllByRecursion, specs.declared.cmp.Ordering.TheVariants.Less, specs.declared.cmp.Ordering.TheVariants.Equal, specs.declared.cmp.Ordering.TheVariants.Greater}
 use Rattle.std.{specs.Ordering.is_lt, specs.Ordering.is_eq, specs.Ordering.eq_by_cmp, specs.Cmp.tied_itself, proofs.lemmas.Bool.eq-eqb, proofs.lemmas.Bool.ne_eqb}
-use Rattle.std.specs.FinMap.Entries.{put, find, is_sorted, below_all, by_order, find-where_key}
 use Rattle.pk_base.{specs.Key.Key, specs.Key.key_cmp, specs.Shape.Shape, specs.Shape.IsShape, specs.Shape.charge, specs.Entry.Place, specs.EntryChecks.IsPlace}
 use Rattle.pk_base.proofs.Logic.{left_part, right_part, less}
 use Rattle.pk_segfmt.{specs.Value.value_pages, proofs.StoredLemmas.charge_some}
 use Rattle.pk_rootfmt.specs.Root.{differ}
 use Rattle.pk_model.{specs.Values.all_pages, specs.Laws.IsPageOf, proofs.MapLemmas.key_total, proofs.MapLemmas.key_antisymm, proofs.MapLemmas.below_less}
-use Rattle.pk_model.proofs.Commits.{apart, rest_differs}
-use Rattle.pk_law_steps.{specs.Under.IsValuePage, proofs.Places.range_in, proofs.Places.value_in}
+use Rattle.pk_model.proofs.Commits.{apart}
+use Rattle.pk_law_steps.{specs.Under.IsValuePage, proofs.Places.range_in, proofs.Places.value_in, proofs.Places.differ_back}
 use Rattle.pk_live.specs.Lives.{head_of}
 use Rattle.pk_values.specs.Placed.{AreApart, without}
 
@@ -112,10 +112,6 @@ module _ (shape : Shape) where
         | true ↦ apart_without key es are_apart.1
         | false ↦ (λ k here there. are_apart.0 k here (page_without key es k there), apart_without key es are_apart.1)
       ]
-
-  differ_back : (xs ys : List ℕ) → T (differ (xs ++ ys)) → T (differ ys)
-  differ_back [] ys d = d
-  differ_back (x ∷ xs) ys d = differ_back xs ys (rest_differs x (xs ++ ys) d)
 
   -- if no page occurs twice, no page belongs to two values
   pub apart_from : (es : List (Key × Place)) → T (differ (all_pages shape es)) → AreApart shape es

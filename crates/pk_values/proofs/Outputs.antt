@@ -1,13 +1,14 @@
 -- The blocks for values that no running reclaim holds.
-use Rattle.std.proofs.Common.{◌≡◌, ◌≢◌, inl, inr, ℕ, zero, suc, ◌+◌, Bool, true, false, not, ◌&&◌, ◌==◌, List, [], ◌∷◌, length, Some, refl, sym, ap, subst, ◌∙◌, arith, length-set}
-use Rattle.std.{specs.Prelude.slice_get, proofs.Math.ListN.set}
+use Rattle.std.proofs.Common.{◌≡◌, ◌≢◌, inl, inr, ℕ, zero, suc, ◌+◌, true, false, not, ◌&&◌, ◌==◌, List, [], ◌∷◌, length, Some, refl, sym, ap, subst, ◌∙◌, arith, length-set}
 use Rattle.std.proofs.lemmas.Bool.{false≢true, or_cases, and_parts, eqb-true, eq-eqb, or_left, or_right, cases_Bool, false_from_ne_true}
+use Rattle.std.{specs.Prelude.slice_get, proofs.Math.ListN.set}
 use Rattle.pk_plan.specs.declared.owner.Owner.TheVariants.{Values as for_values}
 use Rattle.pk_pool.{specs.declared.state.BlockState.BlockState, specs.declared.state.BlockState.TheVariants.Free, specs.declared.state.BlockState.TheVariants.Owned, specs.Blocks.used_by}
 use Rattle.pk_pool.{proofs.States.get-set_other, proofs.Sharing.used_given}
 use Rattle.pk_rootfmt.specs.Root.{differ}
 use Rattle.pk_live.proofs.Ranges.{has}
 use Rattle.pk_values.{specs.Placed.IsOutput, specs.Laws.is_for_values}
+use mathlib.Core.Bool.{and-true, and-false}
 
 -- ---- members
 
@@ -62,17 +63,9 @@ freed_it (b ∷ bs) ss k is = elim (cases_Bool (has k bs)) [
 -- a block is for values then if it was, and is none of these
 pub freed_is : (bs : List ℕ) (ss : List BlockState) (k : ℕ) → is_for_values (slice_get (freed ss bs) k) ≡ (is_for_values (slice_get ss k) && not (has k bs))
 freed_is bs ss k = elim (cases_Bool (has k bs)) [
-  | inl is ↦ freed_it bs ss k is ∙ sym (rw is (and_no (is_for_values (slice_get ss k))))
-  | inr other_one ↦ ap is_for_values (freed_other bs ss k other_one) ∙ sym (rw other_one (and_yes (is_for_values (slice_get ss k))))
+  | inl is ↦ freed_it bs ss k is ∙ sym (rw is (and-false (is_for_values (slice_get ss k))))
+  | inr other_one ↦ ap is_for_values (freed_other bs ss k other_one) ∙ sym (rw other_one (and-true (is_for_values (slice_get ss k))))
 ]
-  where
-    and_no : (b : Bool) → (b && not true) ≡ false
-    and_no true = refl
-    and_no false = refl
-
-    and_yes : (b : Bool) → (b && not false) ≡ b
-    and_yes true = refl
-    and_yes false = refl
 
 -- that many fewer are for values
 pub used_freed : (bs : List ℕ) (ss : List BlockState) → differ bs ≡ true → ((b : ℕ) → IsOutput bs b → slice_get ss b ≡ Some (Owned for_values))

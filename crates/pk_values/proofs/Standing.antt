@@ -66,10 +66,17 @@ module _ (shape : Shape) (d : ValuesState) (pool : Blocks) (outputs : List ℕ) 
   live : AreLive shape d.live.heads es
   live = record { places = p.places; apart = p.apart; heads_are = p.heads_are }
 
-  -- a key less
-  pub ValuesOnFlash-removed : (key : Key) (place : Place) → T (is_sorted key_cmp es) → find key_cmp key es ≡ Some place
-      → ValuesOnFlash shape (with_head d place.page 0) pool outputs flash (without key es)
-  ValuesOnFlash-removed key place rising found = record {
+  -- a page of a value is in a block for values that is no output, and it is written
+  abbrev HoldsPage : ℕ → Type 0
+  HoldsPage k = HoldsValues pool (k / shape.block_pages) × (page_at flash k ≢ erased) × (IsOutput outputs (k / shape.block_pages) → ⊥)
+
+  holds : (k : ℕ) → IsValuePage shape es k → HoldsPage k
+  holds k is = (p.owned k is, p.written k is, p.outputs_are.unread k is)
+
+  -- other values with such pages
+  ValuesOnFlash-other : (heads : List ℕ) (es' : List (Key × Place)) → AreLive shape heads es' → ((k : ℕ) → IsValuePage shape es' k → HoldsPage k)
+      → ValuesOnFlash shape (with_heads d heads) pool outputs flash es'
+  ValuesOnFlash-other heads es' after each = record {
     is_shape = p.is_shape;
     shape_is = p.shape_is;
     size = p.size;
@@ -77,8 +84,8 @@ module _ (shape : Shape) (d : ValuesState) (pool : Blocks) (outputs : List ℕ) 
     few = p.few;
     places = after.places;
     apart = after.apart;
-    owned = λ k is. p.owned k (page_without shape key es k is);
-    written = λ k is. p.written k (page_without shape key es k is);
+    owned = λ k is. (each k is).0;
+    written = λ k is. (each k is).1;
     block_pages_is = p.block_pages_is;
     heads_are = after.heads_are;
     closed_size = p.closed_size;
@@ -86,47 +93,21 @@ module _ (shape : Shape) (d : ValuesState) (pool : Blocks) (outputs : List ℕ) 
     owned_closed = p.owned_closed;
     behind_roots = p.behind_roots;
     open_is = p.open_is;
-    outputs_are = record {
-      different = p.outputs_are.different;
-      owned = p.outputs_are.owned;
-      not_open = p.outputs_are.not_open;
-      unread = λ k is. p.outputs_are.unread k (page_without shape key es k is);
-    };
+    outputs_are = record { different = p.outputs_are.different; owned = p.outputs_are.owned; not_open = p.outputs_are.not_open; unread = λ k is. (each k is).2 };
   }
-    where
-      after : AreLive shape (set d.live.heads place.page 0) (without key es)
-      after = live_removed shape p.is_shape d.live.heads es live key place rising found
+
+  -- a key less
+  pub ValuesOnFlash-removed : (key : Key) (place : Place) → T (is_sorted key_cmp es) → find key_cmp key es ≡ Some place
+      → ValuesOnFlash shape (with_head d place.page 0) pool outputs flash (without key es)
+  ValuesOnFlash-removed key place rising found = ValuesOnFlash-other (set d.live.heads place.page 0) (without key es)
+      (live_removed shape p.is_shape d.live.heads es live key place rising found) (λ k is. holds k (page_without shape key es k is))
 
   -- a key more
   pub ValuesOnFlash-added : (key : Key) (place : Place) → find key_cmp key es ≡ None → InBlock shape pool outputs flash place → ((k : ℕ) → IsPageOf shape k place → IsValuePage shape es k → ⊥)
       → ValuesOnFlash shape (with_head d place.page (charge shape place.len)) pool outputs flash (put key_cmp key place es)
-  ValuesOnFlash-added key place none within free = record {
-    is_shape = p.is_shape;
-    shape_is = p.shape_is;
-    size = p.size;
-    fits = p.fits;
-    few = p.few;
-    places = after.places;
-    apart = after.apart;
-    owned = λ k is. elim (page_put shape key place es k is) [ inl new ↦ within.owned k new | inr old ↦ p.owned k old ];
-    written = λ k is. elim (page_put shape key place es k is) [ inl new ↦ within.written k new | inr old ↦ p.written k old ];
-    block_pages_is = p.block_pages_is;
-    heads_are = after.heads_are;
-    closed_size = p.closed_size;
-    closed_owned = p.closed_owned;
-    owned_closed = p.owned_closed;
-    behind_roots = p.behind_roots;
-    open_is = p.open_is;
-    outputs_are = record {
-      different = p.outputs_are.different;
-      owned = p.outputs_are.owned;
-      not_open = p.outputs_are.not_open;
-      unread = λ k is. elim (page_put shape key place es k is) [ inl new ↦ within.no_output k new | inr old ↦ p.outputs_are.unread k old ];
-    };
-  }
-    where
-      after : AreLive shape (set d.live.heads place.page (charge shape place.len)) (put key_cmp key place es)
-      after = live_added shape p.is_shape d.live.heads es live key place none within.is_place free
+  ValuesOnFlash-added key place none within free = ValuesOnFlash-other (set d.live.heads place.page (charge shape place.len)) (put key_cmp key place es)
+      (live_added shape p.is_shape d.live.heads es live key place none within.is_place free)
+      (λ k is. elim (page_put shape key place es k is) [ inl new ↦ (within.owned k new, within.written k new, within.no_output k new) | inr old ↦ holds k old ])
 
 -- ---- the calls
 
