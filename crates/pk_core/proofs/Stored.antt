@@ -20,7 +20,7 @@ use Rattle.pk_background.specs.Spacing.{SameMapAll, MovesOrReads, StaysSame, nee
 use Rattle.pk_background.proofs.ReadSteps.{Passes, passes_none, reading_then, reading_failed, running_says}
 use Rattle.pk_background.proofs.SameMaps.{same_of, same_unread, passes_moved, SameMapAll-then}
 use Rattle.pk_changes.{specs.Changes.MayPut, specs.Changes.CanPut, specs.Changes.PutsAll, specs.Changes.FailsToPut, specs.Changes.PutsOrReads, specs.Changes.StaysBetween, proofs.Changing.kept_goes}
-use Rattle.pk_changes.{specs.Programming.PutsQuietly, proofs.Putting.later_reaches, proofs.Putting.later_goes, proofs.Putting.room_after}
+use Rattle.pk_changes.{proofs.Putting.later_reaches, proofs.Putting.later_goes, proofs.Putting.room_after}
 use Rattle.pk_core.{specs.Programming.ReadsNone, proofs.Amounts.store_few, proofs.Amounts.numbers_last}
 use Rattle.pk_core.specs.Spacing.{MayStore, StoresAll, FailsToStore, StoresOrReads, CanStore, store_most}
 
@@ -255,15 +255,6 @@ module _ (a : Parts) (s0 : BoardState) (key : Key) (value : List ℕ) (count : �
   opens_behind (Ok x) c s2 most step fresh = makes_room c s2 (insert can.may.0 key value) (step.came.0 a.log.shape can.may.0 can.may.1).stands fresh
   opens_behind (Err Reading) c s2 most step fresh = makes_room c s2 can.may.0 (step.came.0 a.log.shape can.may.0 can.may.1.stands).stands fresh
   opens_behind (Err Stopped) c s2 most step fresh = tt
-
-  -- such a value has no room in the open block
-  pub no_quiet : (r : Result Unit Fault) (s2 : BoardState) → OnOk r (PutsQuietly a key count s0 s2)
-  no_quiet (Ok x) s2 = λ none fits. absurd (cc (no_fit a count wanted))
-  no_quiet (Err e) s2 = tt
-
-  pub no_reads : (r : Result Unit Fault) (s2 : BoardState) → OnOk r (ReadsNone a key count s0 s2)
-  no_reads (Ok x) s2 = λ fits. absurd (cc (no_fit a count wanted))
-  no_reads (Err e) s2 = tt
 
 -- ---- if it has room
 
