@@ -16,9 +16,6 @@ use Rattle.pk_parts.specs.Parts.{Parts, index_of, settled_parts, commits_in, is_
 use Rattle.pk_parts.specs.Agreeing.{DriveOnFlashWith, IsWhole, IsHalfRoot, IsHalfCommit, IsHalfAtMost}
 use Rattle.pk_parts.specs.Moves.{StandsFor, StandsBetween, MayStep, MayCommit}
 
-true_false : true ≡ false → ⊥
-true_false e = cc
-
 -- what failed did not end
 pub not_made : (f : Fault) → IsOk {T = Unit {0}} (Err f) → ⊥
 not_made f e = cc
@@ -44,15 +41,15 @@ with_settled d shape flash top found without all settles with = subst (λ (p : P
 
 or_left : (a b : Bool) → (a || b) ≡ false → a ≡ false
 or_left false b e = refl
-or_left true b e = absurd (true_false e)
+or_left true b e = cc
 
 or_right : (a b : Bool) → (a || b) ≡ false → b ≡ false
 or_right false b e = e
-or_right true b e = absurd (true_false e)
+or_right true b e = cc
 
 or_then : (a b : Bool) → (a || b) ≡ true → a ≡ false → b ≡ true
 or_then false b e none = e
-or_then true b e none = absurd (true_false none)
+or_then true b e none = cc
 
 -- no pair of a root is half made, and no commit of moves
 pub root_whole : (d : Parts) → is_half d ≡ false → repeats_next d.log.next ≡ false
@@ -147,5 +144,11 @@ may_commit d board may = record { ready = may.ready; stands = (may.stands.0, bet
 pub half_in : (p : Phase) (x : ReclaimParts) (flash : Flash) (top : ℕ × Root) (found : Found) (m : Map) → commits_in p ≡ false → x.log.epoch.half ≡ false → HalfIn p x flash top found m
 half_in Idle x flash top found m moves epoch = epoch
 half_in (Copies c) x flash top found m moves epoch = epoch
-half_in (Commits victim) x flash top found m moves epoch = absurd (true_false moves)
+half_in (Commits victim) x flash top found m moves epoch = absurd cc
 half_in (GivesBack victim) x flash top found m moves epoch = epoch
+
+pub half_out : (p : Phase) (x : ReclaimParts) (flash : Flash) (top : ℕ × Root) (found : Found) (m : Map) → commits_in p ≡ false → HalfIn p x flash top found m → x.log.epoch.half ≡ false
+half_out Idle x flash top found m moves is = is
+half_out (Copies c) x flash top found m moves is = is
+half_out (Commits victim) x flash top found m moves is = absurd cc
+half_out (GivesBack victim) x flash top found m moves is = is

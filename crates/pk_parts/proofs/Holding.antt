@@ -1,8 +1,8 @@
 -- Levels that have all their pages in frames.
 use Rattle.std.proofs.Common.{◌≡◌, inl, inr, ℕ, zero, suc, ◌+◌, ◌-◌, ◌<◌, ◌≤◌, Bool, true, false, cond, if◌then◌else◌, nat_le, List, [], ◌∷◌, length, map, slice_get, refl, ap, sym, subst, ◌∙◌, arith}
-use Rattle.std.proofs.Common.{Option, Some}
+use Rattle.std.proofs.Common.{Some}
 use Rattle.std.{specs.Prelude.count_by, specs.Prelude.slice_index_or, proofs.lemmas.Bool.cases_lt, proofs.lemmas.Bool.Decides.nat_tests, proofs.lemmas.List.Sums.sum_by-cons}
-use Rattle.pk_base.{specs.Shape.Shape, specs.Shape.need, specs.Shape.pinned, specs.Shape.run_pages, specs.Entry.Entry, specs.Map.Map, specs.Page.Flash}
+use Rattle.pk_base.{specs.Shape.Shape, specs.Shape.need, specs.Shape.pinned, specs.Shape.run_pages, specs.Entry.Entry, specs.Map.Map, specs.Page.Flash, proofs.Logic.some_same}
 use Rattle.pk_adapt.{specs.Adapted.adapted, proofs.Fitting.is_adapted}
 use Rattle.pk_rootfmt.specs.Root.{Root}
 use Rattle.pk_pin.specs.Frames.{Frames}
@@ -86,9 +86,6 @@ held_filled last level (r ∷ rs) zero none low inside =
     ap (λ (held : Bool). Some held) (le_true (length r.firsts) (length r.leases) (omega (arith, none, here)))
 held_filled last level (r ∷ rs) (suc i) none low inside = held_filled last (suc level) rs i (omega (arith, none)) (omega (arith, low)) (omega (arith, inside))
 
-some_true : (b : Bool) → ◌≡◌ {A = Option Bool} (Some b) (Some true) → b ≡ true
-some_true b e = cc
-
 -- and the other way round
 pub filled_held : (last level : ℕ) (rs : List Kept) → ((i : ℕ) → level + i ≤ last → i < length rs → slice_get (map is_pinned rs) i ≡ Some true) → unfilled_from last level rs ≡ 0
 filled_held last level [] all = refl
@@ -97,7 +94,7 @@ filled_held last level (r ∷ rs) all =
     elim (cases_lt last level) [
       | inl above ↦ rw (gt_false level last above) (omega (arith, rest))
       | inr within ↦
-          let enough = le_of (length r.firsts) (length r.leases) (some_true (is_pinned r) (all 0 (omega (arith, within)) (omega arith))) in
+          let enough = le_of (length r.firsts) (length r.leases) (some_same (is_pinned r) true (all 0 (omega (arith, within)) (omega arith))) in
           rw (le_true level last within) (omega (arith, rest, enough))
     ]
 

@@ -10,13 +10,10 @@ use Rattle.pk_values.{specs.declared.span.Span.Span, specs.State.ValuesState, sp
 use Rattle.pk_values.specs.Entries.{IsInOpen, heads_without}
 use Rattle.pk_gc.{specs.declared.course.Course.Course, specs.declared.course.Phase.Phase, specs.State.JobState, specs.State.live_from, specs.State.live_unseen, specs.State.unseen}
 use Rattle.pk_gc.specs.declared.course.Phase.TheVariants.{Idle, Copies, Commits, GivesBack}
-use Rattle.pk_gc.{specs.Running.IsSparse, specs.Stepping.runs_in, specs.Standing.held_blocks, specs.Standing.ReclaimStands, specs.Standing.ReclaimOnFlash}
 use Rattle.pk_gc.proofs.Keeping.{runs_elsewhere, runs_stored, runs_deleted}
+use Rattle.pk_gc.{specs.Running.IsSparse, specs.Stepping.runs_in, specs.Standing.held_blocks, specs.Standing.ReclaimStands, specs.Standing.ReclaimOnFlash}
 use Rattle.pk_law_work.{specs.Rest.steps_of, specs.Rest.whole_reclaim, specs.Jobs.reclaim_rest}
 use Rattle.pk_parts.specs.Parts.{reclaim_left}
-
-true_false : true ≡ false → ⊥
-true_false e = cc
 
 -- ---- none runs
 
@@ -28,22 +25,22 @@ runs_or_rests (GivesBack victim) = inl refl
 
 pub holds_none : (p : Phase) → runs_in p ≡ false → held_blocks p ≡ []
 holds_none Idle rests = refl
-holds_none (Copies c) rests = absurd (true_false rests)
-holds_none (Commits victim) rests = absurd (true_false rests)
-holds_none (GivesBack victim) rests = absurd (true_false rests)
+holds_none (Copies c) rests = absurd cc
+holds_none (Commits victim) rests = absurd cc
+holds_none (GivesBack victim) rests = absurd cc
 
 rests_so : (p : Phase) (shape : Shape) (job : JobState) (live : Values) (flash : Flash) (es : List (Key × Place)) → runs_in p ≡ false → ReclaimStands p shape job live flash es
 rests_so Idle shape job live flash es rests = tt
-rests_so (Copies c) shape job live flash es rests = absurd (true_false rests)
-rests_so (Commits victim) shape job live flash es rests = absurd (true_false rests)
-rests_so (GivesBack victim) shape job live flash es rests = absurd (true_false rests)
+rests_so (Copies c) shape job live flash es rests = absurd cc
+rests_so (Commits victim) shape job live flash es rests = absurd cc
+rests_so (GivesBack victim) shape job live flash es rests = absurd cc
 
 pub reclaim_rests : (shape : Shape) (job : JobState) (live : Values) (pool : Blocks) (flash : Flash) (es : List (Key × Place)) → job.shape ≡ shape → runs_in job.phase ≡ false
     → ReclaimOnFlash shape job live pool flash es
 reclaim_rests shape job live pool flash es is rests = record {
   shape_is = is;
   stands = rests_so job.phase shape job live flash es rests;
-  full = λ runs. absurd (true_false (sym runs ∙ rests));
+  full = λ runs. absurd cc;
 }
 
 -- ---- other pages differ

@@ -7,6 +7,10 @@ use Rattle.pk_log.{specs.State.LogState, specs.Commits.CommitsNone, specs.Commit
 use Rattle.pk_call.specs.Moving.{Commits}
 use Rattle.pk_parts.{specs.Parts.Parts, specs.Parts.sight_of, proofs.Committing.with_log}
 
+-- the first side of an equation
+abbrev pub begin_of : {A : Type 0} {x y : A} → x ≡ y → A
+begin_of {A} {x} {y} e = x
+
 -- ---- a commit
 
 commits_seen : (d : Parts) (log' : LogState) (old new : BoardState) → CommitsNone d.log old log' new ⊎ CommitsAll d.log old log' new → Commits (sight_of d) (sight_of (with_log d log'))

@@ -1,6 +1,6 @@
 -- A drive that agrees with its board represents one map.
-use Rattle.std.proofs.Common.{◌≡◌, ℕ, sym, ap, subst, ◌∙◌, Option, Some, Result, Ok}
-use Rattle.pk_base.{specs.Shape.Shape, specs.Page.Flash, specs.Page.page_at, specs.Map.Map, specs.Refusal.Refusal}
+use Rattle.std.proofs.Common.{◌≡◌, ℕ, sym, ap, subst, ◌∙◌, Option, Some, Ok}
+use Rattle.pk_base.{specs.Shape.Shape, specs.Page.Flash, specs.Page.page_at, specs.Map.Map, proofs.Logic.some_same, proofs.Logic.ok_same}
 use Rattle.pk_rootfmt.specs.Root.{Root}
 use Rattle.pk_model.{specs.Found.Found, specs.Found.found_under, specs.Reading.reading}
 use Rattle.pk_law_steps.proofs.Untouched.{under_reads}
@@ -39,13 +39,7 @@ pub found_once : (a b : Parts) (shape : Shape) (flash : Flash) (top top' : ℕ �
     → DriveOnFlashWith a shape flash top found w m → DriveOnFlashWith b shape flash top' found' w' m' → found' ≡ found
 found_once a b shape flash top top' found found' w m w' m' one other =
     let same_top : top' ≡ top = some_same top' top (sym other.committed.is_top ∙ one.committed.is_top) in
-    ok_found found' found (sym other.committed.is_found ∙ (ap (λ (t : ℕ × Root). found_under shape (page_at flash) t.1) same_top ∙ one.committed.is_found))
-  where
-    some_same : (x y : ℕ × Root) → ◌≡◌ {A = Option (ℕ × Root)} (Some x) (Some y) → x ≡ y
-    some_same x y e = cc
-
-    ok_found : (x y : Found) → ◌≡◌ {A = Result Found Refusal} (Ok x) (Ok y) → x ≡ y
-    ok_found x y e = cc
+    ok_same found' found (sym other.committed.is_found ∙ (ap (λ (t : ℕ × Root). found_under shape (page_at flash) t.1) same_top ∙ one.committed.is_found))
 
 -- so the map that it represents was found once
 pub same_found : (d : Parts) (shape : Shape) (flash : Flash) (m : Map) (one other : StandsFor d shape flash m) → other.found ≡ one.found

@@ -27,7 +27,8 @@ put_with_room-requires-clause-room g c =
 pub returns-in-Ok-clause-step : goal.returns-in-Ok-clause-step
 returns-in-Ok-clause-step g c =
     let e = c.in-Ok.ensures in
-    step_puts_later e.leaves e.pending e.step c.put_with_room.result c.put_with_room.new.parts (g.B.Nand.state c.put_with_room.new.board) c.requires.can.0.ready c.args.key c.args.value.now c.args.old c.put_with_room.ensures.step
+    step_puts_later e.leaves e.pending e.step c.put_with_room.result c.put_with_room.new.parts (g.B.Nand.state c.put_with_room.new.board)
+    c.requires.can.0.ready c.args.key c.args.value.now c.args.old c.put_with_room.ensures.step
 
 pub returns-in-Ok-clause-stays : goal.returns-in-Ok-clause-stays
 returns-in-Ok-clause-stays g c =

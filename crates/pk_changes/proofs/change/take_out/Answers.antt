@@ -17,7 +17,8 @@ take_with_room-requires-clause-can g c =
 pub returns-in-Ok-clause-step : goal.returns-in-Ok-clause-step
 returns-in-Ok-clause-step g c =
     let e = c.in-Ok.ensures in
-    step_takes_later e.leaves e.pending e.step c.take_with_room.result c.take_with_room.new.parts (g.B.Nand.state c.take_with_room.new.board) c.requires.can.ready c.args.key c.args.old c.take_with_room.ensures.step
+    step_takes_later e.leaves e.pending e.step c.take_with_room.result c.take_with_room.new.parts (g.B.Nand.state c.take_with_room.new.board)
+    c.requires.can.ready c.args.key c.args.old c.take_with_room.ensures.step
 
 pub returns-in-Ok-clause-stays : goal.returns-in-Ok-clause-stays
 returns-in-Ok-clause-stays g c =

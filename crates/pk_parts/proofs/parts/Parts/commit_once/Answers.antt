@@ -1,6 +1,6 @@
 use Rattle.std.proofs.Common.{◌≡◌, ap, arith, length, drop, ◌++◌, length-take, length-append, length-drop}
 use Rattle.pk_parts.proofs.Committing.{shape_kept, commit_step, rest_ok, left_ok, some_programs, all_programs, nothing_done}
-use Rattle.pk_parts.{proofs.Sights.seen_ok, proofs.Staying.commit_stays_ok}
+use Rattle.pk_parts.{proofs.Sights.begin_of, proofs.Sights.seen_ok, proofs.Staying.commit_stays_ok}
 use Rattle.pk_parts.proofs.parts.Parts.commit_once.Goals as goal
 
 pub returns-clause-step : goal.returns-clause-step
@@ -34,20 +34,7 @@ returns-clause-idle g c =
 
 pub returns-clause-seen : goal.returns-clause-seen
 returns-clause-seen g c =
-    rw (← c.self.view_is) (seen_ok c.commit.result
-    (record {
-      log = c.self.inside.log;
-      levels = c.self.inside.levels;
-      arena = c.self.inside.arena;
-      schedule = c.self.inside.schedule;
-      values = c.self.inside.values;
-      reclaim = c.self.inside.reclaim;
-      pool = c.self.inside.pool;
-      spaces = c.self.inside.spaces;
-      stopped = c.self.inside.stopped;
-      walk = c.self.inside.walk;
-    }) c.commit.new.self
-    (g.B.Nand.state c.args.board.now) (g.B.Nand.state c.commit.new.board) c.commit.ensures.ok)
+    rw (← c.self.view_is) (seen_ok c.commit.result (begin_of c.self.view_is) c.commit.new.self (g.B.Nand.state c.args.board.now) (g.B.Nand.state c.commit.new.board) c.commit.ensures.ok)
 
 pub returns-clause-moves : goal.returns-clause-moves
 returns-clause-moves g c =

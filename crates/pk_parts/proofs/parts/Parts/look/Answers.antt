@@ -1,24 +1,13 @@
 use Rattle.std.{proofs.Common.sym, proofs.Common.subst, specs.Prelude.IfOk, specs.Prelude.OnOk, specs.Prelude.OnErr}
 use Rattle.pk_level.specs.Levels.{IsLevels, reads_through}
 use Rattle.pk_parts.{specs.Parts.Parts, specs.Parts.most_looks, specs.Quiet.Looks, specs.Quiet.ReadsOnly, specs.Quiet.ReadsFailing, proofs.Unchanging.looked_reads, proofs.Unchanging.looked_failing}
-use Rattle.pk_parts.{proofs.Searching.looks_found, proofs.Searching.named_ok, proofs.Searching.named_err, proofs.Holding.looks_counted, proofs.Holding.looks_few}
+use Rattle.pk_parts.{proofs.Sights.begin_of, proofs.Searching.looks_found, proofs.Searching.named_ok, proofs.Searching.named_err, proofs.Holding.looks_counted, proofs.Holding.looks_few}
 use Rattle.pk_parts.proofs.parts.Parts.look.Goals as goal
 
 pub returns-clause-looks : goal.returns-clause-looks
 returns-clause-looks g c =
     let flash = (g.B.Nand.state c.args.board.now).pages in
-    let parts : Parts = record {
-      log = c.self.inside.log;
-      levels = c.self.inside.levels;
-      arena = c.self.inside.arena;
-      schedule = c.self.inside.schedule;
-      values = c.self.inside.values;
-      reclaim = c.self.inside.reclaim;
-      pool = c.self.inside.pool;
-      spaces = c.self.inside.spaces;
-      stopped = c.self.inside.stopped;
-      walk = c.self.inside.walk;
-    } in
+    let parts : Parts = begin_of c.self.view_is in
     let T : Parts → Type 0 = λ d. IfOk c.place_found.result (λ p. Looks d flash c.args.key.now p) in
     subst T c.self.view_is (subst (λ r. IfOk r (λ p. Looks parts flash c.args.key.now p))
     (sym c.place_found.ensures) (looks_found parts flash c.args.key.now c.find_entry.result c.find_entry.ensures.found))
