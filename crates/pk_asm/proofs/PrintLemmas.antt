@@ -1,7 +1,7 @@
 -- Words that are written one after another.
 use Rattle.std.proofs.Common.{◌≡◌, ℕ, ◌+◌, ◌*◌, ◌/◌, ◌%◌, ◌<◌, ◌≤◌, true, false, List, [], ◌∷◌, ◌++◌, length, take, drop, get_or, map, refl, sym, ap, ◌∙◌, arith, length-append}
-use Rattle.std.{specs.Prelude.nat_le, specs.Borrow.Bor, proofs.lemmas.Bool.Decides.nat_tests, proofs.lemmas.List.Concat.flat_map-append}
 use Rattle.std.proofs.lemmas.List.{append_assoc, append-nil, take_more, take_all, map-append, take-append-drop, length-take-le}
+use Rattle.std.{specs.Prelude.nat_le, specs.Borrow.Bor, proofs.lemmas.Bool.Decides.nat_tests, proofs.lemmas.List.Concat.flat_map-append}
 use Rattle.hex.{specs.Hex.encode_with, specs.Hex.lower_digits, proofs.HexLemmas.length-encode_with}
 use Rattle.pk_nvme.{specs.Bytes.RoomyList, specs.Text.hex_text}
 use Rattle.pk_asm.{specs.Printed.behind_blanks, specs.PrintedWord.word_text, specs.PrintedWord.tail_text, specs.declared.writer.Word.Word}

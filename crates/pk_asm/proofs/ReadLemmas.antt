@@ -7,10 +7,9 @@ use Rattle.pk_base.{specs.Fields.AreBytes, specs.Fields.padded, specs.Fields.zer
 use Rattle.pk_base.proofs.Tables.{spelled_stand, stands_byte, stands_number, length-padded, number_fits, ◌⊕◌}
 use Rattle.pk_nvme.specs.Command.{Command, command}
 use Rattle.pk_asm.{specs.Form.entry_with, specs.Form.form_entry, specs.declared.form.Form.Form}
-use Rattle.pk_asm.proofs.FormLemmas.{IsByteKey, IsForm, picked, held, some_is}
+use Rattle.pk_asm.{proofs.FormLemmas.IsByteKey, proofs.FormLemmas.IsForm, proofs.FormLemmas.picked, proofs.FormLemmas.held, proofs.FormLemmas.some_is, proofs.TextLemmas.in_first}
 use Rattle.pk_asm.specs.Printed.{candidate, key_at, store_candidate, retrieve_candidate, delete_candidate, exist_candidate, list_candidate}
 use Rattle.pk_asm.specs.declared.form.Form.TheVariants.{Store, Retrieve, Delete, Exist, ListFrom, Flush, Report, Tick}
-use Rattle.pk_asm.proofs.TextLemmas.{in_first}
 
 -- what a command says of its form
 pub record HasFields (c : Command) (opcode : ℕ) (key : List ℕ) (size options : ℕ) (bytes : List ℕ) : Type 0 where

@@ -1,8 +1,8 @@
 -- A background step that reads a page into a frame.
 use Rattle.std.proofs.Common.{◌≡◌, inl, inr, ℕ, zero, suc, ◌+◌, ◌-◌, ◌<◌, ◌≤◌, refl, sym, ap, subst, ◌∙◌, arith, Bool, true, false, if◌then◌else◌, nat_le, List, [], ◌∷◌, ◌++◌, length, length-set, map}
 use Rattle.std.proofs.Common.{sum, slice_get, slice_set, Option, Some, Ok}
-use Rattle.std.{specs.Prelude.not, specs.Prelude.slice_index_or, specs.Prelude.◌==◌, specs.List.AllByRecursion, proofs.lemmas.Bool.cases_lt, proofs.lemmas.Bool.eqb-true, proofs.lemmas.Bool.eq-eqb}
 use Rattle.std.proofs.lemmas.Option.{slice_get-get_or}
+use Rattle.std.{specs.Prelude.not, specs.Prelude.slice_index_or, specs.Prelude.◌==◌, specs.List.AllByRecursion, proofs.lemmas.Bool.cases_lt, proofs.lemmas.Bool.eqb-true, proofs.lemmas.Bool.eq-eqb}
 use Rattle.pk_base.{specs.Shape.Shape, specs.Shape.cap, specs.Shape.caps, specs.Page.Flash, specs.Entry.Entry, proofs.Logic.not_both}
 use Rattle.pk_rootfmt.specs.Root.{Root}
 use Rattle.pk_nand.{specs.BoardState.BoardState, specs.Calls.IsReady, specs.Effects.OnlyFlash, specs.Effects.OnlyReading, specs.Effects.made_read}

@@ -1,7 +1,7 @@
 -- Pages that are read into memory, one after another.
 use Rattle.std.proofs.Common.{◌≡◌, ◌<◌, ◌+◌, ℕ, List, length, zero, suc, arith, take, ◌++◌, [], ◌∷◌, All, refl, sym, ◌∙◌, ap}
-use Rattle.std.{proofs.Math.Numerals.add-one, proofs.lemmas.List.map-append, proofs.lemmas.List.Elements.All-append, proofs.lemmas.Option.unwrap_or-slice_get}
 use Rattle.std.proofs.Math.Seq.{take-suc}
+use Rattle.std.{proofs.Math.Numerals.add-one, proofs.lemmas.List.map-append, proofs.lemmas.List.Elements.All-append, proofs.lemmas.Option.unwrap_or-slice_get}
 use Rattle.pk_base.{specs.Shape.Shape, specs.Page.Page, specs.Page.Flash, specs.Page.page_at, specs.Page.erased, specs.Page.whole, specs.Page.torn, specs.Page.IsFlash}
 use Rattle.pk_nand.{specs.Seen.answer, specs.Seen.state, specs.Seen.states, specs.Operations.filled, specs.declared.types.PageState.PageState, specs.declared.types.PageRead.PageRead}
 use Rattle.pk_dump.specs.Pages.{IsFullPage, AreFull, read_as}

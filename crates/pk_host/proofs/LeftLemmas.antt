@@ -3,9 +3,9 @@ use Rattle.std.proofs.Common.{◌≡◌, ℕ, refl, sym, ap, subst, ◌∙◌, a
 use Rattle.std.{proofs.lemmas.Bool.leb-true, proofs.lemmas.List.length-take-le, specs.FinMap.get, specs.FinMap.contains_key, specs.FinMap.insert, specs.FinMap.remove, specs.FinMap.empty}
 use Rattle.pk_base.{specs.Choices.or_else, specs.Shape.Shape, specs.Shape.charge, specs.Key.IsKey, specs.Key.bytes_of, specs.Map.Map, specs.Map.live, specs.Map.pages_if_some}
 use Rattle.pk_nvme.specs.declared.opcode.TheConstants.{FLUSH, STORE, RETRIEVE, LIST, DELETE, EXIST, TICK, REPORT}
-use Rattle.pk_nvme.{specs.declared.opcode.Opcode.Opcode, specs.Opcode.op_of, specs.Command.Command, specs.Command.key, specs.Command.must_exist, specs.Command.must_be_new}
 use Rattle.pk_nvme.specs.declared.opcode.Opcode.TheVariants.{Flush, Store, Retrieve, List as ListKeys, Delete, Exist, Tick, Report}
 use Rattle.pk_nvme.specs.declared.status.TheConstants.{CAPACITY_EXCEEDED, KEY_DOES_NOT_EXIST, KEY_EXISTS}
+use Rattle.pk_nvme.{specs.declared.opcode.Opcode.Opcode, specs.Opcode.op_of, specs.Command.Command, specs.Command.key, specs.Command.must_exist, specs.Command.must_be_new}
 use Rattle.pk_model.specs.Answer.{check, fault_of, early, late_of, live_after, refused, map_after, effect}
 use Rattle.pk_model.proofs.Answering.{refuses_with, serves, key_sized, key_spaced, store_sized}
 use Rattle.pk_model.{proofs.HeldMap.key_is_bytes, proofs.Machines.live-empty, proofs.Machines.live-remove, proofs.Machines.live_stored}

@@ -1,9 +1,9 @@
 -- Pages of keys, one after another, are all keys.
 use Rattle.std.proofs.Common.{◌≡◌, inl, inr, ℕ, ◌-◌, ◌≤◌, ◌==◌, nat_lt, if◌then◌else◌, List, [], ◌∷◌, ◌++◌, length, filter, Bool, true, false, not, nat_le, Option, Some, None, Result, Ok, Err, IfOk}
 use Rattle.std.proofs.Common.{zero, suc, IfSome, OnOk, refl, sym, ap, subst, ◌∙◌, arith, append_assoc}
+use Rattle.std.specs.FinMap.{keys}
 use Rattle.std.{proofs.lemmas.List.append-nil, proofs.lemmas.Bool.le-leb, specs.List.AllByRecursion, specs.List.slice_get, specs.Ordering.is_lt, specs.Ordering.nat_cmp, specs.Ordering.ordering_then}
 use Rattle.std.{specs.declared.cmp.Ordering.TheVariants.Less, specs.declared.cmp.Ordering.TheVariants.Equal, specs.declared.cmp.Ordering.TheVariants.Greater, proofs.lemmas.Bool.Decides.nat_tests}
-use Rattle.std.specs.FinMap.{keys}
 use Rattle.pk_base.{specs.Key.Key, specs.Key.IsKey, specs.Key.key_cmp, specs.Key.IsBelow, specs.Key.IsRising, specs.Key.bytes_of, specs.Shape.Shape}
 use Rattle.pk_base.specs.Map.{Map, IsMap, keys_from}
 use Rattle.pk_nvme.{specs.Command.Command, specs.Command.key, specs.Command.key_or_none, specs.Reply.Reply, specs.Opcode.op_of, specs.declared.opcode.Opcode.Opcode}

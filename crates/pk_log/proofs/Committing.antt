@@ -14,8 +14,8 @@ use Rattle.pk_jrn.{specs.Epochs.JournalEpoch, specs.Epochs.EpochOnFlash, specs.E
 use Rattle.pk_jrn.{specs.Replays.buffer_of, proofs.Places.page_exists, proofs.Appending.takes_more, proofs.Appending.commit_left, proofs.Puts.firsts-reverse}
 use Rattle.pk_model.{specs.Found.Found, specs.Found.newest_epoch, specs.Laws.IsWholePage, specs.Laws.IsCommit, specs.Growth.Grows, specs.Growth.Reaches, specs.Growth.Goes, specs.Spaces.limits_at}
 use Rattle.pk_model.proofs.Commits.{Blocks, valid_blocks, pair_behind_roots, roots_stay, under, commit_start}
-use Rattle.pk_model.{proofs.Growing.at_end, proofs.Growing.top_limits, proofs.Growing.Reaches-then, proofs.Growing.Goes-then, proofs.Running.Reaches-program, proofs.Running.Goes-program}
 use Rattle.pk_model.specs.RootLimits.{root_spaces}
+use Rattle.pk_model.{proofs.Growing.at_end, proofs.Growing.top_limits, proofs.Growing.Reaches-then, proofs.Growing.Goes-then, proofs.Running.Reaches-program, proofs.Running.Goes-program}
 use Rattle.pk_law_steps.{specs.Under.IsUnder, specs.Roots.committed, proofs.Committing.commits_pair, proofs.Committing.commit_done, proofs.NewestBlocks.valid_root, proofs.UnderRoot.newest_found}
 use Rattle.pk_log.{specs.State.LogState, specs.State.all_committed, specs.Logs.LogOnFlash, specs.Commits.CommitCut, specs.Commits.CommitHolds, specs.Commits.CommitReaches}
 use Rattle.pk_log.proofs.Standing.{blocks_are}

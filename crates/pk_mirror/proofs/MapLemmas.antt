@@ -1,7 +1,7 @@
 -- Maps of which one is part of the other.
 use Rattle.std.proofs.Common.{◌≡◌, inl, inr, ℕ, zero, suc, ◌-◌, ◌≤◌, cond, List, [], ◌∷◌, length, map, true, false, Option, Some, None, is_some, refl, sym, ap, subst, ◌∙◌, arith}
-use Rattle.std.{specs.List.AllByRecursion, specs.Ordering.is_eq, specs.Ordering.eq_by_cmp, specs.Cmp.tied_itself, specs.FinMap.Entries.find}
 use Rattle.std.specs.FinMap.{get, contains_key, insert, remove, entries, keys, len, get-entries, get-insert, get-remove, len-entries, len-remove, empty_of_len, same_map}
+use Rattle.std.{specs.List.AllByRecursion, specs.Ordering.is_eq, specs.Ordering.eq_by_cmp, specs.Cmp.tied_itself, specs.FinMap.Entries.find}
 use Rattle.pk_base.{specs.Fields.AreBytes, specs.Key.Key, specs.Key.key_cmp, specs.Shape.Shape, specs.Shape.greatest, specs.Map.Map, specs.Map.IsMap, specs.Map.live, specs.Map.pages_if_some}
 use Rattle.pk_base.proofs.Logic.{equal, some_same}
 use Rattle.pk_model.{proofs.MapLemmas.key_total, proofs.MapLemmas.key_antisymm, proofs.Machines.live-empty, proofs.Machines.live-remove}

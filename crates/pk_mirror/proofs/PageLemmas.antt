@@ -9,11 +9,10 @@ use Rattle.pk_host.{specs.Port.PortState, specs.Port.Took, specs.Outcomes.Gives,
 use Rattle.pk_host.specs.Listing.{above, page_after, Pages, Follows, TellsKeys, listed_by}
 use Rattle.pk_host.proofs.RisingLemmas.{are_above, all_middle, snoc_of}
 use Rattle.pk_mirror.{specs.Ranks.IsText, specs.Ranks.keys_left, specs.declared.error.MirrorError.MirrorError, specs.Pair.Mirrored, specs.Pair.IsPair, specs.Causes.IsReadError}
-use Rattle.pk_mirror.specs.Agreement.{NoOther, HaveSame, AreAny, IsPart}
-use Rattle.pk_mirror.{specs.Progress.Progress, proofs.MapLemmas.key_of, proofs.MapLemmas.same_by_keys}
+use Rattle.pk_mirror.{specs.Agreement.NoOther, specs.Agreement.HaveSame, specs.Agreement.AreAny, specs.Agreement.IsPart, proofs.RankLemmas.after_first, proofs.RankLemmas.after_key}
 use Rattle.pk_mirror.specs.Visits.{Visits, VisitsAll, VisitsUpTo, IsUpTo, Turns, OnlyReadsFail}
 use Rattle.pk_mirror.proofs.VisitLemmas.{all_map, all_append, TakesBoth, goes_on, no_progress}
-use Rattle.pk_mirror.proofs.RankLemmas.{after_first, after_key}
+use Rattle.pk_mirror.{specs.Progress.Progress, proofs.MapLemmas.key_of, proofs.MapLemmas.same_by_keys}
 use Rattle.pk_mirror.{proofs.PairLemmas.by_map, proofs.PairLemmas.none_tells, proofs.PairLemmas.other_tells, proofs.PairLemmas.still_pair}
 
 -- ---- lists of keys

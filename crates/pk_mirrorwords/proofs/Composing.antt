@@ -7,8 +7,8 @@ use Rattle.pk_host.{specs.Port.PortState, specs.Port.Took, specs.Outcomes.TookSo
 use Rattle.pk_words.specs.Lines.{status_line}
 use Rattle.pk_mirror.{specs.declared.error.Side.TheVariants.First, specs.declared.error.Side.TheVariants.Second, specs.declared.error.MirrorError.MirrorError}
 use Rattle.pk_mirror.specs.declared.error.MirrorError.TheVariants.{Refused, Port, Split}
-use Rattle.pk_mirror.{specs.Pair.Mirrored, specs.Pair.IsPair, specs.Causes.OnlyAsks, specs.Causes.AreAsking, specs.Causes.IsCause, specs.Causes.IsReadError}
 use Rattle.pk_mirror.specs.Spending.{opcode_count, AreOfResync}
+use Rattle.pk_mirror.{specs.Pair.Mirrored, specs.Pair.IsPair, specs.Causes.OnlyAsks, specs.Causes.AreAsking, specs.Causes.IsCause, specs.Causes.IsReadError}
 use Rattle.pk_mirrorwords.specs.PairTasks.{PairTask, put, get, delete, list, resync, change_of, text_of, map_left}
 use Rattle.pk_mirrorwords.specs.PairAnswers.{IsToldPair, IsInStep, PairDone, PairFails, ResyncFails, AreChange, AreOfFirst, AreOfPair, HaveOneChange, AreOfSecond}
 use Rattle.pk_mirrorwords.proofs.Paging.{unread_later, fault_later}

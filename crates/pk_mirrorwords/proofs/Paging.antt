@@ -16,8 +16,8 @@ use Rattle.pk_words.{specs.Lines.key_line, specs.Lines.key_lines}
 use Rattle.pk_mirror.{specs.Ranks.IsText, specs.Ranks.keys_left, specs.declared.error.Side.Side, specs.declared.error.Side.TheVariants.First, specs.declared.error.Side.TheVariants.Second}
 use Rattle.pk_mirror.{specs.declared.error.MirrorError.MirrorError, specs.Pair.Mirrored, specs.Pair.IsPair, specs.Asks.Asks, specs.Asks.KeepsMaps, specs.Asks.StaysUnlessPort}
 use Rattle.pk_mirror.specs.declared.error.MirrorError.TheVariants.{Refused, Port, Split}
-use Rattle.pk_mirror.{specs.Causes.Decides, specs.Causes.IsCause, specs.Causes.IsReadError, specs.Causes.AreAsking, proofs.PairLemmas.rose_later, proofs.PageLemmas.parts, proofs.PageLemmas.page_some}
 use Rattle.pk_mirror.proofs.VisitLemmas.{asking_none, asking_more}
+use Rattle.pk_mirror.{specs.Causes.Decides, specs.Causes.IsCause, specs.Causes.IsReadError, specs.Causes.AreAsking, proofs.PairLemmas.rose_later, proofs.PageLemmas.parts, proofs.PageLemmas.page_some}
 use Rattle.pk_mirrorwords.{specs.PairTasks.list, specs.PairPages.keys_after, specs.PairPages.IsListed, specs.PairPages.ListGoesOn, specs.PairPages.PageFails}
 use Rattle.pk_mirrorwords.specs.PairAnswers.{IsToldPair, IsInStep, PairUnread, PairFault, PairDone, PairFails}
 

@@ -6,8 +6,8 @@ use Rattle.pk_plan.specs.declared.owner.Owner.TheVariants.{Values as for_values}
 use Rattle.pk_nand.{specs.BoardState.BoardState, proofs.Leaving.page_at-slice_set}
 use Rattle.pk_pool.{specs.declared.state.BlockState.TheVariants.Free, specs.declared.state.BlockState.TheVariants.Owned, specs.Taking.SameButBlock, specs.Taking.ReachesIn, specs.Laws.IsInBlock}
 use Rattle.pk_pool.specs.Blocks.{Blocks, PoolOnFlash, IsOwned, IsSpare, used_by, with_state}
-use Rattle.pk_pool.{proofs.States.get-set_other, proofs.States.set_is, proofs.States.free_is_not_ready, proofs.States.owned_is_not_ready, proofs.Sharing.used_given, proofs.Sharing.used_adopted}
 use Rattle.pk_pool.proofs.Fitting.{PoolOnFlash-marked, PoolOnFlash-but_block, PoolOnFlash-programmed, owned_not_ready, in_block}
+use Rattle.pk_pool.{proofs.States.get-set_other, proofs.States.set_is, proofs.States.free_is_not_ready, proofs.States.owned_is_not_ready, proofs.Sharing.used_given, proofs.Sharing.used_adopted}
 use Rattle.pk_live.{specs.Values.Values, specs.OpenBlocks.closed_with, specs.declared.open_block.OpenBlock.OpenBlock}
 use Rattle.pk_gc.{specs.Stepping.Hands, specs.Victims.Chooses}
 use Rattle.pk_values.{specs.State.ValuesState, specs.Placed.ValuesOnFlash, specs.Placed.IsOpenIn, specs.Placed.IsNotOpen, specs.Placed.HoldsValues, specs.Laws.SameValues}

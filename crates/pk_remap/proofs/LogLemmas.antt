@@ -1,8 +1,8 @@
 -- Marks that are noted in a log.
 use Rattle.std.proofs.Common.{◌≡◌, inl, inr, ℕ, zero, suc, ◌+◌, ◌*◌, ◌<◌, ◌≤◌, List, [], ◌∷◌, ◌++◌, length, take, drop, refl, ap, ◌∙◌, arith, length-drop}
 use Rattle.std.specs.Prelude.{OnOk, max, nat_lt, Bool, true, false, Result, Ok, Err, IsOk, is_ok, if◌then◌else◌}
-use Rattle.std.{proofs.lemmas.Bool.Decides.nat_tests, proofs.lemmas.Grind.div_ceil_times, specs.Int.div_ceil}
 use Rattle.std.proofs.lemmas.List.{take-append-le, drop-append-le, take_all}
+use Rattle.std.{proofs.lemmas.Bool.Decides.nat_tests, proofs.lemmas.Grind.div_ceil_times, specs.Int.div_ceil}
 use Rattle.pk_base.specs.Mark.{Mark}
 use Rattle.pk_nand.specs.Calls.{longer}
 use Rattle.pk_remap.{specs.declared.mark_log.NotedMark.NotedMark, specs.declared.mark_log.MarkLog.MarkLog, specs.Logged.told, specs.Logged.HasLogRoom, proofs.Lifting.times_le}

@@ -1,8 +1,8 @@
 -- The blocks that have an owner, and what depends on which these are alone.
 use Rattle.std.proofs.Common.{◌≡◌, inl, inr, ℕ, zero, suc, ◌+◌, ◌-◌, ◌/◌, ◌<◌, ◌≤◌, Bool, true, false, not, ◌&&◌, ◌||◌, ◌==◌, List, [], ◌∷◌, ◌++◌, length, refl, sym, ap, subst, ◌∙◌, arith, Option}
 use Rattle.std.proofs.Common.{Some, None, Ok, option_map, eq-or-lt_of_le}
-use Rattle.std.{specs.Prelude.slice_get, specs.Prelude.nat_le, specs.List.list_any, specs.List.list_all, specs.List.concat, specs.List.range_with_len, specs.List.AllByRecursion}
 use Rattle.std.proofs.lemmas.Bool.{false≢true, or_left, or_right, or_cases, eq-eqb, eqb-true}
+use Rattle.std.{specs.Prelude.slice_get, specs.Prelude.nat_le, specs.List.list_any, specs.List.list_all, specs.List.concat, specs.List.range_with_len, specs.List.AllByRecursion}
 use Rattle.std.{proofs.lemmas.List.Folds.list_any-append, proofs.lemmas.Map.Views.any-filter_same, proofs.lemmas.Option.slice_get_within}
 use Rattle.pk_base.{specs.Key.Key, specs.Key.space_of, specs.Shape.Shape, specs.Shape.IsShape, specs.Shape.limit, specs.Shape.data_blocks, specs.Entry.Place, specs.Page.Page}
 use Rattle.pk_base.specs.Refusal.{ensure, ◌>>=◌}

@@ -22,9 +22,9 @@ use Rattle.pk_law_steps.specs.Under.{IsValuePage, places}
 use Rattle.pk_scan.{specs.Starting.IsAtStart, specs.Opening.OnlyReads, specs.Opening.NotOpened, specs.Runs.LeasedMore, specs.declared.contents.Found.Found as Opened, specs.Adopts.HasOwners}
 use Rattle.pk_scan.{specs.OpeningParts.PartNotOpened, specs.OpeningParts.HoldsFound, specs.OpeningParts.ReadsValues, specs.OpeningParts.wanted_behind, specs.declared.contents.Memory.Memory as Working}
 use Rattle.pk_scan.specs.Memory.{FoundNothing, IsUnread, AwaitsLists, HoldsLists, LoadsLists, FindsLists, AwaitsValues}
+use Rattle.pk_scan.specs.declared.errors.OpenError.TheVariants.{NotFormatted, Damaged, Fault, Memory}
 use Rattle.pk_scan.{specs.Opened.FoundOnFlash, specs.Reads.opening_reads, specs.Reads.reads_under, specs.Reads.list_reads, specs.Reads.value_reads, specs.Reads.pages_of_runs, specs.Reads.run_reads}
 use Rattle.pk_scan.{proofs.Boards.reads_sum, proofs.RunReads.run_reads_are, specs.declared.errors.OpenError.OpenError, proofs.Leasing.arena_opened, proofs.Room.frames_enough, specs.Used.IsUseOf}
-use Rattle.pk_scan.specs.declared.errors.OpenError.TheVariants.{NotFormatted, Damaged, Fault, Memory}
 use Rattle.pk_scan.{proofs.Opened.behind_reads, proofs.Under.visible_places, proofs.Under.found_refuses, proofs.Under.values_refuse, proofs.Under.stands_under}
 use Rattle.pk_space.specs.Uses.{Use}
 

@@ -16,8 +16,7 @@ use Rattle.pk_wordrun.specs.declared.end.WordEnd.{WordEnd}
 use Rattle.pk_wordrun.specs.declared.end.WordEnd.TheVariants.{Done, Output, Flash as FlashFailed, Worn}
 use Rattle.pk_top.{specs.Loads.no_memory, specs.Loads.not_loaded, specs.Loads.no_image, specs.Loads.has_image, specs.declared.asking.TheConstants.WORD_FRAMES, specs.Ends.open_status}
 use Rattle.pk_top.{specs.Asks.word_status, specs.Asks.KeepsTask, specs.Asks.Asks, specs.Asks.AskRun, specs.Serves.behind_opening, specs.Statuses.Tells}
-use Rattle.pk_top.proofs.Telling.{tells_good, tells_output, tells_flash, tells_memory, tells_no_drive, tells_refused, tells_not, gives_same}
-use Rattle.pk_top.proofs.Telling.{load_untouched}
+use Rattle.pk_top.proofs.Telling.{tells_good, tells_output, tells_flash, tells_memory, tells_no_drive, tells_refused, tells_not, gives_same, load_untouched}
 
 -- ---- nothing was done
 

@@ -1,7 +1,7 @@
 -- A value that was written at pages that were found for it.
 use Rattle.std.proofs.Common.{◌≡◌, ℕ, ◌+◌, ◌-◌, ◌≤◌, cond, T, List, length, Option, Some, sym, ap, subst, ◌∙◌, arith}
-use Rattle.std.{specs.Ordering.is_eq, specs.Cmp.tied_itself}
 use Rattle.std.specs.FinMap.Entries.{put, find, is_sorted, is_sorted-put, find-put}
+use Rattle.std.{specs.Ordering.is_eq, specs.Cmp.tied_itself}
 use Rattle.pk_base.{specs.Key.Key, specs.Key.key_cmp, specs.Shape.Shape, specs.Shape.charge, specs.Shape.greatest, specs.Entry.Place}
 use Rattle.pk_base.specs.Page.{Flash}
 use Rattle.pk_pool.specs.Blocks.{Blocks}

@@ -3,11 +3,10 @@ use Rattle.std.specs.FinMap.{get}
 use Rattle.pk_base.specs.Map.{Map}
 use Rattle.pk_host.specs.Outcomes.{retrieved, stored, Fetches}
 use Rattle.pk_mirror.{specs.declared.error.Side.TheVariants.First, specs.Agreement.IsPart, specs.Agreement.HaveSame, specs.Progress.Looked}
-use Rattle.pk_mirror.proofs.ReplyLemmas.{retrieved_tells, stored_tells}
-use Rattle.pk_mirror.{proofs.AskLemmas.retrieve_unread, proofs.VisitLemmas.asking_one, proofs.VisitLemmas.looked_goes, proofs.VisitLemmas.looked_fails}
+use Rattle.pk_mirror.{proofs.ReplyLemmas.retrieved_tells, proofs.ReplyLemmas.stored_tells, proofs.visiting.copy.Goals.After-retrieve, proofs.visiting.copy.Goals.In-Ok-Some}
 use Rattle.pk_mirror.proofs.KeyLemmas.{fetched_as, fits_told, visits_lacking, visits_stored, first_cause, second_cause, side_unread, store_unread, retrieve_keeps}
 use Rattle.pk_mirror.proofs.SpendLemmas.{looks_no_store, stored_one, storing_one, found_has, goes_visits}
-use Rattle.pk_mirror.proofs.visiting.copy.Goals.{After-retrieve, In-Ok-Some}
+use Rattle.pk_mirror.{proofs.AskLemmas.retrieve_unread, proofs.VisitLemmas.asking_one, proofs.VisitLemmas.looked_goes, proofs.VisitLemmas.looked_fails}
 use Rattle.pk_mirror.proofs.visiting.copy.Given as given
 use Rattle.pk_mirror.proofs.visiting.copy.Goals as goal
 
