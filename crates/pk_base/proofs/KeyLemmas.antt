@@ -1,8 +1,8 @@
 -- Keys as their namespace and their bytes, their order, and lists of entries whose keys rise.
 use Rattle.std.proofs.Common.{◌≡◌, ℕ, ◌≤◌, Bool, true, false, cond, T, List, [], ◌∷◌, length, refl, ap, sym, subst, ◌∙◌, arith, None, Ordering, Less, Equal, Greater}
-use Rattle.std.specs.FinMap.Entries.{find, is_sorted, below_all, is_sorted-put}
 use Rattle.std.{specs.Prelude.nat_lt, specs.Prelude.◌==◌, proofs.lemmas.Bool.Decides.nat_tests, specs.FinMap.slice_cmp-IsAntisymmetric, specs.FinMap.nat_cmp-IsAntisymmetric}
 use Rattle.std.{specs.Ordering.nat_cmp, specs.Ordering.is_lt, specs.Ordering.ordering_then, specs.Ordering.ordering_reverse, proofs.lemmas.Cmp.nat_list_cmp_total}
+use Rattle.std.specs.FinMap.Entries.{find, is_sorted, below_all, is_sorted-put}
 use Rattle.pk_base.{specs.Key.Key, specs.Key.IsKey, specs.Key.key_cmp, specs.Entry.Entry, specs.Firsts.firsts}
 use Rattle.pk_base.proofs.Logic.{left_part, right_part, both, less}
 

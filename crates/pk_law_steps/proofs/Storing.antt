@@ -1,9 +1,9 @@
 -- One more entry puts a value into the map, or takes a key out of it.
 use Rattle.std.proofs.Common.{◌≡◌, ℕ, refl, sym, ap, subst, ◌∙◌, Bool, true, false, not, cond, T, List, [], ◌∷◌, ◌++◌, length, nat_le, Option, Some, None, Ok, le→leb, ◌≤◌}
+use Rattle.std.{specs.declared.cmp.Ordering.TheVariants.Less, specs.declared.cmp.Ordering.TheVariants.Equal, specs.declared.cmp.Ordering.TheVariants.Greater, specs.Cmp.eq_by_cmp_equiv}
 use Rattle.std.specs.Ordering.{is_lt, is_eq, eq_by_cmp}
 use Rattle.std.specs.FinMap.{from_entries, get-from_entries, remove, get-remove, same_map}
 use Rattle.std.specs.FinMap.Entries.{put, find, is_sorted, below_all, by_order, where_key, find-where_key}
-use Rattle.std.{specs.declared.cmp.Ordering.TheVariants.Less, specs.declared.cmp.Ordering.TheVariants.Equal, specs.declared.cmp.Ordering.TheVariants.Greater, specs.Cmp.eq_by_cmp_equiv}
 use Rattle.pk_base.{specs.Key.Key, specs.Key.key_cmp, specs.Shape.Shape, specs.Page.Page, specs.Page.page_at, specs.Entry.Entry, specs.Entry.Place}
 use Rattle.pk_base.{specs.Firsts.firsts, proofs.Logic.is_true, proofs.Logic.left_part, proofs.Logic.right_part, proofs.Logic.both, proofs.Logic.less, proofs.KeyLemmas.firsts_sorted}
 use Rattle.pk_rootfmt.specs.Root.{named}

@@ -1,8 +1,8 @@
 -- One namespace of a map: which keys it has, and what a change of the map does to it.
 use Rattle.std.proofs.Common.{◌≡◌, ℕ, ◌≤◌, List, [], ◌∷◌, Bool, true, false, cond, ◌==◌, T, Option, Some, None, refl, sym, ap, subst, ◌∙◌, arith, eqb-true, eq-eqb, filter, is_eq, Equal}
+use Rattle.std.{specs.List.AllByRecursion, specs.Ordering.eq_by_cmp}
 use Rattle.std.specs.FinMap.{FinMap, get, insert, remove, empty, entries, entries_sorted, entries-from_sorted, get-entries, get-insert, get-remove, get-empty, same_map}
 use Rattle.std.specs.FinMap.Entries.{find, where_key, find-where_key, is_sorted-where_key}
-use Rattle.std.{specs.List.AllByRecursion, specs.Ordering.eq_by_cmp}
 use Rattle.pk_base.{specs.Key.Key, specs.Key.key_cmp, specs.Key.space_of, specs.Map.Map, proofs.Logic.equal, proofs.KeyLemmas.same_key}
 use Rattle.pk_model.{specs.Spaces.in_space, proofs.MapLemmas.key_total}
 

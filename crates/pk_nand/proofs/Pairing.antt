@@ -5,7 +5,8 @@ use Rattle.pk_base.{specs.Shape.Shape, specs.Page.Page, specs.Page.Flash, specs.
 use Rattle.pk_base.specs.Mark.{program, after}
 use Rattle.pk_nand.{specs.BoardState.BoardState, specs.BoardState.shape_of, specs.Cut.Cut, specs.Cut.MayLeave, specs.Cut.Interrupted, specs.Calls.after_program, specs.Calls.ProgramFailed}
 use Rattle.pk_nand.{specs.Crash.SameOutside, specs.Crash.ReachedBy, specs.Crash.Went, proofs.Leaving.interrupted_done, proofs.Writing.SameOutside-cut}
-use Rattle.pk_nand.{specs.Pairs.first_of_pair, specs.Pairs.HoldsAtMost, specs.Pairs.IsPairCut, specs.Pairs.marks_of_pair, proofs.Reaching.Reached-program, proofs.Reaching.Went-program_failed}
+use Rattle.pk_nand.specs.Pairs.{first_of_pair, HoldsAtMost, IsPairCut, marks_of_pair}
+use Rattle.pk_nand.proofs.Reaching.{Reached-program, Went-program_failed}
 
 -- ---- where a pair lies
 

@@ -1,7 +1,7 @@
 -- Blocks that leave their owner, until they are freed.
 use Rattle.std.proofs.Common.{◌≡◌, ◌⊎◌, inl, inr, ℕ, zero, suc, ◌≤◌, List, [], ◌∷◌, Some, map, refl, ap, ◌∙◌, arith}
-use Rattle.std.proofs.lemmas.List.Sums.{sum_by-cons}
 use Rattle.std.{specs.Prelude.count_by, specs.Prelude.slice_get, specs.Prelude.not, proofs.Math.ListN.set, proofs.lemmas.List.map-set, proofs.lemmas.List.length-map, proofs.lemmas.Option.same_Some}
+use Rattle.std.proofs.lemmas.List.Sums.{sum_by-cons}
 use Rattle.pk_base.{specs.Shape.Shape, specs.Page.Flash}
 use Rattle.pk_plan.specs.declared.owner.Owner.{Owner}
 use Rattle.pk_pool.{specs.declared.state.BlockState.BlockState, proofs.Sharing.count-set}

@@ -1,7 +1,7 @@
 -- The bytes that are written one after another are those of a root's page.
 use Rattle.std.proofs.Common.{◌≡◌, ℕ, ◌+◌, ◌-◌, ◌*◌, ◌≤◌, true, List, [], ◌∷◌, ◌++◌, length, take, drop, sym, ap, subst, ◌∙◌, arith, length-append}
-use Rattle.std.proofs.lemmas.List.{append_assoc, append-nil, take_all, take-append-drop, length-take-le}
 use Rattle.std.{specs.List.flat_map, specs.List.concat, proofs.lemmas.Grind.flat_map-append}
+use Rattle.std.proofs.lemmas.List.{append_assoc, append-nil, take_all, take-append-drop, length-take-le}
 use Rattle.pk_base.{specs.Fields.u16, specs.Fields.u32, specs.Fields.u64, specs.Fields.spelled, specs.Fields.zeros, specs.Shape.Shape, specs.Shape.IsShape}
 use Rattle.pk_rootfmt.{specs.Root.Root, specs.Root.root_bytes, specs.Root.is_root, specs.Root.parts, specs.Root.version_of, specs.Root.limit_bytes, specs.Fault.root_magic, specs.Held.total}
 use Rattle.pk_rootfmt.{proofs.BlockLemmas.parts_same, proofs.BlockLemmas.parts_joined, proofs.PageLemmas.before_blocks, proofs.PageLemmas.rows_root}

@@ -1,7 +1,7 @@
 -- A value by its key: its pages, and the reading of a flash.
 use Rattle.std.proofs.Common.{◌≡◌, ℕ, zero, suc, ◌+◌, ◌-◌, ◌*◌, ◌<◌, ◌≤◌, true, List, ◌++◌, length, take, drop, refl, sym, ap, ◌∙◌, arith, length-append, length-drop}
-use Rattle.std.proofs.lemmas.List.{take_all, drop_all, drop_at, take_at, take-append-le, length-take, take-append-drop}
 use Rattle.std.{specs.Prelude.min, specs.Prelude.nat_eq, specs.Prelude.Result, specs.Prelude.Ok, specs.Prelude.Err, specs.List.starts_with, proofs.Math.Nat.mul-le-mul_right, proofs.Math.Seq.take-add}
+use Rattle.std.proofs.lemmas.List.{take_all, drop_all, drop_at, take_at, take-append-le, length-take, take-append-drop}
 use Rattle.pk_base.{specs.Fields.padded, specs.Fields.zeros, specs.Key.Key, specs.Key.IsKey, specs.Key.bytes_of, specs.Shape.Shape, specs.Shape.IsShape, specs.Shape.charge, specs.Entry.Place}
 use Rattle.pk_base.{specs.Page.Page, specs.Page.whole, specs.Refusal.Refusal, specs.Refusal.◌>>=◌, proofs.ShapeLemmas.charge_least, proofs.ShapeLemmas.charge_room, proofs.Tables.length-padded}
 use Rattle.pk_segfmt.{specs.Value.head_bytes, specs.Value.value_bytes, specs.Value.value_from, specs.Value.value_at, specs.Head.IsHead}
