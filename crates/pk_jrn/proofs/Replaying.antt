@@ -1,7 +1,6 @@
 -- The commits of an epoch that are read one after another into a write buffer.
 use Rattle.std.proofs.Common.{◌≡◌, ℕ, zero, suc, ◌+◌, ◌-◌, ◌^◌, ◌<◌, ◌≤◌, refl, sym, ap, subst, ◌∙◌, arith, Bool, true, false, T, List, [], ◌∷◌, ◌++◌, length, take, Some, None, Result, Ok, Err, ◌&&◌}
 use Rattle.std.proofs.Common.{◌⊎◌, inl, inr, nat_le, le→leb, drop, below_more, zero-add, add-zero}
-use Rattle.std.{proofs.Math.Seq.take-suc, proofs.lemmas.Option.slice_get_within, proofs.lemmas.Option.get_or_from_slice_get}
 use Rattle.std.{specs.Prelude.slice_get, specs.Prelude.◌*◌, specs.Prelude.◌/◌, specs.Prelude.◌%◌, specs.List.AllByRecursion, specs.FinMap.Entries.put, specs.FinMap.Entries.is_sorted}
 use Rattle.std.{proofs.lemmas.List.take_all, proofs.lemmas.List.take-append-drop, proofs.lemmas.Bool.Decides.nat_tests, proofs.lemmas.List.Folds.list_all-append}
 use Rattle.pk_base.{specs.Key.key_cmp, specs.Key.space_of, specs.Shape.Shape, specs.Shape.IsShape, specs.Shape.buffer, specs.Shape.epoch_commits, specs.Entry.Entry, specs.Entry.key_of}
@@ -17,21 +16,29 @@ use Rattle.pk_jrn.{specs.Epochs.HasCommit, specs.EpochReads.if_whole, specs.Epoc
 use Rattle.pk_jrn.specs.Replays.{puts, PutOrFull, PutsOrFull, TakesPage, buffer_of, Replayed, reads_before, ReplayRefused}
 use Rattle.pk_jrn.proofs.Puts.{puts-snoc, puts_are_firsts, puts_too_many, firsts-reverse}
 use Rattle.pk_jrn.proofs.Journals.{IsNotWhole, ends, goes_on, refuses, epoch_is}
-use mathlib.Core.Bool.{and-true, and-false}
 
 -- ---- the namespaces of the entries of one page
 
 take_next : (es : List Entry) (i : ℕ) (e : Entry) → slice_get es i ≡ Some e → take (suc i) es ≡ take i es ++ e ∷ []
-take_next es i e h = take-suc es i e (slice_get_within es i e h) ∙ ap (λ y. take i es ++ y ∷ []) (get_or_from_slice_get es i e e h)
+take_next [] i e h = cc
+take_next (x ∷ es) zero e h = let same : x ≡ e = cc in ap (λ y. y ∷ []) same
+take_next (x ∷ es) (suc i) e h = ap (λ ys. x ∷ ys) (take_next es i e h)
 
 -- the first i entries of the page are of the first namespaces
 abbrev pub InSpacesTo : Shape → List ℕ → ℕ → ℕ → ℕ → Type 0
 InSpacesTo shape page spaces count i = (epoch index : ℕ) (es : List Entry) → IsJournalPage shape page epoch index es → length es ≡ count → in_spaces spaces (take i es) ≡ true
 
+no_more : (b : Bool) → (b && false) ≡ false
+no_more true = refl
+no_more false = refl
+
 module _ (shape : Shape) (page : List ℕ) (spaces count i : ℕ) (e : Entry) (here : (epoch index : ℕ) (es : List Entry) → IsJournalPage shape page epoch index es → slice_get es i ≡ Some e) where
   in_next : (es : List Entry) → slice_get es i ≡ Some e → in_spaces spaces (take (suc i) es) ≡ (in_spaces spaces (take i es) && nat_le (space_of e.0) spaces)
-  in_next es at =
-      ap (in_spaces spaces) (take_next es i e at) ∙ list_all-append (λ x. nat_le (space_of x.0) spaces) (take i es) (e ∷ []) ∙ ap (λ b. in_spaces spaces (take i es) && b) (and-true (nat_le (space_of e.0) spaces))
+  in_next es at = ap (in_spaces spaces) (take_next es i e at) ∙ list_all-append (λ x. nat_le (space_of x.0) spaces) (take i es) (e ∷ []) ∙ ap (λ b. in_spaces spaces (take i es) && b) (last_one (nat_le (space_of e.0) spaces))
+    where
+      last_one : (b : Bool) → (b && true) ≡ b
+      last_one true = refl
+      last_one false = refl
 
   pub InSpacesTo-next : nat_le (space_of e.0) spaces ≡ true → InSpacesTo shape page spaces count i → InSpacesTo shape page spaces count (i + 1)
   InSpacesTo-next own before epoch index es is many =
@@ -42,7 +49,7 @@ module _ (shape : Shape) (page : List ℕ) (spaces count i : ℕ) (e : Entry) (h
   pub InSpacesTo-none : nat_le (space_of e.0) spaces ≡ false
       → (epoch index : ℕ) (es : List Entry) → IsJournalPage shape page epoch index es → length es ≡ count → in_spaces spaces es ≡ false
   InSpacesTo-none own epoch index es is many =
-      let none : in_spaces spaces (take (suc i) es) ≡ false = in_next es (here epoch index es is) ∙ rw own (and-false (in_spaces spaces (take i es))) in
+      let none : in_spaces spaces (take (suc i) es) ≡ false = in_next es (here epoch index es is) ∙ rw own (no_more (in_spaces spaces (take i es))) in
       subst (λ (xs : List Entry). in_spaces spaces xs ≡ false) (take-append-drop (suc i) es)
       (list_all-append (λ x. nat_le (space_of x.0) spaces) (take (suc i) es) (drop (suc i) es)
       ∙ ap (λ b. b && in_spaces spaces (drop (suc i) es)) none)
