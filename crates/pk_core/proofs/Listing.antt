@@ -11,7 +11,7 @@ use Rattle.pk_run.specs.Kept.{Kept}
 use Rattle.pk_level.{specs.Levels.Levels, specs.Levels.RunsOnFlash, proofs.Looking.reads_more}
 use Rattle.pk_log.specs.State.{LogState}
 use Rattle.pk_model.specs.Answer.{listed, fitting, list_bytes}
-use Rattle.pk_walk.{specs.Visible.visible, specs.Visible.is_wanted, specs.Visible.wanted, proofs.Walks.one_of_each, proofs.Seeking.Reads-none, proofs.Seeking.Reads-more}
+use Rattle.pk_walk.{specs.Visible.visible, specs.Visible.is_wanted, specs.Visible.wanted, proofs.Seeking.one_of_each, proofs.Seeking.Reads-none, proofs.Seeking.Reads-more}
 use Rattle.pk_walk.specs.Walking.{Walk, IsLeft, WalkGives, Reads, ReadsFail, pages_read, most_read}
 use Rattle.pk_index.specs.Keys.{MayWalk, Walked, keys_of, keys_there}
 use Rattle.pk_parts.{specs.Parts.Parts, specs.Agreeing.DriveOnFlash, proofs.Unchanging.agrees_ready}

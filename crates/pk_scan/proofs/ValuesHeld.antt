@@ -7,7 +7,7 @@ use Rattle.pk_base.{specs.Entry.Entry, specs.Entry.Place, specs.declared.entry.E
 use Rattle.pk_base.{specs.Page.Flash, specs.Page.page_at, specs.Refusal.Refusal, specs.Refusal.damaged, specs.Refusal.◌>>=◌}
 use Rattle.pk_pin.specs.Frames.{Frames}
 use Rattle.pk_run.specs.Kept.{Kept}
-use Rattle.pk_walk.{specs.Visible.visible, specs.Visible.is_wanted, specs.Visible.wanted, specs.Walking.Walk, specs.Walking.IsLeft, specs.Walking.WalkGives, proofs.Walks.one_of_each}
+use Rattle.pk_walk.{specs.Visible.visible, specs.Visible.is_wanted, specs.Visible.wanted, specs.Walking.Walk, specs.Walking.IsLeft, specs.Walking.WalkGives, proofs.Seeking.one_of_each}
 use Rattle.pk_model.{proofs.ValueSets.fits_parts, specs.Values.all_pages, specs.Values.fits, specs.Values.fits_after, specs.Values.values_of}
 use Rattle.pk_scan.{proofs.Boards.reads_both, proofs.Boards.reads_if, proofs.Boards.counted_behind, specs.Used.IsUseOf, proofs.Using.use_of_none, specs.Accepted.Accepted, specs.Accepted.NotAccepted}
 use Rattle.pk_scan.{specs.Opening.OnlyReads, specs.OpeningParts.PartNotOpened, specs.OpeningParts.ReadsValues, specs.OpeningParts.opening_of, specs.declared.errors.PageError.PageError}
