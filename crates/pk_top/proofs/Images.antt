@@ -1,7 +1,7 @@
 -- A run of the word `make`.
 use Rattle.std.proofs.Common.{◌≡◌, ◌≢◌, inl, inr, ℕ, List, Option, Some, None, IsSome, refl, sym, ◌∙◌, ap, subst, arith}
 use Rattle.pk_base.specs.Shape.{Shape}
-use Rattle.pk_nand.{specs.BoardState.BoardState, specs.Calls.Loaded}
+use Rattle.pk_nand.{specs.BoardState.BoardState}
 use Rattle.pk_nand.specs.declared.types.LoadFault.{LoadFault}
 use Rattle.pk_nand.specs.declared.types.LoadFault.TheVariants.{Fault, BadImage, Memory}
 use Rattle.pk_top.{specs.Loads.load_status, specs.Loads.no_memory, specs.Loads.not_loaded, specs.Loads.no_image, specs.Loads.has_image}
@@ -9,8 +9,6 @@ use Rattle.pk_top.specs.Makes.{MakeRun, Makes, IsMade}
 
 some_shape : (shape : Shape) (o : Option Shape) → o ≡ Some shape → IsSome o
 some_shape shape o e = let T : Option Shape → Type 0 = IsSome in subst T (sym e) refl
-
-module _ (shape : Shape) (limits : List ℕ) (old loaded new : BoardState) (none : Loaded old loaded None) where
 
 -- ---- status 0
 
