@@ -4,14 +4,11 @@ use Rattle.std.proofs.lemmas.Option.{slice_get_within}
 use Rattle.pk_pin.specs.Frames.{Frames, AreLeases, IsLeased, given, times}
 use Rattle.pk_pin.proofs.Leases.{times-append, lease_alone, leases_given}
 use Rattle.pk_run.specs.Leases.{AreLeased, LeavesOthers, LeavesOtherLeases, LeasesAreLeased, LeasesAreApart, given_all}
-use Rattle.pk_run.proofs.Others.{RunOnFlash-given, among, set_other}
-
-row_of : (xs ys zs : List ℕ) → (xs ++ ys) ++ zs ≡ xs ++ (ys ++ zs)
-row_of xs ys zs = append_assoc xs ys zs
+use Rattle.pk_run.{proofs.Others.RunOnFlash-given, proofs.Others.among, proofs.Others.set_other, proofs.Standing.get_left, proofs.Standing.get_right}
 
 -- the row with its first lease put to those before
 moved : (a : Frames) (before ls behind : List ℕ) (l : ℕ) → AreLeases a (before ++ ((l ∷ ls) ++ behind)) → AreLeases a ((before ++ l ∷ []) ++ (ls ++ behind))
-moved a before ls behind l all = subst (λ (xs : List ℕ). AreLeases a xs) (sym (row_of before (l ∷ []) (ls ++ behind))) all
+moved a before ls behind l all = subst (λ (xs : List ℕ). AreLeases a xs) (sym (append_assoc before (l ∷ []) (ls ++ behind))) all
 
 pub are_leased : LeasesAreLeased
 are_leased a before [] behind all = record { leased = λ i l got. cc; different = λ i j l got had. cc }
@@ -34,7 +31,7 @@ are_leased a before (l ∷ ls) behind all =
     different_at rest none (suc i) zero x got had = absurd (among ls i l (got ∙ ap (λ (y : ℕ). Some y) (let e : x ≡ l = cc in e)) none)
     different_at rest none (suc i) (suc j) x got had = ap suc (rest.different i j x got had)
 
-at_most_one : (b : Bool) → cond {A = ℕ} b 1 0 ≤ 1
+pub at_most_one : (b : Bool) → cond {A = ℕ} b 1 0 ≤ 1
 at_most_one true = omega arith
 at_most_one false = omega arith
 
@@ -57,27 +54,21 @@ pub leases_back : (a : Frames) (ls : List ℕ) → LeavesOtherLeases ls a (given
 leases_back a [] before behind all = all
 leases_back a (l ∷ ls) before behind all =
     let others = leases_back a ls (before ++ l ∷ []) behind (moved a before ls behind l all) in
-    leases_given (given_all a ls) before behind l (subst (λ (xs : List ℕ). AreLeases (given_all a ls) xs) (row_of before (l ∷ []) behind) others)
+    leases_given (given_all a ls) before behind l (subst (λ (xs : List ℕ). AreLeases (given_all a ls) xs) (append_assoc before (l ∷ []) behind) others)
 
 -- ---- one after another, the last first
 
-get_last : (xs : List ℕ) (l : ℕ) → slice_get (xs ++ l ∷ []) (length xs) ≡ Some l
-get_last [] l = refl
-get_last (x ∷ xs) l = get_last xs l
-
 get_front : (xs ys : List ℕ) (i x : ℕ) → slice_get xs i ≡ Some x → slice_get (xs ++ ys) i ≡ Some x
-get_front [] ys i x got = cc
-get_front (y ∷ xs) ys zero x got = got
-get_front (y ∷ xs) ys (suc i) x got = get_front xs ys i x got
+get_front xs ys i x got = get_left xs ys i (slice_get_within xs i x got) ∙ got
 
 pub last_leased : (arena : Frames) (all xs : List ℕ) (l : ℕ) → all ≡ xs ++ l ∷ [] → AreLeased arena all → IsLeased arena l
-last_leased arena all xs l is leased = leased.leased (length xs) l (ap (λ (ys : List ℕ). slice_get ys (length xs)) is ∙ get_last xs l)
+last_leased arena all xs l is leased = leased.leased (length xs) l (ap (λ (ys : List ℕ). slice_get ys (length xs)) is ∙ get_right xs (l ∷ []) (length xs) refl)
 
 front_leased : (arena : Frames) (xs : List ℕ) (l : ℕ) → AreLeased arena (xs ++ l ∷ []) → AreLeased (given arena l) xs
 front_leased arena xs l leased = record {
   leased = λ i x got.
       let ne : x ≢ l = λ e.
-      let same = leased.different i (length xs) x (get_front xs (l ∷ []) i x got) (get_last xs l ∙ ap (λ (y : ℕ). Some y) (sym e)) in
+      let same = leased.different i (length xs) x (get_front xs (l ∷ []) i x got) (get_right xs (l ∷ []) (length xs) refl ∙ ap (λ (y : ℕ). Some y) (sym e)) in
       let small = slice_get_within xs i x got in
       absurd (omega (arith, same, small)) in
       set_other arena.used x l _ ne ∙ leased.leased i x (get_front xs (l ∷ []) i x got);
@@ -88,7 +79,7 @@ pub still_leased : (arena new : Frames) (all xs : List ℕ) (l : ℕ) → all �
 still_leased arena new all xs l is given_is leased = rw given_is (front_leased arena xs l (subst (λ (ys : List ℕ). AreLeased arena ys) is leased))
 
 pub row_next : (first all xs others : List ℕ) (l : ℕ) → first ≡ all ++ others → all ≡ xs ++ l ∷ [] → first ≡ xs ++ (l ∷ others)
-row_next first all xs others l row is = row ∙ ap (λ (ys : List ℕ). ys ++ others) is ∙ row_of xs (l ∷ []) others
+row_next first all xs others l row is = row ∙ ap (λ (ys : List ℕ). ys ++ others) is ∙ append_assoc xs (l ∷ []) others
 
 -- ---- the arena
 

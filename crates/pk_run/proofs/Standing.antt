@@ -1,32 +1,37 @@
 -- Runs that match a flash: what others leave of them, and another block or page.
-use Rattle.std.proofs.Common.{◌≡◌, inl, inr, ℕ, zero, suc, ◌+◌, ◌*◌, ◌/◌, ◌%◌, ◌<◌, ◌≤◌, List, [], ◌∷◌, ◌++◌, length, slice_get, refl, ap, sym, subst, ◌∙◌, arith, Option, Some, None, option_map, Ok}
-use Rattle.std.proofs.Common.{length-append, suc-mul, mul-le-mul_right, zero-mul, div-lt_iff_lt-mul}
+use Rattle.std.proofs.Common.{◌≡◌, ◌⊎◌, inl, inr, ℕ, zero, suc, ◌+◌, ◌*◌, ◌/◌, ◌%◌, ◌<◌, ◌≤◌, List, [], ◌∷◌, ◌++◌, length, slice_get, refl, ap, sym, subst, ◌∙◌, arith, Option, Some, None, option_map}
+use Rattle.std.proofs.Common.{Ok, length-append, suc-mul, mul-le-mul_right, zero-mul, div-lt_iff_lt-mul}
 use Rattle.std.{proofs.Math.ListN.get_or-append, proofs.lemmas.Bool.cases_lt, proofs.lemmas.Option.slice_get_within}
 use Rattle.pk_base.{specs.Key.Key, specs.Shape.Shape, specs.Shape.IsShape, specs.Shape.page_entries, specs.Shape.run_pages, specs.Entry.Entry, specs.Entry.key_of, proofs.ShapeLemmas.entries_some}
 use Rattle.pk_base.{specs.Page.Flash, specs.Page.page_at, specs.Page.page_in, specs.Page.whole, specs.declared.sizes.TheConstants.MOST_SPACES}
 use Rattle.pk_meta.specs.Run.{run}
 use Rattle.pk_pin.specs.Frames.{Frames}
 use Rattle.pk_run.specs.Kept.{Kept, empty, page_of, IsFrameOf, RunOnFlash, IsNext, IsPinnedAlike, with_page, with_lease}
-use Rattle.pk_run.{specs.Laws.StandsElsewhere, specs.Leases.StandsBare, proofs.Pieces.pages_are, proofs.Pieces.run_same, proofs.Pieces.run_more, proofs.Pieces.page_in_spaces}
+use Rattle.pk_run.{specs.Laws.SamePages, specs.Laws.StandsElsewhere, specs.Leases.StandsBare, proofs.Pieces.pages_are, proofs.Pieces.run_same, proofs.Pieces.run_more, proofs.Pieces.page_in_spaces}
 
 -- a lease is of a page of the run
 pub leased_page : (r : Kept) (flash : Flash) (arena : Frames) (es : List Entry) → RunOnFlash r flash arena es → (j lease : ℕ) → slice_get r.leases j ≡ Some lease → j < length r.firsts
 leased_page r flash arena es s j lease got = let few = s.leased in omega (arith, few, slice_get_within r.leases j lease got)
 
-pub RunOnFlash-elsewhere : StandsElsewhere
-RunOnFlash-elsewhere r old new before after es pages frames s = record {
+-- a run whose pages are the same, with these leases
+with_leases : (r : Kept) (old new : Flash) (before after : Frames) (es : List Entry) (leases : List ℕ) → SamePages r old new → RunOnFlash r old before es → length leases ≤ length r.firsts
+    → ((j lease : ℕ) → slice_get leases j ≡ Some lease → IsFrameOf new after (page_of r j) lease) → RunOnFlash (record r { leases = leases }) new after es
+with_leases r old new before after es leases pages s few frames = record {
   read = run_same r.shape MOST_SPACES (page_at old) (page_at new) r.level r.count r.blocks r.blocks (λ j h. (refl, pages j (omega (arith, s.pages)))) ∙ s.read;
   many = s.many;
   rising = s.rising;
   pages = s.pages;
   within = s.within;
   starts = s.starts;
-  leased = s.leased;
-  frames = λ j lease got.
-      let had = s.frames j lease got in
-      let same = frames j lease got had.leased in
-      record { leased = same.0; bytes = pages j (leased_page r old before es s j lease got) ∙ had.bytes ∙ ap (λ (bytes : List ℕ). whole bytes) (sym same.1) };
+  leased = few;
+  frames = frames;
 }
+
+pub RunOnFlash-elsewhere : StandsElsewhere
+RunOnFlash-elsewhere r old new before after es pages frames s = with_leases r old new before after es r.leases pages s s.leased (λ j lease got.
+    let had = s.frames j lease got in
+    let same = frames j lease got had.leased in
+    record { leased = same.0; bytes = pages j (leased_page r old before es s j lease got) ∙ had.bytes ∙ ap (λ (bytes : List ℕ). whole bytes) (sym same.1) })
 
 no_pages : (shape : Shape) → IsShape shape → run_pages shape 0 ≡ 0
 no_pages shape is = pages_are 0 (page_entries shape) 0 (entries_some shape is) (omega arith)
@@ -47,19 +52,25 @@ RunOnFlash-empty shape level flash arena is = record {
 
 -- ---- one more block
 
-get_left : {X : Type 0} (xs ys : List X) (i : ℕ) → i < length xs → slice_get (xs ++ ys) i ≡ slice_get xs i
+pub get_left : {X : Type 0} (xs ys : List X) (i : ℕ) → i < length xs → slice_get (xs ++ ys) i ≡ slice_get xs i
 get_left [] ys i h = absurd (omega arith)
 get_left (x ∷ xs) ys zero h = refl
 get_left (x ∷ xs) ys (suc i) h = get_left xs ys i (omega arith)
 
-get_right : {X : Type 0} (xs ys : List X) (n : ℕ) → n ≡ length xs → slice_get (xs ++ ys) n ≡ slice_get ys 0
+pub get_right : {X : Type 0} (xs ys : List X) (n : ℕ) → n ≡ length xs → slice_get (xs ++ ys) n ≡ slice_get ys 0
 get_right [] ys zero e = refl
-get_right [] ys (suc n) e = absurd (omega arith)
-get_right (x ∷ xs) ys zero e = absurd (omega arith)
 get_right (x ∷ xs) ys (suc n) e = get_right xs ys n (omega arith)
+get_right xs ys n e = absurd (omega arith)
+
+-- one more at the end
+pub from_more : (xs : List ℕ) (b i c : ℕ) → slice_get (xs ++ b ∷ []) i ≡ Some c → (slice_get xs i ≡ Some c) ⊎ ((i ≡ length xs) × (c ≡ b))
+from_more [] b zero c got = inr (refl, cc)
+from_more [] b (suc i) c got = cc
+from_more (x ∷ xs) b zero c got = inl got
+from_more (x ∷ xs) b (suc i) c got = elim (from_more xs b i c got) [ inl there ↦ inl there | inr last ↦ inr (ap suc last.0, last.1) ]
 
 -- a place in the blocks is the same if there are more
-same_place : (shape : Shape) (blocks : List ℕ) (b j : ℕ) → IsShape shape → j < length blocks * shape.block_pages → page_in shape (blocks ++ b ∷ []) j ≡ page_in shape blocks j
+pub same_place : (shape : Shape) (blocks : List ℕ) (b j : ℕ) → IsShape shape → j < length blocks * shape.block_pages → page_in shape (blocks ++ b ∷ []) j ≡ page_in shape blocks j
 same_place shape blocks b j is h =
     let some : 0 < shape.block_pages = let least : 8 ≤ shape.block_pages = is.block_least in omega arith in
     let lt : j / shape.block_pages < length blocks = (div-lt_iff_lt-mul some).1 h in
@@ -118,18 +129,10 @@ module _ (r : Kept) (flash : Flash) (arena : Frames) (es more : List Entry) (fir
       → (lease : Option ℕ) → IsPinnedAlike r flash arena lease
       → (j l : ℕ) → slice_get (with_lease r.leases lease) j ≡ Some l → IsFrameOf flash arena (page_of r j) l
   frames_more had None alike j l got = had j l got
-  frames_more had (Some lease) alike j l got =
-      elim (cases_lt j (length r.leases)) [
-        | inl before ↦ had j l (sym (get_left r.leases (lease ∷ []) j before) ∙ got)
-        | inr past ↦
-            let e = length-append r.leases (lease ∷ []) in
-            let here : j ≡ length r.leases = omega (arith, past, e, slice_get_within (r.leases ++ lease ∷ []) j l got) in
-            let right = get_right r.leases (lease ∷ []) j here in
-            let same : lease ≡ l = cc in
-            let all = alike.0 in
-            let page : j ≡ length r.firsts = omega (arith, here, all) in
-            subst (λ (k : ℕ). IsFrameOf flash arena (page_of r k) l) (sym page) (subst (IsFrameOf flash arena (page_of r (length r.firsts))) same alike.1)
-      ]
+  frames_more had (Some lease) alike j l got = elim (from_more r.leases lease j l got) [
+    | inl before ↦ had j l before
+    | inr last ↦ rw (last.0, last.1, alike.0) alike.1
+  ]
 
 pub RunOnFlash-page : (r : Kept) (flash : Flash) (arena : Frames) (es more : List Entry) (first : Key) (lease : Option ℕ) (n : ℕ) → IsShape r.shape
     → r.count ≡ length r.firsts * page_entries r.shape → length r.firsts < length r.blocks * r.shape.block_pages → 1 ≤ n → n ≤ page_entries r.shape
@@ -159,36 +162,12 @@ RunOnFlash-page r flash arena es more first lease n is full place some most s ne
 
 pub RunOnFlash-frame : (r : Kept) (flash : Flash) (arena : Frames) (es : List Entry) (lease : ℕ) → RunOnFlash r flash arena es → length r.leases < length r.firsts
     → IsFrameOf flash arena (page_of r (length r.leases)) lease → RunOnFlash (record r { leases = r.leases ++ lease ∷ [] }) flash arena es
-RunOnFlash-frame r flash arena es lease s some here = record {
-  read = s.read;
-  many = s.many;
-  rising = s.rising;
-  pages = s.pages;
-  within = s.within;
-  starts = s.starts;
-  leased = let e = length-append r.leases (lease ∷ []) in omega (arith, e, some);
-  frames = λ j l got.
-      elim (cases_lt j (length r.leases)) [
-        | inl before ↦ s.frames j l (sym (get_left r.leases (lease ∷ []) j before) ∙ got)
-        | inr past ↦
-            let e = length-append r.leases (lease ∷ []) in
-            let at : j ≡ length r.leases = omega (arith, past, e, slice_get_within (r.leases ++ lease ∷ []) j l got) in
-            let right = get_right r.leases (lease ∷ []) j at in
-            let same : lease ≡ l = cc in
-            subst (λ (k : ℕ). IsFrameOf flash arena (page_of r k) l) (sym at) (subst (IsFrameOf flash arena (page_of r (length r.leases))) same here)
-      ];
-}
+RunOnFlash-frame r flash arena es lease s some here =
+    let e = length-append r.leases (lease ∷ []) in
+    with_leases r flash flash arena arena es (r.leases ++ lease ∷ []) (λ j h. refl) s (omega (arith, e, some))
+    (λ j l got. elim (from_more r.leases lease j l got) [ inl before ↦ s.frames j l before | inr last ↦ rw (last.0, last.1) here ])
 
 -- ---- without its frames
 
 pub RunOnFlash-bare : StandsBare
-RunOnFlash-bare r flash before after es s = record {
-  read = s.read;
-  many = s.many;
-  rising = s.rising;
-  pages = s.pages;
-  within = s.within;
-  starts = s.starts;
-  leased = omega arith;
-  frames = λ j lease got. cc;
-}
+RunOnFlash-bare r flash before after es s = with_leases r flash flash before after es [] (λ j h. refl) s (omega arith) (λ j lease got. cc)
