@@ -2,7 +2,7 @@
 use Rattle.std.proofs.Common.{◌≡◌, inl, inr, ℕ, zero, suc, ◌+◌, ◌-◌, ◌<◌, ◌≤◌, Bool, true, false, if◌then◌else◌, nat_le, List, [], ◌∷◌, ◌++◌, length, map, slice_get, take, drop, sum, refl, ap, sym}
 use Rattle.std.proofs.Common.{subst, ◌∙◌, arith, Some, Result, Ok, Err, OnOk, length-append, append-nil, length-set, get_or-set_same}
 use Rattle.std.{specs.Prelude.max, specs.Prelude.fold, specs.Prelude.slice_set, specs.Prelude.slice_index_or, specs.Prelude.◌&&◌, specs.Prelude.not, specs.List.AllByRecursion}
-use Rattle.std.{proofs.lemmas.Bool.cases_lt, proofs.lemmas.Bool.Decides.nat_tests, proofs.lemmas.Option.slice_get-get_or}
+use Rattle.std.{proofs.lemmas.Bool.cases_lt, proofs.lemmas.Bool.le-leb, proofs.lemmas.Bool.lt-leb, proofs.lemmas.Bool.leb-true, proofs.lemmas.Bool.leb-false, proofs.lemmas.Option.slice_get-get_or}
 use Rattle.pk_base.{specs.Shape.Shape, specs.Shape.cap, specs.Shape.caps, specs.Shape.need, specs.Shape.pinned, specs.Entry.Entry, specs.Page.Flash}
 use Rattle.pk_nand.specs.declared.types.Fault.{Fault}
 use Rattle.pk_pin.specs.Frames.{Frames, AreLeases, free_frames, leased, filled, times}
@@ -13,12 +13,6 @@ use Rattle.pk_run.proofs.Others.{RunOnFlash-taken, RunOnFlash-filled}
 use Rattle.pk_level.specs.Levels.{Levels, IsOfLevel, AreOfLevels, IsLevels, RunsOnFlash, HaveBlocks, run_of, with_run}
 use Rattle.pk_level.specs.Arenas.{HasArena, AreBareAbove, FillsRun, IsUnfilled, leases_of, page_counts, last_level, unfilled_from, unfilled, lacks}
 use Rattle.pk_level.proofs.Looking.{stands_at, of_level_at}
-
-le_true : (x y : ℕ) → x ≤ y → nat_le x y ≡ true
-le_true x y h = grind (arith, nat_tests)
-
-gt_false : (x y : ℕ) → y < x → nat_le x y ≡ false
-gt_false x y h = grind (arith, nat_tests)
 
 -- ---- the run of a level
 
@@ -62,13 +56,13 @@ one_bound shape k last level r of_level kept bare low =
     elim (cases_lt last level) [
       | inl above ↦
           let none : length r.leases ≡ 0 = ap (λ (ls : List ℕ). length ls) (bare above) in
-          rw (gt_false level last above, gt_false level k (omega (arith, above, low))) (omega (arith, none))
+          rw (lt-leb level last above, lt-leb level k (omega (arith, above, low))) (omega (arith, none))
       | inr within ↦ elim (cases_lt k level) [
-        | inl behind ↦ rw (le_true level last within, gt_false level k behind) (omega (arith, few))
+        | inl behind ↦ rw (le-leb level last within, lt-leb level k behind) (omega (arith, few))
         | inr pins ↦
             let pages : length r.firsts ≤ cap shape level =
             subst (λ (l : ℕ). length r.firsts ≤ cap shape l) of_level.same_level (subst (λ (s : Shape). length r.firsts ≤ cap s r.level) of_level.same_shape kept.pages) in
-            rw (le_true level last within, le_true level k pins) (omega (arith, few, pages))
+            rw (le-leb level last within, le-leb level k pins) (omega (arith, few, pages))
       ]
     ]
 
@@ -98,13 +92,13 @@ spare_sum_is last k (p ∷ ps) =
       | inl some ↦
           let more : last - k ≡ suc (last - suc k) = omega (arith, some) in
           let first : pages_of_first (last - k) (p ∷ ps) ≡ p + pages_of_first (last - suc k) ps = ap (λ (n : ℕ). pages_of_first n (p ∷ ps)) more in
-          rw (le_true (suc k) last some) (omega (arith, rest, first))
+          rw (le-leb (suc k) last some) (omega (arith, rest, first))
       | inr none ↦
           let zeroes : last - k ≡ 0 = omega (arith, none) in
           let further : last - suc k ≡ 0 = omega (arith, none) in
           let first : pages_of_first (last - k) (p ∷ ps) ≡ 0 = ap (λ (n : ℕ). pages_of_first n (p ∷ ps)) zeroes in
           let second : pages_of_first (last - suc k) ps ≡ 0 = ap (λ (n : ℕ). pages_of_first n ps) further in
-          rw (gt_false (suc k) last (omega (arith, none))) (omega (arith, rest, first, second))
+          rw (lt-leb (suc k) last (omega (arith, none))) (omega (arith, rest, first, second))
     ]
 
 abbrev Bounds : Shape → ℕ → ℕ → List Kept → Type 0
@@ -119,12 +113,8 @@ bound_four shape (suc (suc (suc (suc zero)))) last a b c d few = let s = first_n
 bound_four shape (suc (suc (suc (suc (suc k))))) last a b c d few = absurd (omega (arith, few))
 
 bound_runs : (shape : Shape) (k last : ℕ) (rs : List Kept) → length rs ≡ 4 → k ≤ 4 → Bounds shape k last rs
-bound_runs shape k last [] four few = absurd (omega (arith, four))
-bound_runs shape k last (a ∷ []) four few = absurd (omega (arith, four))
-bound_runs shape k last (a ∷ (b ∷ [])) four few = absurd (omega (arith, four))
-bound_runs shape k last (a ∷ (b ∷ (c ∷ []))) four few = absurd (omega (arith, four))
 bound_runs shape k last (a ∷ (b ∷ (c ∷ (d ∷ [])))) four few = bound_four shape k last a b c d few
-bound_runs shape k last (a ∷ (b ∷ (c ∷ (d ∷ (e ∷ rs))))) four few = absurd (omega (arith, four))
+bound_runs shape k last rs four few = absurd (omega (arith, four))
 
 length-pages : (rs : List Kept) → length (page_counts rs) ≡ length rs
 length-pages [] = refl
@@ -161,17 +151,18 @@ frames_fit levels frames arena is kept has =
 
 -- ---- a page more has a frame
 
+-- what does not change of a run does not change of all
+map_set : {A : Type 0} (f : Kept → A) (rs : List Kept) (i : ℕ) (r r' : Kept) → slice_get rs i ≡ Some r → f r' ≡ f r → map f (slice_set rs i r') ≡ map f rs
+map_set f [] i r r' got same = cc
+map_set f (x ∷ rs) zero r r' got same = let is : x ≡ r = cc in ap (λ y. y ∷ map f rs) (same ∙ ap f (sym is))
+map_set f (x ∷ rs) (suc i) r r' got same = ap (λ ys. f x ∷ ys) (map_set f rs i r r' got same)
+
 module _ (l : ℕ) where
   abbrev framed : Kept → Kept
   framed r = record r { leases = r.leases ++ l ∷ [] }
 
   longer : (r : Kept) → length (framed r).leases ≡ length r.leases + 1
   longer r = let e = length-append r.leases (l ∷ []) in omega (arith, e)
-
-  pages_same : (rs : List Kept) (i : ℕ) (r : Kept) → slice_get rs i ≡ Some r → page_counts (slice_set rs i (framed r)) ≡ page_counts rs
-  pages_same [] i r got = cc
-  pages_same (x ∷ rs) zero r got = let same : x ≡ r = cc in ap (λ (y : Kept). length y.firsts ∷ page_counts rs) (sym same)
-  pages_same (x ∷ rs) (suc i) r got = ap (λ (ps : List ℕ). length x.firsts ∷ ps) (pages_same rs i r got)
 
   filled_one : (last level : ℕ) (rs : List Kept) (i : ℕ) (r : Kept) → slice_get rs i ≡ Some r → level + i ≤ last → length r.leases < length r.firsts
       → unfilled_from last level (slice_set rs i (framed r)) + 1 ≡ unfilled_from last level rs
@@ -181,7 +172,7 @@ module _ (l : ℕ) where
       let more = longer r in
       subst (λ (y : Kept). (if nat_le level last then length r.firsts - length (framed r).leases else 0) + unfilled_from last
       (suc level) rs + 1 ≡ (if nat_le level last then length y.firsts - length y.leases else 0) + unfilled_from last (suc level) rs) (sym same)
-      (rw (le_true level last (omega (arith, low))) (omega (arith, more, some)))
+      (rw (le-leb level last (omega (arith, low))) (omega (arith, more, some)))
   filled_one last level (x ∷ rs) (suc i) r got low some = let rest = filled_one last (suc level) rs i r got (omega (arith, low)) some in omega (arith, rest)
 
   bare_still : (last level : ℕ) (rs : List Kept) (i : ℕ) (r : Kept) → level + i ≤ last → AreBareAbove last level rs → AreBareAbove last level (slice_set rs i r)
@@ -208,21 +199,17 @@ module _ (l : ℕ) where
 
   stand_still : (flash : Flash) (arena : Frames) (bytes : List ℕ) (rs : List Kept) (ess : List (List Entry)) → slice_get arena.used l ≡ Some false
       → RunsOnFlash flash arena rs ess → RunsOnFlash flash (filled (leased arena l) l bytes) rs ess
-  stand_still flash arena bytes [] [] free each = tt
-  stand_still flash arena bytes [] (es ∷ ess) free each = each
-  stand_still flash arena bytes (r ∷ rs) [] free each = each
   stand_still flash arena bytes (r ∷ rs) (es ∷ ess) free each =
       let taken = RunOnFlash-taken r flash arena es l free each.0 in
       (RunOnFlash-filled r flash (leased arena l) es l bytes taken.1 taken.0, stand_still flash arena bytes rs ess free each.1)
+  stand_still flash arena bytes rs ess free each = each
 
   stand_framed : (flash : Flash) (arena : Frames) (rs : List Kept) (ess : List (List Entry)) (i : ℕ) (r : Kept) → RunsOnFlash flash arena rs ess
       → ((es : List Entry) → slice_get ess i ≡ Some es → RunOnFlash r flash arena es) → RunsOnFlash flash arena (slice_set rs i r) ess
-  stand_framed flash arena [] [] i r each own = tt
-  stand_framed flash arena [] (es ∷ ess) i r each own = each
-  stand_framed flash arena (x ∷ rs) [] zero r each own = each
-  stand_framed flash arena (x ∷ rs) [] (suc i) r each own = each
+  stand_framed flash arena (x ∷ rs) [] i r each own = absurd each
   stand_framed flash arena (x ∷ rs) (es ∷ ess) zero r each own = (own es refl, each.1)
   stand_framed flash arena (x ∷ rs) (es ∷ ess) (suc i) r each own = (each.0, stand_framed flash arena rs ess i r each.1 own)
+  stand_framed flash arena [] ess i r each own = each
 
 -- what is no lease stays
 module _ (l : ℕ) where
@@ -235,16 +222,14 @@ module _ (l : ℕ) where
   framed_blocks shape (x ∷ rs) (suc i) r (bs ∷ bss) got have = (have.0, have.1, framed_blocks shape rs i r bss got have.2)
 
   pub framed_counts : (rs : List Kept) (i : ℕ) (r : Kept) → slice_get rs i ≡ Some r → map (λ (x : Kept). x.count) (slice_set rs i (framed l r)) ≡ map (λ (x : Kept). x.count) rs
-  framed_counts [] i r got = cc
-  framed_counts (x ∷ rs) zero r got = let same : r ≡ x = cc in ap (λ (y : Kept). y.count ∷ map (λ (z : Kept). z.count) rs) same
-  framed_counts (x ∷ rs) (suc i) r got = ap (λ (ns : List ℕ). x.count ∷ ns) (framed_counts rs i r got)
+  framed_counts rs i r got = map_set (λ (x : Kept). x.count) rs i r (framed l r) got refl
 
 unfilled_some : (last level : ℕ) (rs : List Kept) (i : ℕ) (r : Kept) → slice_get rs i ≡ Some r → level + i ≤ last → length r.leases < length r.firsts → 0 < unfilled_from last level rs
 unfilled_some last level [] i r got low some = cc
 unfilled_some last level (x ∷ rs) zero r got low some =
     let same : x ≡ r = cc in
     subst (λ (y : Kept). 0 < (if nat_le level last then length y.firsts - length y.leases else 0) + unfilled_from last (suc level) rs)
-    (sym same) (rw (le_true level last (omega (arith, low))) (omega (arith, some)))
+    (sym same) (rw (le-leb level last (omega (arith, low))) (omega (arith, some)))
 unfilled_some last level (x ∷ rs) (suc i) r got low some = let rest = unfilled_some last (suc level) rs i r got (omega (arith, low)) some in omega (arith, rest)
 
 -- a frame is free for a page that is to have one
@@ -280,7 +265,7 @@ module _ (levels : Levels) (arena : Frames) (level : ℕ) (levels' : Levels) (ar
   as_many = length-set arena.used f.fills.lease true
 
   same_last : last_level behind (length arena.used) ≡ last_level levels (length arena.used)
-  same_last = ap (λ (ps : List ℕ). adapted levels.shape (length arena.used) ps) (pages_same f.fills.lease levels.runs (level - 1) own got)
+  same_last = ap (λ (ps : List ℕ). adapted levels.shape (length arena.used) ps) (map_set (λ (r : Kept). length r.firsts) levels.runs (level - 1) own (framed f.fills.lease own) got refl)
 
   pub filled_arena : level ≤ last_level levels (length arena.used) → HasArena levels.shape (length arena.used) levels arena [] → HasArena levels'.shape (length arena'.used) levels' arena' []
   filled_arena up_to has =
@@ -330,37 +315,23 @@ module _ (levels : Levels) (arena : Frames) (level : ℕ) (levels' : Levels) (ar
 -- ---- the first level that lacks a frame
 
 lacks_some : (b c : Bool) (last level : ℕ) (r : Kept) → nat_le level last ≡ b → is_pinned r ≡ c → (b && not c) ≡ true → (level ≤ last) × (length r.leases < length r.firsts)
-lacks_some false c last level r le all is = cc
-lacks_some true true last level r le all is = cc
-lacks_some true false last level r le all is = elim (cases_lt last level) [
-  | inl above ↦ let no = gt_false level last above in cc
-  | inr within ↦ elim (cases_lt (length r.leases) (length r.firsts)) [
-    | inl some ↦ (within, some)
-    | inr enough ↦ let yes = le_true (length r.firsts) (length r.leases) enough in cc
-  ]
-]
+lacks_some true false last level r le all is = (leb-true level last le, leb-false (length r.firsts) (length r.leases) all)
+lacks_some b c last level r le all is = cc
 
 lacks_none : (b c : Bool) (last level : ℕ) (r : Kept) → nat_le level last ≡ b → is_pinned r ≡ c → (b && not c) ≡ false → (if b then length r.firsts - length r.leases else 0) ≡ 0
 lacks_none false c last level r le all is = refl
 lacks_none true false last level r le all is = cc
-lacks_none true true last level r le all is = elim (cases_lt (length r.leases) (length r.firsts)) [
-  | inl some ↦ let no = gt_false (length r.firsts) (length r.leases) some in cc
-  | inr enough ↦ omega (arith, enough)
-]
+lacks_none true true last level r le all is = omega (arith, leb-true (length r.firsts) (length r.leases) all)
 
 none_of_four : (last : ℕ) (shape : Shape) (rs : List Kept) → length rs ≡ 4 → lacks last 1 (slice_index_or rs 0 (empty shape 1)) ≡ false → lacks last 2 (slice_index_or rs 1 (empty shape 2)) ≡ false
     → lacks last 3 (slice_index_or rs 2 (empty shape 3)) ≡ false → lacks last 4 (slice_index_or rs 3 (empty shape 4)) ≡ false → unfilled_from last 1 rs ≡ 0
-none_of_four last shape [] four first second third fourth = absurd (omega (arith, four))
-none_of_four last shape (a ∷ []) four first second third fourth = absurd (omega (arith, four))
-none_of_four last shape (a ∷ (b ∷ [])) four first second third fourth = absurd (omega (arith, four))
-none_of_four last shape (a ∷ (b ∷ (c ∷ []))) four first second third fourth = absurd (omega (arith, four))
-none_of_four last shape (a ∷ (b ∷ (c ∷ (d ∷ (e ∷ rs))))) four first second third fourth = absurd (omega (arith, four))
 none_of_four last shape (a ∷ (b ∷ (c ∷ (d ∷ [])))) four first second third fourth =
     let one = lacks_none (nat_le 1 last) (is_pinned a) last 1 a refl refl first in
     let two = lacks_none (nat_le 2 last) (is_pinned b) last 2 b refl refl second in
     let three = lacks_none (nat_le 3 last) (is_pinned c) last 3 c refl refl third in
     let last_one = lacks_none (nat_le 4 last) (is_pinned d) last 4 d refl refl fourth in
     omega (arith, one, two, three, last_one)
+none_of_four last shape rs four first second third fourth = absurd (omega (arith, four))
 
 pub none_lacks : (last : ℕ) (levels : Levels) → IsLevels levels → lacks last 1 (run_of levels 1) ≡ false
     → lacks last 2 (run_of levels 2) ≡ false → lacks last 3 (run_of levels 3) ≡ false → lacks last 4 (run_of levels 4) ≡ false
@@ -370,11 +341,27 @@ none_lacks last levels is first second third fourth = none_of_four last levels.s
 -- ---- inside
 
 -- if only leases differ, a run of a level after the pinned ones may be there still
-pub of_level_still : (shape : Shape) (k level : ℕ) (r r' : Kept) → IsOfLevel shape k level r → r' ≡ record r { leases = r'.leases } → k < level → IsOfLevel shape k level r'
+of_level_still : (shape : Shape) (k level : ℕ) (r r' : Kept) → IsOfLevel shape k level r → r' ≡ record r { leases = r'.leases } → k < level → IsOfLevel shape k level r'
 of_level_still shape k level r r' is same above = record {
   same_shape = ap (λ (x : Kept). x.shape) same ∙ is.same_shape;
   same_level = ap (λ (x : Kept). x.level) same ∙ is.same_level;
   frames = λ within. absurd (omega (arith, above, within));
+}
+
+levels_with : (shape : Shape) (k level : ℕ) (rs : List Kept) (i : ℕ) (r r' : Kept) → slice_get rs i ≡ Some r → AreOfLevels shape k level rs
+    → r' ≡ record r { leases = r'.leases } → k < level + i → AreOfLevels shape k level (slice_set rs i r')
+levels_with shape k level [] i r r' got are same above = tt
+levels_with shape k level (x ∷ rs) zero r r' got are same above =
+    let is : r ≡ x = cc in
+    (of_level_still shape k level x r' are.0 (same ∙ ap (λ (y : Kept). record y { leases = r'.leases }) is) (omega (arith, above)), are.1)
+levels_with shape k level (x ∷ rs) (suc i) r r' got are same above = (are.0, levels_with shape k (suc level) rs i r r' got are.1 same (omega (arith, above)))
+
+pub levels_still : (levels : Levels) (level : ℕ) (r' : Kept) → IsLevels levels → 1 ≤ level → level ≤ 4 → levels.pinned < level
+    → r' ≡ record (run_of levels level) { leases = r'.leases } → IsLevels (with_run levels level r')
+levels_still levels level r' is least few above same = record {
+  most = is.most;
+  four = length-set levels.runs (level - 1) r' ∙ is.four;
+  each = levels_with levels.shape levels.pinned 1 levels.runs (level - 1) (run_of levels level) r' (got_of levels level is least few) is.each same (omega (arith, above, least));
 }
 
 pub fills_from : {T : Type 0} (result : Result T Fault) (levels : Levels) (arena : Frames) (level : ℕ) (r' : Kept) (arena' : Frames) (levels' : Levels) → levels' ≡ with_run levels level r'

@@ -1,12 +1,14 @@
 -- A lookup through the runs, from the first on.
-use Rattle.std.proofs.Common.{◌≡◌, inl, inr, ℕ, zero, suc, ◌+◌, ◌-◌, ◌<◌, ◌≤◌, Bool, true, false, cond, if◌then◌else◌, nat_le, nat_lt, List, [], ◌∷◌, ◌++◌, length, slice_get, drop, refl, ap, sym}
-use Rattle.std.proofs.Common.{subst, ◌∙◌, arith, Option, Some, None, MatchOption}
-use Rattle.std.{specs.Ordering.eq_by_cmp, specs.FinMap.Entries.find, proofs.lemmas.Bool.cases_lt, proofs.lemmas.Bool.Decides.nat_tests}
+use Rattle.std.proofs.Common.{◌≡◌, inl, inr, ℕ, zero, suc, ◌+◌, ◌-◌, ◌<◌, ◌≤◌, Bool, true, false, cond, if◌then◌else◌, List, [], ◌∷◌, ◌++◌, length, slice_get, drop, refl, ap, sym, subst, ◌∙◌, arith}
+use Rattle.std.proofs.Common.{Option, Some, None, MatchOption}
+use Rattle.std.proofs.lemmas.Bool.{cases_lt, le-leb, lt-leb, lt-ltb, le-ltb}
+use Rattle.std.{specs.Ordering.eq_by_cmp, specs.FinMap.Entries.find, proofs.lemmas.List.drop_all, proofs.lemmas.Option.slice_get_cases}
 use Rattle.pk_base.{specs.Key.Key, specs.Key.key_cmp, specs.Shape.Shape, specs.Entry.Entry, specs.Entry.Place, specs.Seen.entry as seen, specs.declared.entry.Entry.Entry as RustEntry}
 use Rattle.pk_base.specs.Page.{Flash}
 use Rattle.pk_nand.{specs.BoardState.BoardState, specs.Calls.counted, specs.Operations.ReadFailed, specs.Counts.counted_by, specs.Counts.after_reads}
 use Rattle.pk_pin.specs.Frames.{Frames}
 use Rattle.pk_run.{specs.Kept.Kept, specs.Kept.IsPinned, specs.Kept.RunOnFlash, specs.Kept.after_look, specs.Kept.is_pinned, specs.Search.IsFound, specs.Search.RunLooks}
+use Rattle.pk_run.proofs.Orders.{drop_is}
 use Rattle.pk_level.specs.Levels.{Levels, IsOfLevel, AreOfLevels, IsLevels, RunsOnFlash, all_entries, is_held, held_from, held_levels, most_reads, reads_through, LooksFor, ReadsUpTo, ReadFailsWithin}
 
 -- ---- entries of several lists
@@ -27,28 +29,20 @@ find_right key (x ∷ xs) ys e =
       | false ↦ λ e. find_right key xs ys e
     ] e
 
-entries_at : (ess : List (List Entry)) (i : ℕ) (es : List Entry) → slice_get ess i ≡ Some es → all_entries (drop i ess) ≡ es ++ all_entries (drop (suc i) ess)
-entries_at [] i es got = cc
-entries_at (xs ∷ ess) zero es got = let same : xs ≡ es = cc in ap (λ (ys : List Entry). ys ++ all_entries ess) same
-entries_at (xs ∷ ess) (suc i) es got = entries_at ess i es got
-
 -- ---- runs that match the flash
 
 pub stands_at : (flash : Flash) (arena : Frames) (rs : List Kept) (ess : List (List Entry)) (i : ℕ) (r : Kept) → RunsOnFlash flash arena rs ess → slice_get rs i ≡ Some r
     → (es : List Entry) × (slice_get ess i ≡ Some es) × RunOnFlash r flash arena es
 stands_at flash arena [] [] i r each got = cc
-stands_at flash arena [] (es ∷ ess) i r each got = absurd each
-stands_at flash arena (x ∷ rs) [] i r each got = absurd each
 stands_at flash arena (x ∷ rs) (es ∷ ess) zero r each got = let same : x ≡ r = cc in (es, refl, subst (λ (y : Kept). RunOnFlash y flash arena es) same each.0)
 stands_at flash arena (x ∷ rs) (es ∷ ess) (suc i) r each got = stands_at flash arena rs ess i r each.1 got
+stands_at flash arena rs ess i r each got = absurd each
 
 no_more : (flash : Flash) (arena : Frames) (rs : List Kept) (ess : List (List Entry)) (i : ℕ) → RunsOnFlash flash arena rs ess → length rs ≤ i → all_entries (drop i ess) ≡ []
-no_more flash arena [] [] zero each h = refl
-no_more flash arena [] [] (suc i) each h = refl
-no_more flash arena [] (es ∷ ess) i each h = absurd each
-no_more flash arena (r ∷ rs) [] i each h = absurd each
+no_more flash arena [] [] i each h = ap all_entries (drop_all i [] (omega arith))
 no_more flash arena (r ∷ rs) (es ∷ ess) zero each h = absurd (omega arith)
 no_more flash arena (r ∷ rs) (es ∷ ess) (suc i) each h = no_more flash arena rs ess i each.1 (omega arith)
+no_more flash arena rs ess i each h = absurd each
 
 -- a run among the levels is one of its level
 pub of_level_at : (shape : Shape) (pinned level : ℕ) (rs : List Kept) (i : ℕ) (r : Kept) → AreOfLevels shape pinned level rs → slice_get rs i ≡ Some r → IsOfLevel shape pinned (level + i) r
@@ -63,23 +57,11 @@ of_level_at shape pinned level (x ∷ rs) (suc i) r are got =
 
 -- ---- reads
 
-le_true : (x y : ℕ) → x ≤ y → nat_le x y ≡ true
-le_true x y h = grind (arith, nat_tests)
-
-gt_false : (x y : ℕ) → y < x → nat_le x y ≡ false
-gt_false x y h = grind (arith, nat_tests)
-
-lt_true : (x y : ℕ) → x < y → nat_lt x y ≡ true
-lt_true x y h = grind (arith, nat_tests)
-
-ge_false : (x y : ℕ) → y ≤ x → nat_lt x y ≡ false
-ge_false x y h = grind (arith, nat_tests)
-
 by_frames : (r : Kept) → IsPinned r → most_reads r ≡ 0
-by_frames r all = rw (le_true (length r.firsts) (length r.leases) (omega (arith, all))) refl
+by_frames r all = rw (le-leb (length r.firsts) (length r.leases) (omega (arith, all))) refl
 
 needs_read : (r : Kept) → length r.leases < length r.firsts → most_reads r ≡ 1
-needs_read r some = rw (gt_false (length r.firsts) (length r.leases) some) refl
+needs_read r some = rw (lt-leb (length r.firsts) (length r.leases) some) refl
 
 pub unpinned_reads : (r : Kept) → length r.leases ≤ length r.firsts → (IsPinned r → ⊥) → 1 ≤ most_reads r
 unpinned_reads r few not = elim (cases_lt (length r.leases) (length r.firsts)) [
@@ -96,26 +78,16 @@ reads_more k m old = ap (λ (n : ℕ). record old { reads = n }) (counted_more k
 
 look_by : (r : Kept) (p : ℕ) (o : Option ℕ) (now next : BoardState) → p < length r.firsts
     → slice_get r.leases p ≡ o → next ≡ after_look o now → (k : ℕ) × (k ≤ most_reads r) × (next ≡ after_reads k now)
-look_by r p None now next h got e =
-    let past = missing_past r.leases p got in
-    let one = needs_read r (omega (arith, h, past)) in
-    (suc zero, omega (arith, one), e)
-  where
-    missing_past : (ls : List ℕ) (i : ℕ) → slice_get ls i ≡ None → length ls ≤ i
-    missing_past [] i got = omega arith
-    missing_past (l ∷ ls) zero got = cc
-    missing_past (l ∷ ls) (suc i) got = omega (arith, missing_past ls i got)
+look_by r p None now next h got e = elim (slice_get_cases r.leases p).1 [
+  | inl had ↦ let is = had.2 in cc
+  | inr past ↦ let one = needs_read r (omega (arith, h, past.0)) in (suc zero, omega (arith, one), e)
+]
 look_by r p (Some l) now next h got e = (zero, omega arith, e)
 
 -- how often a lookup in one run reads
 look_reads : (r : Kept) (key : Key) (now next : BoardState) → RunLooks r key now next → (k : ℕ) × (k ≤ most_reads r) × (next ≡ after_reads k now)
 look_reads r key now next (inl none) = (zero, omega arith, none.1)
 look_reads r key now next (inr some) = look_by r some.0 (slice_get r.leases some.0) now next some.1.exists refl some.2
-
-through_at : (rs : List Kept) (i : ℕ) (r : Kept) → slice_get rs i ≡ Some r → reads_through (drop i rs) ≡ most_reads r + reads_through (drop (suc i) rs)
-through_at [] i r got = cc
-through_at (x ∷ rs) zero r got = let same : x ≡ r = cc in ap (λ (y : Kept). most_reads y + reads_through rs) same
-through_at (x ∷ rs) (suc i) r got = through_at rs i r got
 
 -- a run is read at most once if its level is neither pinned nor held
 one_of : (b : Bool) → ◌≡◌ {A = ℕ} ((if b then 0 else 1) + (if b then 1 else 0)) 1
@@ -130,11 +102,11 @@ exact_from shape pinned level (r ∷ rs) are most =
     elim (cases_lt pinned level) [
       | inl behind ↦
           let one = one_of (is_pinned r) in
-          let held : ◌≡◌ {A = ℕ} (if is_held pinned level r then 1 else 0) (if is_pinned r then 1 else 0) = rw (lt_true pinned level behind) refl in
+          let held : ◌≡◌ {A = ℕ} (if is_held pinned level r then 1 else 0) (if is_pinned r then 1 else 0) = rw (lt-ltb pinned level behind) refl in
           omega (arith, rest, one, held, behind)
       | inr within ↦
           let none = by_frames r (are.0.frames within) in
-          let held : ◌≡◌ {A = ℕ} (if is_held pinned level r then 1 else 0) 0 = rw (ge_false pinned level within) refl in
+          let held : ◌≡◌ {A = ℕ} (if is_held pinned level r then 1 else 0) 0 = rw (le-ltb pinned level within) refl in
           omega (arith, rest, none, held, within)
     ]
 
@@ -154,95 +126,87 @@ pub record Looking (rs : List Kept) (arena : Frames) (key : Key) (old now : Boar
 pub Looking-start : (rs : List Kept) (arena : Frames) (key : Key) (old : BoardState) → Looking rs arena key old old 0
 Looking-start rs arena key old = record { made = 0; few = omega arith; board = refl; none = λ ess each. refl; on = λ ess each last looks. looks }
 
-same_pages : (rs : List Kept) (arena : Frames) (key : Key) (old now : BoardState) (i : ℕ) → Looking rs arena key old now i → now.pages ≡ old.pages
-same_pages rs arena key old now i at = ap (λ (b : BoardState). b.pages) at.board
+module _ (rs : List Kept) (arena : Frames) (key : Key) (old now : BoardState) (i : ℕ) (at : Looking rs arena key old now i) where
+  same_pages : now.pages ≡ old.pages
+  same_pages = ap (λ (b : BoardState). b.pages) at.board
 
--- the next run matches the board now
-pub next_stands : (rs : List Kept) (arena : Frames) (key : Key) (old now : BoardState) (i : ℕ) (r : Kept) (ess : List (List Entry)) → Looking rs arena key old now i → slice_get rs i ≡ Some r
-    → RunsOnFlash old.pages arena rs ess → (es : List Entry) × (slice_get ess i ≡ Some es) × RunOnFlash r now.pages arena es
-next_stands rs arena key old now i r ess at got each =
-    let own = stands_at old.pages arena rs ess i r each got in
-    (own.0, own.1, subst (λ (flash : Flash). RunOnFlash r flash arena own.0) (sym (same_pages rs arena key old now i at)) own.2)
+  module _ (r : Kept) (got : slice_get rs i ≡ Some r) where
+    -- the next run matches the board now
+    pub next_stands : (ess : List (List Entry)) → RunsOnFlash old.pages arena rs ess → (es : List Entry) × (slice_get ess i ≡ Some es) × RunOnFlash r now.pages arena es
+    next_stands ess each =
+        let own = stands_at old.pages arena rs ess i r each got in
+        (own.0, own.1, subst (λ (flash : Flash). RunOnFlash r flash arena own.0) (sym same_pages) own.2)
 
-drop_at : {X : Type 0} (xs : List X) (i : ℕ) (x : X) → slice_get xs i ≡ Some x → drop i xs ≡ x ∷ drop (suc i) xs
-drop_at [] i x got = cc
-drop_at (y ∷ xs) zero x got = let same : y ≡ x = cc in ap (λ z. z ∷ xs) same
-drop_at (y ∷ xs) (suc i) x got = drop_at xs i x got
+    -- the reads that remain
+    left : reads_through (drop i rs) ≡ most_reads r + reads_through (drop (suc i) rs)
+    left = ap reads_through (drop_is rs i r got)
 
-drop_all : {X : Type 0} (xs : List X) (i : ℕ) → length xs ≤ i → drop i xs ≡ []
-drop_all [] zero h = refl
-drop_all [] (suc i) h = refl
-drop_all (x ∷ xs) zero h = absurd (omega arith)
-drop_all (x ∷ xs) (suc i) h = drop_all xs i (omega arith)
+    entries_at : (ess : List (List Entry)) (es : List Entry) → slice_get ess i ≡ Some es → all_entries (drop i ess) ≡ es ++ all_entries (drop (suc i) ess)
+    entries_at ess es own = ap all_entries (drop_is ess i es own)
 
--- a run is looked into, and what comes after it is known by whether it has the key
-looks_at : (rs : List Kept) (ess : List (List Entry)) (key : Key) (now next last : BoardState) (i : ℕ) (r : Kept) (es : List Entry) (found : Option (Option Place))
-    → slice_get rs i ≡ Some r → slice_get ess i ≡ Some es
-    → RunLooks r key now next → find key_cmp key es ≡ found
-    → MatchOption found (LooksFor key (drop (suc i) rs) (drop (suc i) ess) next last) (λ place. last ≡ next) → LooksFor key (drop i rs) (drop i ess) now last
-looks_at rs ess key now next last i r es found got own looks is rest =
-    subst (λ (ks : List Kept). LooksFor key ks (drop i ess) now last) (sym (drop_at rs i r got))
-    (subst (λ (fs : List (List Entry)). LooksFor key (r ∷ drop (suc i) rs) fs now last) (sym (drop_at ess i es own))
-    (next, looks, subst (λ (f : Option (Option Place)). MatchOption f (LooksFor key (drop (suc i) rs) (drop (suc i) ess) next last) (λ place. last ≡ next)) (sym is) rest))
+    -- a read of it fails
+    pub Looking-failed : (next : BoardState) (page : ℕ) → 1 ≤ most_reads r → ReadFailed now next page → ReadFailsWithin (reads_through rs) old next
+    Looking-failed next page some failed =
+        let few = at.few in
+        let more = left in
+        (at.made, page, omega (arith, few, more, some), subst (λ (b : BoardState). ReadFailed b next page) at.board failed)
 
--- the next run has nothing either
-pub Looking-next : (rs : List Kept) (arena : Frames) (key : Key) (old now next : BoardState) (i : ℕ) (r : Kept) → Looking rs arena key old now i → slice_get rs i ≡ Some r
-    → RunLooks r key now next → ((es : List Entry) → RunOnFlash r now.pages arena es → find key_cmp key es ≡ None) → Looking rs arena key old next (i + 1)
-Looking-next rs arena key old now next i r at got looks missing =
-    let look = look_reads r key now next looks in
-    let left = through_at rs i r got in
-    let on : suc i ≡ i + 1 = omega arith in
-    let few = at.few in
-    subst (Looking rs arena key old next) on (record {
-      made = look.0 + at.made;
-      few = omega (arith, few, left, look.1);
-      board = look.2 ∙ ap (λ (b : BoardState). after_reads look.0 b) at.board ∙ reads_more look.0 at.made old;
-      none = λ ess each.
-          let own = next_stands rs arena key old now i r ess at got each in
-          at.none ess each ∙ ap (find key_cmp key) (entries_at ess i own.0 own.1) ∙ find_right key own.0 (all_entries (drop (suc i) ess)) (missing own.0 own.2);
-      on = λ ess each last rest.
-          let own = next_stands rs arena key old now i r ess at got each in
-          at.on ess each last (looks_at rs ess key now next last i r own.0 None got own.1 looks (missing own.0 own.2) rest);
-    })
+    -- it has the key
+    pub Looking-found : (e : RustEntry) → ((es : List Entry) → RunOnFlash r now.pages arena es → IsFound key es (Some e))
+        → (ess : List (List Entry)) → RunsOnFlash old.pages arena rs ess → IsFound key (all_entries ess) (Some e)
+    Looking-found e found ess each =
+        let own = next_stands ess each in
+        let is = found own.0 own.2 in
+        (is.0, at.none ess each ∙ ap (find key_cmp key) (entries_at ess own.0 own.1) ∙ find_left key own.0 (all_entries (drop (suc i) ess)) (seen e).1 is.1)
 
--- the next run has it
-pub Looking-found : (rs : List Kept) (arena : Frames) (key : Key) (old now : BoardState) (i : ℕ) (r : Kept) (e : RustEntry) → Looking rs arena key old now i → slice_get rs i ≡ Some r
-    → ((es : List Entry) → RunOnFlash r now.pages arena es → IsFound key es (Some e))
-    → (ess : List (List Entry)) → RunsOnFlash old.pages arena rs ess → IsFound key (all_entries ess) (Some e)
-Looking-found rs arena key old now i r e at got found ess each =
-    let own = next_stands rs arena key old now i r ess at got each in
-    let is = found own.0 own.2 in
-    (is.0, at.none ess each ∙ ap (find key_cmp key) (entries_at ess i own.0 own.1) ∙ find_left key own.0 (all_entries (drop (suc i) ess)) (seen e).1 is.1)
+    -- it is looked into
+    module _ (next : BoardState) (looks : RunLooks r key now next) where
+      read_so : (k : ℕ) × (k + reads_through (drop (suc i) rs) ≤ reads_through rs) × (next ≡ after_reads k old)
+      read_so =
+          let look = look_reads r key now next looks in
+          let few = at.few in
+          let more = left in
+          (look.0 + at.made, omega (arith, few, more, look.1), look.2 ∙ ap (λ (b : BoardState). after_reads look.0 b) at.board ∙ reads_more look.0 at.made old)
 
-pub reads_found : (rs : List Kept) (arena : Frames) (key : Key) (old now next : BoardState) (i : ℕ) (r : Kept) → Looking rs arena key old now i → slice_get rs i ≡ Some r → RunLooks r key now next
-    → ReadsUpTo (reads_through rs) old next
-reads_found rs arena key old now next i r at got looks =
-    let look = look_reads r key now next looks in
-    let left = through_at rs i r got in
-    let few = at.few in
-    (look.0 + at.made, omega (arith, few, left, look.1), look.2 ∙ ap (λ (b : BoardState). after_reads look.0 b) at.board ∙ reads_more look.0 at.made old)
+      pub reads_found : ReadsUpTo (reads_through rs) old next
+      reads_found = let read = read_so in (read.0, omega (arith, read.1), read.2)
 
-pub looks_found : (rs : List Kept) (arena : Frames) (key : Key) (old now next : BoardState) (i : ℕ) (r : Kept) (e : RustEntry)
-    → Looking rs arena key old now i → slice_get rs i ≡ Some r → RunLooks r key now next
-    → ((es : List Entry) → RunOnFlash r now.pages arena es → IsFound key es (Some e)) → (ess : List (List Entry)) → RunsOnFlash old.pages arena rs ess → LooksFor key rs ess old next
-looks_found rs arena key old now next i r e at got looks found ess each =
-    let own = next_stands rs arena key old now i r ess at got each in
-    let is = found own.0 own.2 in
-    at.on ess each next (looks_at rs ess key now next next i r own.0 (Some (seen e).1) got own.1 looks is.1 refl)
+      -- what comes after it is known by whether it has the key
+      looks_at : (ess : List (List Entry)) (last : BoardState) (es : List Entry) (found : Option (Option Place)) → slice_get ess i ≡ Some es → find key_cmp key es ≡ found
+          → MatchOption found (LooksFor key (drop (suc i) rs) (drop (suc i) ess) next last) (λ place. last ≡ next) → LooksFor key (drop i rs) (drop i ess) now last
+      looks_at ess last es found own is rest =
+          subst (λ (ks : List Kept). LooksFor key ks (drop i ess) now last) (sym (drop_is rs i r got))
+          (subst (λ (fs : List (List Entry)). LooksFor key (r ∷ drop (suc i) rs) fs now last) (sym (drop_is ess i es own))
+          (next, looks, subst (λ (f : Option (Option Place)). MatchOption f (LooksFor key (drop (suc i) rs) (drop (suc i) ess) next last) (λ place. last ≡ next)) (sym is) rest))
 
--- none has it
-pub Looking-end : (rs : List Kept) (arena : Frames) (key : Key) (old now : BoardState) (i : ℕ) → length rs ≤ i → Looking rs arena key old now i
-    → (ess : List (List Entry)) → RunsOnFlash old.pages arena rs ess → find key_cmp key (all_entries ess) ≡ None
-Looking-end rs arena key old now i all at ess each = at.none ess each ∙ ap (find key_cmp key) (no_more old.pages arena rs ess i each all)
+      -- it has nothing either
+      pub Looking-next : ((es : List Entry) → RunOnFlash r now.pages arena es → find key_cmp key es ≡ None) → Looking rs arena key old next (i + 1)
+      Looking-next missing =
+          let read = read_so in
+          let on : suc i ≡ i + 1 = omega arith in
+          subst (Looking rs arena key old next) on (record {
+            made = read.0;
+            few = read.1;
+            board = read.2;
+            none = λ ess each.
+                let own = next_stands ess each in
+                at.none ess each ∙ ap (find key_cmp key) (entries_at ess own.0 own.1) ∙ find_right key own.0 (all_entries (drop (suc i) ess)) (missing own.0 own.2);
+            on = λ ess each last rest.
+                let own = next_stands ess each in
+                at.on ess each last (looks_at ess last own.0 None own.1 (missing own.0 own.2) rest);
+          })
 
-pub looks_end : (rs : List Kept) (arena : Frames) (key : Key) (old now : BoardState) (i : ℕ) → length rs ≤ i → Looking rs arena key old now i
-    → (ess : List (List Entry)) → RunsOnFlash old.pages arena rs ess → LooksFor key rs ess old now
-looks_end rs arena key old now i all at ess each = at.on ess each now (subst (λ (ks : List Kept). LooksFor key ks (drop i ess) now now) (sym (drop_all rs i all)) refl)
+      pub looks_found : (e : RustEntry) → ((es : List Entry) → RunOnFlash r now.pages arena es → IsFound key es (Some e))
+          → (ess : List (List Entry)) → RunsOnFlash old.pages arena rs ess → LooksFor key rs ess old next
+      looks_found e found ess each =
+          let own = next_stands ess each in
+          let is = found own.0 own.2 in
+          at.on ess each next (looks_at ess next own.0 (Some (seen e).1) own.1 is.1 refl)
 
--- a read of the next run fails
-pub Looking-failed : (rs : List Kept) (arena : Frames) (key : Key) (old now next : BoardState) (i page : ℕ) (r : Kept) → Looking rs arena key old now i → slice_get rs i ≡ Some r → 1 ≤ most_reads r
-    → ReadFailed now next page → ReadFailsWithin (reads_through rs) old next
-Looking-failed rs arena key old now next i page r at got some failed =
-    let left = through_at rs i r got in
-    let few = at.few in
-    (at.made, page, omega (arith, few, left, some), subst (λ (b : BoardState). ReadFailed b next page) at.board failed)
+  -- none has it
+  module _ (all : length rs ≤ i) (ess : List (List Entry)) (each : RunsOnFlash old.pages arena rs ess) where
+    pub Looking-end : find key_cmp key (all_entries ess) ≡ None
+    Looking-end = at.none ess each ∙ ap (find key_cmp key) (no_more old.pages arena rs ess i each all)
+
+    pub looks_end : LooksFor key rs ess old now
+    looks_end = at.on ess each now (subst (λ (ks : List Kept). LooksFor key ks (drop i ess) now now) (sym (drop_all i rs all)) refl)

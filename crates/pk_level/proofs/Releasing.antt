@@ -1,17 +1,14 @@
 -- Frames of levels that are freed, one run after another.
-use Rattle.std.proofs.Common.{◌≡◌, ℕ, zero, suc, ◌+◌, ◌-◌, ◌<◌, ◌≤◌, Bool, true, false, cond, if◌then◌else◌, nat_le, List, [], ◌∷◌, ◌++◌, length, map, slice_get, get_or, refl, ap, sym, subst, ◌∙◌}
-use Rattle.std.proofs.Common.{arith, Some, append_assoc}
-use Rattle.std.{specs.Prelude.slice_set, specs.Prelude.slice_index_or, proofs.lemmas.Bool.Decides.nat_tests, proofs.lemmas.Option.slice_get-get_or}
+use Rattle.std.proofs.Common.{◌≡◌, ℕ, zero, suc, ◌+◌, ◌-◌, ◌<◌, ◌≤◌, Bool, true, false, if◌then◌else◌, nat_le, List, [], ◌∷◌, ◌++◌, length, map, slice_get, get_or, refl, ap, sym, subst, ◌∙◌, arith}
+use Rattle.std.proofs.Common.{Some, append_assoc}
+use Rattle.std.{specs.Prelude.slice_set, specs.Prelude.slice_index_or, proofs.lemmas.Bool.lt-leb, proofs.lemmas.Option.slice_get-get_or}
 use Rattle.pk_base.{specs.Shape.Shape, specs.Entry.Entry, specs.Page.Flash}
 use Rattle.pk_pin.{specs.Frames.Frames, specs.Frames.AreLeases, specs.Frames.times, proofs.Leases.times-append}
 use Rattle.pk_adapt.specs.Adapted.{adapted}
-use Rattle.pk_run.{specs.Kept.Kept, specs.Kept.RunOnFlash, specs.Kept.empty, specs.Leases.AreLeased, specs.Leases.LeavesOthers, specs.Leases.LeavesOtherLeases, proofs.Leasing.are_leased}
+use Rattle.pk_run.{specs.Kept.Kept, specs.Kept.RunOnFlash, specs.Kept.empty, specs.Leases.AreLeased, specs.Leases.LeavesOthers, specs.Leases.LeavesOtherLeases, proofs.Leasing.are_leased, proofs.Leasing.at_most_one}
 use Rattle.pk_run.proofs.Others.{among}
 use Rattle.pk_level.specs.Levels.{Levels, IsLevels, RunsOnFlash, HaveBlocks, run_of, with_run}
 use Rattle.pk_level.specs.Arenas.{AreBareAbove, BaresRun, Releases, bared, bare_from, leases_of, page_counts, last_level}
-
-gt_false : (x y : ℕ) → y < x → nat_le x y ≡ false
-gt_false x y h = grind (arith, nat_tests)
 
 -- the first n of the runs are without their frames
 abbrev bare_first : ℕ → ℕ → ℕ → List Kept → List Kept
@@ -32,29 +29,31 @@ bare_next (suc n) last level (r ∷ rs) d h =
     ∙ ap (λ (xs : List Kept). bared last level r ∷ xs) (bare_next n last (suc level) rs d (omega (arith, h)))
 
 bare_length : (n last level : ℕ) (rs : List Kept) → length (bare_first n last level rs) ≡ length rs
-bare_length zero last level rs = refl
-bare_length (suc n) last level [] = refl
 bare_length (suc n) last level (r ∷ rs) = ap suc (bare_length n last (suc level) rs)
+bare_length n last level rs = refl
 
 bare_all : (n last level : ℕ) (rs : List Kept) → length rs ≤ n → bare_first n last level rs ≡ bare_from last level rs
-bare_all zero last level [] h = refl
 bare_all zero last level (r ∷ rs) h = absurd (omega (arith, h))
-bare_all (suc n) last level [] h = refl
 bare_all (suc n) last level (r ∷ rs) h = ap (λ (xs : List Kept). bared last level r ∷ xs) (bare_all n last (suc level) rs (omega (arith, h)))
+bare_all n last level rs h = refl
 
-one_pages : (b : Bool) (r : Kept) → length (if b then r else record r { leases = [] }).firsts ≡ length r.firsts
-one_pages true r = refl
-one_pages false r = refl
+one_bare : (b : Bool) (r : Kept) → (if b then r else record r { leases = [] }) ≡ record r { leases = (if b then r else record r { leases = [] }).leases }
+one_bare true r = refl
+one_bare false r = refl
+
+-- what does not depend on leases is the same of all
+bare_map : {A : Type 0} (f : Kept → A) → ((b : Bool) (r : Kept) → f (if b then r else record r { leases = [] }) ≡ f r)
+    → (last level : ℕ) (rs : List Kept) → map f (bare_from last level rs) ≡ map f rs
+bare_map f same last level [] = refl
+bare_map f same last level (r ∷ rs) = λ i. same (nat_le level last) r i ∷ bare_map f same last (suc level) rs i
 
 bare_pages : (last level : ℕ) (rs : List Kept) → page_counts (bare_from last level rs) ≡ page_counts rs
-bare_pages last level [] = refl
-bare_pages last level (r ∷ rs) =
-    ap (λ (n : ℕ). n ∷ page_counts (bare_from last (suc level) rs)) (one_pages (nat_le level last) r) ∙ ap (λ (ps : List ℕ). length r.firsts ∷ ps) (bare_pages last (suc level) rs)
+bare_pages = bare_map (λ (r : Kept). length r.firsts) (λ b r. ap (λ (x : Kept). length x.firsts) (one_bare b r))
 
 are_bare : (last level : ℕ) (rs : List Kept) → AreBareAbove last level (bare_from last level rs)
 are_bare last level [] = tt
 are_bare last level (r ∷ rs) =
-    (λ above. ap (λ (b : Bool). (if b then r else record r { leases = [] }).leases) (gt_false level last above), are_bare last (suc level) rs)
+    (λ above. ap (λ (b : Bool). (if b then r else record r { leases = [] }).leases) (lt-leb level last above), are_bare last (suc level) rs)
 
 -- ---- leases
 
@@ -86,10 +85,6 @@ within_all x (y ∷ rs) (suc n) r got =
     let rest = within_all x rs n r got in
     omega (arith, both, rest)
 
-at_most_one : (b : Bool) → cond {A = ℕ} b 1 0 ≤ 1
-at_most_one true = omega arith
-at_most_one false = omega arith
-
 -- nobody else has a lease of the run
 alone : (arena : Frames) (rs : List Kept) (others : List ℕ) (n : ℕ) (r : Kept) → slice_get rs n ≡ Some r → AreLeases arena (leases_of rs ++ others)
     → (i x : ℕ) → slice_get r.leases i ≡ Some x → times x (leases_of rs) ≡ times x r.leases
@@ -105,21 +100,18 @@ alone arena rs others n r got all i x has =
 
 stand_others : (flash : Flash) (leases : List ℕ) (before after : Frames) (rs : List Kept) (ess : List (List Entry)) → LeavesOthers leases before after
     → ((i x : ℕ) → slice_get leases i ≡ Some x → times x (leases_of rs) ≡ 0) → RunsOnFlash flash before rs ess → RunsOnFlash flash after rs ess
-stand_others flash leases before after [] [] leaves none each = tt
-stand_others flash leases before after [] (es ∷ ess) leaves none each = each
-stand_others flash leases before after (r ∷ rs) [] leaves none each = each
 stand_others flash leases before after (r ∷ rs) (es ∷ ess) leaves none each = (
   leaves r flash es (λ i x got. let all = none i x got in let both = times-append x r.leases (leases_of rs) in omega (arith, all, both)) each.0,
   stand_others flash leases before after rs ess leaves (λ i x got. let all = none i x got in let both = times-append x r.leases (leases_of rs) in omega (arith, all, both)) each.1,
 )
+stand_others flash leases before after rs ess leaves none each = each
 
 stand_bared : (flash : Flash) (before after : Frames) (rs : List Kept) (ess : List (List Entry)) (n : ℕ) (r r' : Kept) → slice_get rs n ≡ Some r
     → ((i x : ℕ) → slice_get r.leases i ≡ Some x → times x (leases_of rs) ≡ times x r.leases)
     → ((es : List Entry) → RunOnFlash r flash before es → RunOnFlash r' flash after es) → LeavesOthers r.leases before after
     → RunsOnFlash flash before rs ess → RunsOnFlash flash after (slice_set rs n r') ess
 stand_bared flash before after [] ess n r r' got only own leaves each = cc
-stand_bared flash before after (x ∷ rs) [] zero r r' got only own leaves each = each
-stand_bared flash before after (x ∷ rs) [] (suc n) r r' got only own leaves each = each
+stand_bared flash before after (x ∷ rs) [] n r r' got only own leaves each = absurd each
 stand_bared flash before after (x ∷ rs) (es ∷ ess) zero r r' got only own leaves each =
     let same : x ≡ r = cc in (
       own es (subst (λ (y : Kept). RunOnFlash y flash before es) same each.0),
@@ -251,7 +243,7 @@ module _ (levels : Levels) (level last : ℕ) (arena : Frames) (r' : Kept) (aren
       → LeavesOthers former.leases arena arena' → LeavesOtherLeases former.leases arena arena'
       → arena'.page_bytes ≡ arena.page_bytes → length arena'.used ≡ length arena.used → BaresRun level last levels arena levels' arena'
   bares above are is stands others leases bytes size =
-      let here : bared last level former ≡ r' = ap (λ (b : Bool). if b then former else record former { leases = [] }) (gt_false level last above) ∙ sym is in
+      let here : bared last level former ≡ r' = ap (λ (b : Bool). if b then former else record former { leases = [] }) (lt-leb level last above) ∙ sym is in
       record {
         levels_are = are ∙ ap (λ (r : Kept). with_run levels level r) (sym here);
         stands = λ flash es s. subst (λ (r : Kept). RunOnFlash r flash arena' es) (sym here) (stands flash es s);
@@ -266,22 +258,13 @@ module _ (levels : Levels) (level last : ℕ) (arena : Frames) (r' : Kept) (aren
 
 -- ---- what is no lease stays
 
-one_bare : (b : Bool) (r : Kept) → (if b then r else record r { leases = [] }) ≡ record r { leases = (if b then r else record r { leases = [] }).leases }
-one_bare true r = refl
-one_bare false r = refl
-
 -- the runs have the same blocks
 pub bare_blocks : (shape : Shape) (last level : ℕ) (rs : List Kept) (bss : List (List ℕ)) → HaveBlocks shape rs bss → HaveBlocks shape (bare_from last level rs) bss
-bare_blocks shape last level [] [] have = tt
-bare_blocks shape last level [] (bs ∷ bss) have = have
-bare_blocks shape last level (r ∷ rs) [] have = have
 bare_blocks shape last level (r ∷ rs) (bs ∷ bss) have =
     let same = one_bare (nat_le level last) r in
     (ap (λ (x : Kept). x.shape) same ∙ have.0, ap (λ (x : Kept). x.blocks) same ∙ have.1, bare_blocks shape last (suc level) rs bss have.2)
+bare_blocks shape last level rs bss have = have
 
 -- and have as many entries
 pub bare_counts : (last level : ℕ) (rs : List Kept) → map (λ (r : Kept). r.count) (bare_from last level rs) ≡ map (λ (r : Kept). r.count) rs
-bare_counts last level [] = refl
-bare_counts last level (r ∷ rs) =
-    ap (λ (n : ℕ). n ∷ map (λ (x : Kept). x.count) (bare_from last (suc level) rs)) (ap (λ (x : Kept). x.count) (one_bare (nat_le level last) r))
-    ∙ ap (λ (ns : List ℕ). r.count ∷ ns) (bare_counts last (suc level) rs)
+bare_counts = bare_map (λ (r : Kept). r.count) (λ b r. ap (λ (x : Kept). x.count) (one_bare b r))
