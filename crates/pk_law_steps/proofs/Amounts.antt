@@ -60,13 +60,11 @@ module _ (shape : Shape) (spaces : ℕ) (at : ℕ → Page) where
 
   journal_most : (number index : ℕ) (before : List Entry) (pages : NumberedPages) (es : List Entry)
       → length (firsts before) ≤ buffer shape → journal shape spaces number index before pages ≡ Ok es → length (firsts es) ≤ buffer shape
-  journal_most number index before [] es few ok = subst (λ (x : List Entry). length (firsts x) ≤ buffer shape) (ok_same before es ok) few
-  journal_most number index before ((p, erased) ∷ pages) es few ok = subst (λ (x : List Entry). length (firsts x) ≤ buffer shape) (ok_same before es ok) few
-  journal_most number index before ((p, torn) ∷ pages) es few ok = subst (λ (x : List Entry). length (firsts x) ≤ buffer shape) (ok_same before es ok) few
   journal_most number index before ((p, whole bytes) ∷ pages) es few ok =
       let read = bind_ok (some_or (journal_entries shape number index bytes) (damaged p)) _ es ok in
       let tested = bind_ok (ensure (may_follow shape spaces before read.0) p) _ es read.2 in
       journal_most number (index + 1) (before ++ read.0) pages es (leb→le _ _ (left_part (nat_le (length (firsts (before ++ read.0))) (buffer shape)) (in_spaces spaces read.0) (passed _ _ tested.0 tested.1))) tested.2
+  journal_most number index before pages es few ok = subst (λ (x : List Entry). length (firsts x) ≤ buffer shape) (ok_same before es ok) few
 
   -- an epoch has no more keys than a buffer
   pub epoch_most : (number : ℕ) (blocks : List ℕ) (es : List Entry) → epoch shape spaces at number blocks ≡ Ok es → length (firsts es) ≤ buffer shape
@@ -126,13 +124,12 @@ module _ (shape : Shape) (is_shape : IsShape shape) where
   blocks_most : (ns cs : List ℕ) (bs : List (List ℕ)) → length ns ≤ length cs → T (list_all (λ p. nat_le p.0 (p.1 * page_entries shape)) (zip ns cs))
       → map (λ b. length b) bs ≡ map (run_blocks shape) ns → length (concat bs) ≤ blocks_for cs
   blocks_most [] cs [] few fit sizes = omega arith
-  blocks_most [] cs (b ∷ bs) few fit sizes = cc
   blocks_most (n ∷ ns) [] bs few fit sizes = absurd (omega (arith, few))
-  blocks_most (n ∷ ns) (c ∷ cs) [] few fit sizes = cc
   blocks_most (n ∷ ns) (c ∷ cs) (b ∷ bs) few fit sizes =
       let here = run_blocks_most n c (leb→le _ _ (left_part (nat_le n (c * page_entries shape)) _ fit)) in
       let rest = blocks_most ns cs bs (omega (arith, few)) (right_part (nat_le n (c * page_entries shape)) _ fit) (tail_same _ _ _ _ sizes) in
       omega (arith, here, rest, head_same _ _ _ _ sizes, length-append b (concat bs))
+  blocks_most ns cs bs few fit sizes = cc
 
   pub quota : (root : Root) (level count : ℕ) → T (is_root shape root) → IsLevel level → count ≤ room shape level → length (concat root.runs) + run_blocks shape count ≤ meta_blocks shape
   unfolding meta_blocks

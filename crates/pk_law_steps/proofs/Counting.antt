@@ -14,8 +14,7 @@ use Rattle.pk_law_steps.{specs.Under.counting, specs.Under.places, specs.Lookups
 
 value_of : (shape : Shape) (flash : Flash) (q : Key) (e : Option (Option Place)) (value : Option (List ℕ)) → Has shape (page_at flash) q (flat e) value → IsValueOf shape flash q e value
 value_of shape flash q None value is = is
-value_of shape flash q (Some None) value is = is
-value_of shape flash q (Some (Some place)) value is = is
+value_of shape flash q e value is = is
 
 pub finds : LookupFinds
 finds shape flash pending top found m key under = value_of shape flash key (find key_cmp key (entries_in_order found pending))

@@ -106,13 +106,12 @@ module _ (w : ℕ → ℕ) where
   -- the blocks of two runs, of which the later has new ones
   pair_weighs : (i : ℕ) (new : List ℕ) (runs : List (List ℕ)) → suc i < length runs
       → weight w (concat (slice_set (slice_set runs (suc i) new) i [])) + weight w (slice_index_or runs i [] ++ slice_index_or runs (suc i) []) ≡ weight w (concat runs) + weight w new
-  pair_weighs i new [] low = absurd (omega (arith, low))
-  pair_weighs zero new (bs ∷ []) low = absurd (omega (arith, low))
   pair_weighs zero new (bs ∷ cs ∷ runs) low =
       omega (arith, weight-append w new (concat runs), weight-append w bs cs, weight-append w bs (cs ++ concat runs), weight-append w cs (concat runs))
   pair_weighs (suc i) new (bs ∷ runs) low =
       let rest = pair_weighs i new runs (omega (arith, low)) in
       omega (arith, rest, weight-append w bs (concat (slice_set (slice_set runs (suc i) new) i [])), weight-append w bs (concat runs))
+  pair_weighs i new runs low = absurd (omega (arith, low))
 
   module _ (root : Root) (count : ℕ) (taken : List ℕ) (four : length root.runs ≡ 4) where
     -- after a merge the root names what it named, without what is freed and with what was taken

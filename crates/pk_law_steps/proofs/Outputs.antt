@@ -53,9 +53,8 @@ filtered_sorted ((q, None) ∷ es) h = filtered_sorted es (right_part (below_all
 
 -- a deleted key that is dropped
 keep : Option (Option Place) → Option (Option Place)
-keep None = None
-keep (Some None) = None
 keep (Some (Some p)) = Some (Some p)
+keep _ = None
 
 find-filtered : (q : Key) (es : List Entry) → T (is_sorted key_cmp es) → find key_cmp q (filter (λ e. is_some e.1) es) ≡ keep (find key_cmp q es)
 unfolding keep
@@ -73,9 +72,8 @@ find-filtered q ((k, None) ∷ es) h =
 counts_or_above : (above below : Option (Option Place)) → T (is_some (keep below)) → T (is_some above) ⊎ T (is_some (flat (or_else above below)))
 unfolding keep
 counts_or_above (Some x) below h = inl tt
-counts_or_above None None h = absurd h
-counts_or_above None (Some None) h = absurd h
 counts_or_above None (Some (Some p)) h = inr tt
+counts_or_above _ _ h = absurd h
 
 module _ (upper r3 r4 : List Entry) where
   abbrev pub kept : List Entry

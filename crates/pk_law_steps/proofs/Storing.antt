@@ -20,12 +20,7 @@ stores shape flash pending top found m key place value under own stands room fit
     let spaces = root_spaces shape top.1 in
     let added = in_spaces_last spaces pending (key, Some place) values.spaced own in
     let fitting = subst T (sym fit) tt in
-    record {
-      is_top = under.is_top;
-      is_found = under.is_found;
-      is_map = reading-store shape (page_at flash) top.1 found pending m key place value (nothing_fits shape (named top.1)) under.is_map stands
-          (both _ _ (le→leb _ _ room) added) fitting within;
-    }
+    search (reading-store shape (page_at flash) top.1 found pending m key place value (nothing_fits shape (named top.1)) under.is_map stands (both _ _ (le→leb _ _ room) added) fitting within)
 
 -- ---- a key less
 
