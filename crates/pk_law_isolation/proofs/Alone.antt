@@ -5,7 +5,7 @@ use Rattle.std.specs.FinMap.{get, contains_key, entries}
 use Rattle.pk_base.{specs.Choices.or_else, specs.Shape.Shape, specs.Shape.charge, specs.Shape.pinned, specs.Key.key_cmp, specs.Key.bytes_of, specs.Fields.u32}
 use Rattle.pk_base.specs.Map.{Map, keys_from, pages_if_some}
 use Rattle.pk_nvme.{specs.declared.opcode.Opcode.Opcode, specs.Opcode.op_of, specs.Command.Command, specs.Command.key, specs.Reply.Reply}
-use Rattle.pk_nvme.specs.declared.opcode.Opcode.TheVariants.{Flush, Store, Retrieve, List as ListKeys, Delete, Exist, Tick, Report}
+use Rattle.pk_nvme.specs.declared.opcode.Opcode.TheVariants.{Flush, Store, Retrieve, List as ListKeys, Delete, Exist, Report}
 use Rattle.pk_nvme.specs.declared.limits.TheConstants.{ALL_NAMESPACES, COUNT_BYTES, MOST_LIST_BYTES}
 use Rattle.pk_nvme.specs.declared.status.TheConstants.{INVALID_NAMESPACE_OR_FORMAT, INVALID_KEY_SIZE, KEY_DOES_NOT_EXIST}
 use Rattle.pk_model.{specs.Spaces.Terms, specs.Spaces.limit_of, specs.Spaces.is_space, specs.Spaces.in_space, specs.Run.Step, proofs.SpaceLemmas.get_own}
@@ -20,13 +20,7 @@ use Rattle.pk_law_isolation.proofs.Parts.{get_first, live_alone, len_alone, entr
 
 passes : (spaces n : ℕ) (op : Opcode) → is_space spaces n ≡ true → is_namespace spaces op n ≡ true
 passes spaces n Flush is = ap (λ t. t || n == ALL_NAMESPACES) is
-passes spaces n Store is = is
-passes spaces n Retrieve is = is
-passes spaces n ListKeys is = is
-passes spaces n Delete is = is
-passes spaces n Exist is = is
-passes spaces n Tick is = is
-passes spaces n Report is = is
+passes spaces n op is = is
 
 module _ (shape : Shape) (spaces : ℕ) (c : Command) (is : is_space spaces c.namespace ≡ true) where
   same_fault : (op : Option Opcode) → fault_of 1 shape (command_alone c) op ≡ fault_of spaces shape c op
@@ -50,15 +44,11 @@ module _ (shape : Shape) (c : Command) (some : 1 ≤ c.namespace) (m : Map) wher
   same_live = λ i. live_alone c.namespace some shape m i - pages_if_some shape (same_get i) + charge shape c.size
 
   same_late : (most : ℕ) (op : Option Opcode) → late_of shape most (map_alone c.namespace m) (command_alone c) op ≡ late_of shape most (in_space c.namespace m) c op
-  same_late most None = refl
-  same_late most (Some Flush) = refl
   same_late most (Some Store) = λ i. store_fault c (same_there i) (same_live i) most
   same_late most (Some Retrieve) = ap (λ t. check t KEY_DOES_NOT_EXIST) same_there
-  same_late most (Some ListKeys) = refl
   same_late most (Some Delete) = ap (λ t. check t KEY_DOES_NOT_EXIST) same_there
   same_late most (Some Exist) = ap (λ t. check t KEY_DOES_NOT_EXIST) same_there
-  same_late most (Some Tick) = refl
-  same_late most (Some Report) = refl
+  same_late most op = refl
 
   -- ---- replies
 
@@ -74,29 +64,18 @@ module _ (shape : Shape) (c : Command) (some : 1 ≤ c.namespace) (m : Map) wher
 
   same_reply : (most frames : ℕ) (own : List ℕ) (op : Option Opcode)
       → reply_of shape most frames (map_alone c.namespace m) own (command_alone c) op ≡ reply_of shape most frames (in_space c.namespace m) own c op
-  same_reply most frames own None = refl
-  same_reply most frames own (Some Flush) = refl
-  same_reply most frames own (Some Store) = refl
   same_reply most frames own (Some Retrieve) = ap (λ (o : Option (List ℕ)). let value = unwrap_or o [] in success (length value) (take c.size value)) same_get
   same_reply most frames own (Some ListKeys) = ap (success 0) (same_listing (min c.size MOST_LIST_BYTES - COUNT_BYTES))
-  same_reply most frames own (Some Delete) = refl
-  same_reply most frames own (Some Exist) = refl
-  same_reply most frames own (Some Tick) = refl
   same_reply most frames own (Some Report) =
       λ i. success 0 (flat_map u32 (live_alone c.namespace some shape m i ∷ most ∷ len_alone c.namespace some m i ∷ pinned shape frames ∷ frames ∷ own))
+  same_reply most frames own op = refl
 
   -- ---- the map after the command
 
   same_effect : (op : Option Opcode) → map_alone c.namespace (effect m c op) ≡ effect (map_alone c.namespace m) (command_alone c) op
-  same_effect None = refl
-  same_effect (Some Flush) = refl
   same_effect (Some Store) = alone_insert c.namespace some m (bytes_of (key c)) c.value
-  same_effect (Some Retrieve) = refl
-  same_effect (Some ListKeys) = refl
   same_effect (Some Delete) = alone_remove c.namespace some m (bytes_of (key c))
-  same_effect (Some Exist) = refl
-  same_effect (Some Tick) = refl
-  same_effect (Some Report) = refl
+  same_effect op = refl
 
   left_unless : (o : Option ℕ) → map_alone c.namespace (effect_unless m c o) ≡ effect_unless (map_alone c.namespace m) (command_alone c) o
   left_unless (Some status) = refl
@@ -152,15 +131,9 @@ module _ (shape : Shape) (c : Command) (some : 1 ≤ c.namespace) (m : Map) wher
 
 module _ (shape : Shape) (terms : Terms) (space : ℕ) (some : 1 ≤ space) (c : Command) (differ : (space == c.namespace) ≡ false) (m : Map) where
   other_effect : (op : Option Opcode) → map_alone space (effect m c op) ≡ map_alone space m
-  other_effect None = refl
-  other_effect (Some Flush) = refl
   other_effect (Some Store) = insert_elsewhere space some c.namespace differ m (bytes_of (key c)) c.value
-  other_effect (Some Retrieve) = refl
-  other_effect (Some ListKeys) = refl
   other_effect (Some Delete) = remove_elsewhere space some c.namespace differ m (bytes_of (key c))
-  other_effect (Some Exist) = refl
-  other_effect (Some Tick) = refl
-  other_effect (Some Report) = refl
+  other_effect op = refl
 
   other_unless : (o : Option ℕ) → map_alone space (effect_unless m c o) ≡ map_alone space m
   other_unless (Some status) = refl

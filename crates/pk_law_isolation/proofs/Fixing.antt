@@ -3,7 +3,7 @@ use Rattle.std.proofs.Common.{◌≡◌, inl, inr, ℕ, ◌+◌, ◌∷◌, [], 
 use Rattle.std.{specs.FinMap.len, proofs.Math.Seq.take-append_seam, proofs.lemmas.Grind.flat_map-append}
 use Rattle.pk_base.{specs.Shape.Shape, specs.Shape.pinned, specs.Fields.u32, specs.Map.Map, specs.Map.live}
 use Rattle.pk_nvme.{specs.declared.opcode.Opcode.Opcode, specs.Opcode.op_of, specs.Command.Command, specs.Reply.Reply}
-use Rattle.pk_nvme.specs.declared.opcode.Opcode.TheVariants.{Flush, Store, Retrieve, List as ListKeys, Delete, Exist, Tick, Report}
+use Rattle.pk_nvme.specs.declared.opcode.Opcode.TheVariants.{Report}
 use Rattle.pk_model.{specs.Spaces.Terms, specs.Spaces.limit_of, specs.Spaces.in_space, specs.Answer.reply_of, specs.Answer.reply, specs.Answer.refused, specs.Answer.success}
 use Rattle.pk_model.specs.Run.{Step, Run, Exchange, commands, faults}
 use Rattle.pk_law_isolation.{proofs.Unfolded.reply_unless, proofs.Unfolded.reply_is, specs.Isolation.told_reply, specs.Isolation.told_replies, specs.Isolation.Fixed}
@@ -14,16 +14,9 @@ front a b c d e own =
 
 module _ (shape : Shape) (terms : Terms) (m : Map) (c : Command) (own own' : List ℕ) where
   told_alike : (most frames : ℕ) (p : Map) (op : Option Opcode) → told_reply op (reply_of shape most frames p own c op) ≡ told_reply op (reply_of shape most frames p own' c op)
-  told_alike most frames p None = refl
-  told_alike most frames p (Some Flush) = refl
-  told_alike most frames p (Some Store) = refl
-  told_alike most frames p (Some Retrieve) = refl
-  told_alike most frames p (Some ListKeys) = refl
-  told_alike most frames p (Some Delete) = refl
-  told_alike most frames p (Some Exist) = refl
-  told_alike most frames p (Some Tick) = refl
   told_alike most frames p (Some Report) =
       ap (success 0) (front (live shape p) most (len p) (pinned shape frames) frames own ∙ sym (front (live shape p) most (len p) (pinned shape frames) frames own'))
+  told_alike most frames p op = refl
 
   told_unless : (o : Option ℕ) → told_reply (op_of c.opcode) (reply_unless shape terms m own c o) ≡ told_reply (op_of c.opcode) (reply_unless shape terms m own' c o)
   told_unless (Some status) = refl
@@ -48,31 +41,19 @@ module _ (shape : Shape) (terms : Terms) where
   two m m' m'' c a b (inr x) step none none' = absurd (none (ap (λ (r : Reply). r.status) x.replied))
   two m m' m'' c a b (inl x) (inr y) none none' = absurd (none' (ap (λ (r : Reply). r.status) y.replied))
 
-  first_of : List Command → Command → Command
-  first_of [] c = c
-  first_of (x ∷ xs) c = x
-
-  rest_of : List Command → List Command
-  rest_of [] = []
-  rest_of (x ∷ xs) = xs
-
   pub two_runs : (m m' m'' : Map) (xs ys : List Exchange) → Run shape terms m xs m' → Run shape terms m ys m'' → commands xs ≡ commands ys → faults xs ≡ 0 → faults ys ≡ 0
       → (told_replies xs ≡ told_replies ys) × (m' ≡ m'')
-  unfolding first_of rest_of
   two_runs m m' m'' [] [] run run' same none none' = (refl, sym run ∙ run')
   two_runs m m' m'' [] (y ∷ ys) run run' same none none' = cc
   two_runs m m' m'' (x ∷ xs) [] run run' same none none' = cc
   two_runs m m' m'' (x ∷ xs) (y ∷ ys) (next, step, rest) (next', step', rest') same none none' =
       let here = head_none x.reply.status (faults xs) none in
       let there = head_none y.reply.status (faults ys) none' in
-      let same_first : y.command ≡ x.command = sym (ap (λ cs. first_of cs x.command) same) in
+      let all : x.command ∷ commands xs ≡ y.command ∷ commands ys = same in
+      let same_first : y.command ≡ x.command = cc in
       let one = two m next next' x.command x.reply y.reply step (subst (λ c. Step shape terms m c y.reply next') same_first step') here.0 there.0 in
-      let more = two_runs next m' m'' xs ys rest (subst (λ n. Run shape terms n ys m'') (sym one.1) rest') (ap rest_of same) here.1 there.1 in
-      ((λ i. one_told x y same_first one.0 i ∷ more.0 i), more.1)
-    where
-      one_told : (x y : Exchange) → y.command ≡ x.command → told_reply (op_of x.command.opcode) x.reply ≡ told_reply (op_of x.command.opcode) y.reply
-          → told_reply (op_of x.command.opcode) x.reply ≡ told_reply (op_of y.command.opcode) y.reply
-      one_told x y same is = is ∙ ap (λ (c : Command). told_reply (op_of c.opcode) y.reply) (sym same)
+      let more = two_runs next m' m'' xs ys rest (subst (λ n. Run shape terms n ys m'') (sym one.1) rest') (cc) here.1 there.1 in
+      ((λ i. (one.0 ∙ ap (λ (c : Command). told_reply (op_of c.opcode) y.reply) (sym same_first)) i ∷ more.0 i), more.1)
 
 pub fixed : Fixed
 fixed shape terms m m' m'' xs ys run run' same none none' = two_runs shape terms m m' m'' xs ys run run' same none none'

@@ -4,7 +4,7 @@ use Rattle.std.proofs.Common.{slice_index_or, slice_set, Some, None, Option}
 use Rattle.std.specs.FinMap.{empty}
 use Rattle.pk_base.{specs.Choices.or_else, specs.Shape.Shape, specs.Map.Map, proofs.Logic.both_true}
 use Rattle.pk_nvme.{specs.declared.limits.TheConstants.ALL_NAMESPACES, specs.declared.opcode.Opcode.Opcode, specs.Opcode.op_of, specs.Command.Command, specs.Reply.Reply, specs.Reply.refusal}
-use Rattle.pk_nvme.specs.declared.opcode.Opcode.TheVariants.{Flush, Store, Retrieve, List as ListKeys, Delete, Exist, Tick, Report}
+use Rattle.pk_nvme.specs.declared.opcode.Opcode.TheVariants.{Flush}
 use Rattle.pk_nvme.specs.declared.status.TheConstants.{INVALID_COMMAND_OPCODE, INVALID_NAMESPACE_OR_FORMAT, INVALID_KEY_SIZE}
 use Rattle.pk_model.specs.Spaces.{Terms, is_space, limit_of, in_space}
 use Rattle.pk_model.specs.Answer.{check, is_namespace, is_key_length, size_fault, fault_of, early, late_of, refused, effect, map_after, reply_of, reply, Answer, success}
@@ -142,13 +142,7 @@ module _ (shape : Shape) (terms : Terms) (m m' : Map) (c : Command) (a : Reply) 
         | true ↦ λ inside _. in_own inside
         | false ↦ λ outside all. in_all e all
       ] refl is
-  in_namespace Store e is = in_own is
-  in_namespace Retrieve e is = in_own is
-  in_namespace ListKeys e is = in_own is
-  in_namespace Delete e is = in_own is
-  in_namespace Exist e is = in_own is
-  in_namespace Tick e is = in_own is
-  in_namespace Report e is = in_own is
+  in_namespace op e is = in_own is
 
   answer_by : (o : Option Opcode) → op_of c.opcode ≡ o → AnswerBy shape terms (space_maps terms m) c a (space_maps terms m') o
   answer_by None e = is_refused INVALID_COMMAND_OPCODE (ap (fault_of (length terms.limits) shape c) e)

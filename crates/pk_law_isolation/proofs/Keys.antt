@@ -1,7 +1,6 @@
 -- Keys with their namespaces, and their order.
-use Rattle.std.{proofs.lemmas.Bool.eqb-false, specs.Ordering.eq_by_cmp, specs.Ordering.ordering_then, specs.Cmp.tied_itself, specs.Cmp.nat_cmp_total, specs.Cmp.Lexicographic.slice_cmp}
-use Rattle.std.proofs.Common.{◌≡◌, ℕ, ◌≤◌, ◌∷◌, [], List, true, false, cond, refl, sym, ap, subst, ◌∙◌, arith, ◌==◌, eqb-true, is_eq, Ordering, Less, Equal, Greater, nat_cmp, T}
-use Rattle.std.specs.FinMap.{nat_cmp-IsAntisymmetric}
+use Rattle.std.{specs.Ordering.eq_by_cmp, specs.Ordering.ordering_then, specs.Cmp.tied_itself, specs.Cmp.nat_cmp_total, specs.Cmp.Lexicographic.slice_cmp}
+use Rattle.std.proofs.Common.{◌≡◌, ℕ, ◌≤◌, ◌∷◌, [], List, true, false, cond, refl, sym, ap, ◌∙◌, arith, ◌==◌, eqb-true, is_eq, nat_lt, Less, Equal, Greater, nat_cmp}
 use Rattle.pk_base.specs.Key.{Key, key_cmp, space_of, bytes_of}
 use Rattle.pk_law_isolation.specs.Isolation.{key_in_first}
 
@@ -22,21 +21,12 @@ pub moved_cmp : (space : ℕ) (a b : Key) → IsIn space a → IsIn space b → 
 moved_cmp space a b is_a is_b =
     tagged_cmp 1 (bytes_of a) (bytes_of b) ∙ sym (tagged_cmp space (bytes_of a) (bytes_of b)) ∙ (λ i. key_cmp (sym is_a i) (sym is_b i))
 
--- numbers that differ do not tie
-number_apart : (m n : ℕ) → (m == n) ≡ false → is_eq (nat_cmp m n) ≡ false
-number_apart m n apart = elim (nat_cmp m n) as (λ r. nat_cmp m n ≡ r → is_eq r ≡ false) [
-  | Less ↦ λ e. refl
-  | Equal ↦ λ e. absurd (eqb-false m n apart (nat_cmp-IsAntisymmetric m n e))
-  | Greater ↦ λ e. refl
-] refl
-
-then_apart : (r s : Ordering) → is_eq r ≡ false → is_eq (ordering_then r s) ≡ false
-then_apart Less s e = refl
-then_apart Equal s e = absurd (subst T e tt)
-then_apart Greater s e = refl
-
+-- keys of different namespaces do not tie
 pub apart : (s n : ℕ) (a b : List ℕ) → (s == n) ≡ false → eq_by_cmp key_cmp (s ∷ a) (n ∷ b) ≡ false
-apart s n a b differ = then_apart (nat_cmp s n) (slice_cmp nat_cmp a b) (number_apart s n differ)
+apart s n a b differ = elim (nat_lt s n) as (λ t. is_eq (ordering_then (cond t Less (cond (s == n) Equal Greater)) (slice_cmp nat_cmp a b)) ≡ false) [
+  | true ↦ refl
+  | false ↦ ap (λ t. is_eq (ordering_then (cond t Equal Greater) (slice_cmp nat_cmp a b))) differ
+]
 
 -- a key ties with one of namespace 1 if it is of namespace 1 and their bytes tie
 pub first_tie : (q : Key) (b : List ℕ) → eq_by_cmp key_cmp q (1 ∷ b) ≡ cond (space_of q == 1) (eq_by_cmp key_cmp (bytes_of q) b) false

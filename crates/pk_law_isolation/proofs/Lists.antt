@@ -1,7 +1,7 @@
 -- Lists of entries of one namespace, moved to namespace 1.
 use Rattle.std.proofs.Common.{◌≡◌, ℕ, ◌+◌, ◌-◌, ◌≤◌, ◌∷◌, [], List, map, length, filter, Bool, true, false, cond, refl, ap, ◌∙◌, ◌==◌, ◌&&◌, not, nat_le, is_eq, is_lt, if◌then◌else◌, ◌++◌, flat_map}
 use Rattle.std.proofs.Common.{Some, None, suc}
-use Rattle.std.{specs.List.AllByRecursion, specs.Ordering.eq_by_cmp, specs.FinMap.Entries.find, specs.FinMap.Entries.below_all, specs.FinMap.Entries.is_sorted, specs.FinMap.Entries.where_key}
+use Rattle.std.{proofs.lemmas.List.length-map, specs.List.AllByRecursion, specs.Ordering.eq_by_cmp, specs.FinMap.Entries.find, specs.FinMap.Entries.below_all, specs.FinMap.Entries.is_sorted, specs.FinMap.Entries.where_key}
 use Rattle.pk_base.{specs.Key.Key, specs.Key.key_cmp, specs.Key.space_of, specs.Key.bytes_of, specs.Shape.Shape, specs.Map.pages_in, specs.Map.pages_of, specs.Fields.u32}
 use Rattle.pk_law_isolation.{specs.Isolation.key_in_first, specs.Isolation.entries_moved, proofs.Keys.IsIn, proofs.Keys.is_in, proofs.Keys.moved_cmp, proofs.Keys.first_tie}
 use Rattle.pk_model.specs.Answer.{listed, fitting, list_bytes}
@@ -73,9 +73,5 @@ all_listed : (ks : List Key) → flat_map listed (map key_in_first ks) ≡ flat_
 all_listed [] = refl
 all_listed (k ∷ ks) = ap (λ more. listed k ++ more) (all_listed ks)
 
-same_count : (ks : List Key) → length (map key_in_first ks) ≡ length ks
-same_count [] = refl
-same_count (k ∷ ks) = ap (λ n. suc n) (same_count ks)
-
 pub listed_moved : (ks : List Key) → list_bytes (map key_in_first ks) ≡ list_bytes ks
-listed_moved ks = λ i. u32 (same_count ks i) ++ all_listed ks i
+listed_moved ks = λ i. u32 (length-map ks key_in_first i) ++ all_listed ks i

@@ -1,7 +1,7 @@
 -- One namespace of a map, and the map of a drive that has it alone.
 use Rattle.std.proofs.Common.{◌≡◌, ℕ, ◌≤◌, ◌∷◌, List, length, Bool, true, false, cond, refl, sym, ap, ◌∙◌, ◌==◌, T, subst, Some, None, Option, is_eq, arith}
-use Rattle.std.{specs.Ordering.eq_by_cmp, specs.FinMap.Entries.find}
 use Rattle.std.specs.FinMap.{get, insert, remove, len, entries, entries_sorted, entries-from_sorted, get-entries, get-insert, get-remove, len-entries}
+use Rattle.std.{specs.Ordering.eq_by_cmp, specs.FinMap.Entries.find}
 use Rattle.pk_base.{specs.Key.Key, specs.Key.key_cmp, specs.Key.space_of, specs.Key.bytes_of, specs.Shape.Shape, specs.Map.Map, specs.Map.live, specs.Map.pages_in}
 use Rattle.pk_model.{specs.Spaces.in_space, proofs.MapLemmas.key_total, proofs.SpaceLemmas.entries_in, proofs.SpaceLemmas.by_keys, proofs.SpaceLemmas.get_in_space, proofs.SpaceLemmas.get_own}
 use Rattle.pk_law_isolation.{specs.Isolation.entries_moved, specs.Isolation.map_alone, proofs.Keys.first_tie, proofs.Keys.tagged_cmp, proofs.Keys.apart, proofs.Keys.is_in}
@@ -45,36 +45,33 @@ module _ (space : ℕ) (some : 1 ≤ space) where
   ties : (b c : List ℕ) → eq_by_cmp key_cmp (space ∷ b) (space ∷ c) ≡ eq_by_cmp key_cmp b c
   ties b c = ap is_eq (tagged_cmp space b c)
 
+  -- a map with one other value in this namespace, and one with it in the first
+  set_alike : (m n a : Map) (b : List ℕ) (v : Option (List ℕ)) → ((d : List ℕ) → get n (space ∷ d) ≡ cond (eq_by_cmp key_cmp (space ∷ d) (space ∷ b)) v (get m (space ∷ d)))
+      → ((q : Key) → get a q ≡ cond (eq_by_cmp key_cmp q (1 ∷ b)) v (get (map_alone space m) q)) → map_alone space n ≡ a
+  set_alike m n a b v here there = by_keys _ _ (λ q.
+      get_alone n q
+      ∙ ap (λ x. cond (space_of q == 1) x None) (here (bytes_of q) ∙ ap (λ e. cond e v (get m (space ∷ bytes_of q))) (ties (bytes_of q) b))
+      ∙ twice (space_of q == 1) (eq_by_cmp key_cmp (bytes_of q) b) v (get m (space ∷ bytes_of q)) None
+      ∙ (λ i. cond (sym (first_tie q b) i) v (sym (get_alone m q) i))
+      ∙ sym (there q))
+
   pub alone_insert : (m : Map) (b : List ℕ) (v : List ℕ) → map_alone space (insert m (space ∷ b) v) ≡ insert (map_alone space m) (1 ∷ b) v
-  alone_insert m b v = by_keys _ _ (λ q.
-      get_alone (insert m (space ∷ b) v) q
-      ∙ ap (λ x. cond (space_of q == 1) x None) (get-insert key_total m (space ∷ b) v (space ∷ bytes_of q) ∙ ap (λ e. cond e (Some v) (get m (space ∷ bytes_of q))) (ties (bytes_of q) b))
-      ∙ twice (space_of q == 1) (eq_by_cmp key_cmp (bytes_of q) b) (Some v) (get m (space ∷ bytes_of q)) None
-      ∙ (λ i. cond (sym (first_tie q b) i) (Some v) (sym (get_alone m q) i))
-      ∙ sym (get-insert key_total (map_alone space m) (1 ∷ b) v q))
+  alone_insert m b v = set_alike m _ _ b (Some v) (λ d. get-insert key_total m (space ∷ b) v (space ∷ d)) (get-insert key_total (map_alone space m) (1 ∷ b) v)
 
   pub alone_remove : (m : Map) (b : List ℕ) → map_alone space (remove m (space ∷ b)) ≡ remove (map_alone space m) (1 ∷ b)
-  alone_remove m b = by_keys _ _ (λ q.
-      get_alone (remove m (space ∷ b)) q
-      ∙ ap (λ x. cond (space_of q == 1) x None) (get-remove key_total m (space ∷ b) (space ∷ bytes_of q) ∙ ap (λ e. cond e None (get m (space ∷ bytes_of q))) (ties (bytes_of q) b))
-      ∙ twice (space_of q == 1) (eq_by_cmp key_cmp (bytes_of q) b) None (get m (space ∷ bytes_of q)) None
-      ∙ (λ i. cond (sym (first_tie q b) i) None (sym (get_alone m q) i))
-      ∙ sym (get-remove key_total (map_alone space m) (1 ∷ b) q))
+  alone_remove m b = set_alike m _ _ b None (λ d. get-remove key_total m (space ∷ b) (space ∷ d)) (get-remove key_total (map_alone space m) (1 ∷ b))
+
+  -- a map with the same values in this namespace
+  alike : (m n : Map) → ((b : List ℕ) → get n (space ∷ b) ≡ get m (space ∷ b)) → map_alone space n ≡ map_alone space m
+  alike m n same = by_keys _ _ (λ q. get_alone n q ∙ ap (λ x. cond (space_of q == 1) x None) (same (bytes_of q)) ∙ sym (get_alone m q))
 
   module _ (other : ℕ) (differ : (space == other) ≡ false) where
     pub insert_elsewhere : (m : Map) (b : List ℕ) (v : List ℕ) → map_alone space (insert m (other ∷ b) v) ≡ map_alone space m
-    insert_elsewhere m b v = by_keys _ _ (λ q.
-        get_alone (insert m (other ∷ b) v) q
-        ∙ ap (λ x. cond (space_of q == 1) x None) (get-insert key_total m (other ∷ b) v (space ∷ bytes_of q)
-        ∙ ap (λ e. cond e (Some v) (get m (space ∷ bytes_of q))) (apart space other (bytes_of q) b differ))
-        ∙ sym (get_alone m q))
+    insert_elsewhere m b v = alike m (insert m (other ∷ b) v) (λ d.
+        get-insert key_total m (other ∷ b) v (space ∷ d) ∙ ap (λ e. cond e (Some v) (get m (space ∷ d))) (apart space other d b differ))
 
     pub remove_elsewhere : (m : Map) (b : List ℕ) → map_alone space (remove m (other ∷ b)) ≡ map_alone space m
-    remove_elsewhere m b = by_keys _ _ (λ q.
-        get_alone (remove m (other ∷ b)) q
-        ∙ ap (λ x. cond (space_of q == 1) x None) (get-remove key_total m (other ∷ b) (space ∷ bytes_of q)
-        ∙ ap (λ e. cond e None (get m (space ∷ bytes_of q))) (apart space other (bytes_of q) b differ))
-        ∙ sym (get_alone m q))
+    remove_elsewhere m b = alike m (remove m (other ∷ b)) (λ d. get-remove key_total m (other ∷ b) (space ∷ d) ∙ ap (λ e. cond e None (get m (space ∷ d))) (apart space other d b differ))
 
   -- the drive that has this namespace alone has nothing outside its first one
   pub first_alone : (m : Map) → in_space 1 (map_alone space m) ≡ map_alone space m

@@ -1,6 +1,8 @@
 -- The live pages of a map are those of its namespaces together.
-use Rattle.std.proofs.Common.{◌≡◌, ℕ, zero, suc, ◌+◌, ◌-◌, ◌≤◌, ◌<◌, ◌∷◌, [], List, length, sum, slice_index, true, false, cond, refl, sym, ap, subst, ◌∙◌, arith, ◌==◌, None, eqb-true, ne_eqb}
-use Rattle.std.{proofs.lemmas.Bool.eqb-false, proofs.lemmas.List.Sums.sum_by-cons, specs.FinMap.get, specs.FinMap.entries, specs.FinMap.Entries.where_key, specs.List.AllByRecursion}
+use Rattle.std.proofs.lemmas.Bool.Decides.{nat_tests}
+use Rattle.std.proofs.Common.{if◌then◌else◌, nat_le, nat_lt, ◌&&◌, ◌≡◌, ℕ, zero, suc, ◌+◌, ◌-◌, ◌≤◌, ◌<◌, ◌∷◌, [], List, length, sum, slice_index, true, false, cond, refl, sym, ap, subst, ◌∙◌, arith}
+use Rattle.std.proofs.Common.{◌==◌, None}
+use Rattle.std.{proofs.lemmas.List.Sums.sum_by-cons, specs.FinMap.get, specs.FinMap.entries, specs.FinMap.Entries.where_key, specs.List.AllByRecursion}
 use Rattle.pk_base.{specs.Key.Key, specs.Key.key_cmp, specs.Key.space_of, specs.Key.bytes_of, specs.Shape.Shape, specs.Map.pages_in, specs.Map.pages_of}
 use Rattle.pk_model.proofs.SpaceLemmas.{entries_in, by_keys, get_in_space}
 use Rattle.pk_law_isolation.{specs.Sums.WithinSum, specs.Sums.FirstIsPart, proofs.Keys.is_in, proofs.Lists.Entries, proofs.Parts.get_alone}
@@ -18,41 +20,21 @@ module _ (shape : Shape) where
   none_sum from zero = refl
   none_sum from (suc n) = let more = none_sum (from + 1) n in omega (arith, more)
 
-  -- an entry of an earlier namespace adds nothing
-  other_part : (space : ℕ) (e : Key × List ℕ) (es : Entries) → (space_of e.0 == space) ≡ false → space_pages space (e ∷ es) ≡ space_pages space es
-  other_part space e es differ = ap (λ t. pages_in shape (cond t (e ∷ where_key key_cmp (λ k. space_of k == space) es) (where_key key_cmp (λ k. space_of k == space) es))) differ
+  -- one entry more
+  part_more : (space : ℕ) (e : Key × List ℕ) (es : Entries) → space_pages space (e ∷ es) ≡ (if space_of e.0 == space then pages_of shape e.1 else 0) + space_pages space es
+  part_more space e es = elim (space_of e.0 == space) as (λ t. pages_in shape (cond t (e ∷ where_key key_cmp (λ k. space_of k == space) es) (where_key key_cmp (λ k. space_of k == space) es))
+      ≡ (if t then pages_of shape e.1 else 0) + space_pages space es) [ true ↦ refl | false ↦ omega arith ]
 
-  own_part : (space : ℕ) (e : Key × List ℕ) (es : Entries) → (space_of e.0 == space) ≡ true → space_pages space (e ∷ es) ≡ pages_of shape e.1 + space_pages space es
-  own_part space e es is = ap (λ t. pages_in shape (cond t (e ∷ where_key key_cmp (λ k. space_of k == space) es) (where_key key_cmp (λ k. space_of k == space) es))) is
-
-  before : (from n : ℕ) (e : Key × List ℕ) (es : Entries) → space_of e.0 < from → space_pages_sum from n (e ∷ es) ≡ space_pages_sum from n es
-  before from zero e es less = refl
-  before from (suc n) e es less =
-      λ i. other_part from e es (ne_eqb (space_of e.0) from (λ is. omega (arith, less, is))) i + before (from + 1) n e es (omega (arith, less)) i
-
-  -- one of these namespaces adds its pages
-  within : (from n : ℕ) (e : Key × List ℕ) (es : Entries) → from ≤ space_of e.0 → space_of e.0 < from + n → space_pages_sum from n (e ∷ es) ≡ pages_of shape e.1 + space_pages_sum from n es
-  within from zero e es low high = absurd (omega (arith, low, high))
-  within from (suc n) e es low high = elim (space_of e.0 == from) as (λ t. (space_of e.0 == from) ≡ t → space_pages_sum from (suc n) (e ∷ es) ≡ pages_of shape e.1 + space_pages_sum from (suc n) es) [
-    | true ↦ λ is.
-        let own = own_part from e es is in
-        let rest = before (from + 1) n e es (let same = eqb-true (space_of e.0) from is in omega (arith, same)) in
-        omega (arith, own, rest)
-    | false ↦ λ is.
-        let other = other_part from e es is in
-        let apart = eqb-false (space_of e.0) from is in
-        let above : from < space_of e.0 = beyond from (space_of e.0) low (λ e. apart (sym e)) in
-        let rest = within (from + 1) n e es (omega (arith, above)) (omega (arith, high)) in
-        omega (arith, other, rest)
-  ] refl
-    where
-      beyond : (a b : ℕ) → a ≤ b → (a ≡ b → ⊥) → a < b
-      beyond a b low apart = grind (arith, low, apart)
+  -- adds its pages if it is of one of these namespaces
+  sum_more : (from n : ℕ) (e : Key × List ℕ) (es : Entries)
+      → space_pages_sum from n (e ∷ es) ≡ (if nat_le from (space_of e.0) && nat_lt (space_of e.0) (from + n) then pages_of shape e.1 else 0) + space_pages_sum from n es
+  sum_more from zero e es = grind (arith, nat_tests)
+  sum_more from (suc n) e es = grind (arith, nat_tests, sum_more (from + 1) n e es, part_more from e es)
 
   pub all_parts : (n : ℕ) (es : Entries) → AllByRecursion (λ e. (1 ≤ space_of e.0) × (space_of e.0 ≤ n)) es → pages_in shape es ≡ space_pages_sum 1 n es
   all_parts n [] all = sym (none_sum 1 n)
   all_parts n (e ∷ es) all =
-      ap (λ k. pages_of shape e.1 + k) (all_parts n es all.1) ∙ sym (within 1 n e es all.0.0 (omega (arith, all.0.1)))
+      grind (arith, nat_tests, all_parts n es all.1, sum_more 1 n e es, all.0)
 
   -- n namespaces within their limits
   bounded : (from : ℕ) (limits : List ℕ) (es : Entries) → ((i : ℕ) → i < length limits → space_pages (from + i) es ≤ slice_index limits i) → space_pages_sum from (length limits) es ≤ sum limits

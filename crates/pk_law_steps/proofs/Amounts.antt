@@ -1,19 +1,20 @@
 -- How many entries a run and an epoch have, and how many blocks hold them.
 use Rattle.std.proofs.Common.{◌≡◌, inl, inr, ℕ, zero, suc, ◌+◌, ◌-◌, ◌*◌, ◌/◌, ◌<◌, ◌≤◌, min, max, refl, sym, ap, subst, ◌∙◌, arith, Bool, true, ◌&&◌, T, List, [], ◌∷◌, ◌++◌, length, map, zip, nat_le}
-use Rattle.std.proofs.Common.{◌==◌, Some, Ok, leb→le, length-append, mul-le-mul_right, add-mul, le_trans}
-use Rattle.std.{specs.Prelude.bytes_eq, specs.List.list_all, specs.List.concat, specs.FinMap.Entries.is_sorted}
+use Rattle.std.proofs.Common.{Some, Ok, leb→le, length-append, mul-le-mul_right, add-mul, le_trans}
+use Rattle.std.{specs.List.list_all, specs.List.concat, specs.FinMap.Entries.is_sorted}
 use Rattle.pk_base.{specs.Key.key_cmp, specs.Entry.Entry, specs.EntryBytes.entries_from, specs.Refusal.damaged, specs.Refusal.ensure, specs.Refusal.some_or, specs.Firsts.firsts, specs.Merge.room}
 use Rattle.pk_base.specs.Shape.{Shape, IsShape, page_entries, buffer, caps, run_pages, run_blocks, blocks_of, meta_blocks, deepest}
 use Rattle.pk_base.specs.Page.{Page, erased, whole, torn, page_in, pages_of_blocks, NumberedPages, commits_of}
-use Rattle.pk_base.proofs.Logic.{left_part, right_part, ok_same, passed, is_true, of_true}
+use Rattle.pk_base.proofs.Logic.{left_part, right_part, ok_same, passed}
 use Rattle.pk_base.{proofs.Sound.if_some, proofs.ShapeLemmas.block_pages_positive, proofs.ShapeLemmas.ceil_most}
 use Rattle.pk_space.specs.Entries.{in_spaces}
 use Rattle.pk_jrnfmt.{specs.Page.journal_entries, specs.Epoch.may_follow, specs.Epoch.journal, specs.Epoch.epoch}
 use Rattle.pk_meta.{specs.Page.meta_entries, specs.Run.may_hold, specs.Run.meta, specs.Run.run}
-use Rattle.pk_rootfmt.{specs.Root.Root, specs.Root.is_root, proofs.PageLemmas.root_parts}
+use Rattle.pk_rootfmt.{specs.Root.Root, specs.Root.is_root}
 use Rattle.pk_model.{proofs.StrangePages.bind_ok, proofs.StrangePages.some_ok, proofs.Live.ceil_room}
-use Rattle.pk_model.proofs.RootAlone.{bytes_equal, head_same, tail_same}
-use Rattle.pk_law_steps.{specs.Fitting.QuotaFits, proofs.FourRuns.IsLevel, proofs.FourRuns.four_of_root, proofs.FourRuns.four_of}
+use Rattle.pk_model.proofs.RootAlone.{head_same, tail_same}
+use Rattle.pk_law_steps.{specs.Fitting.QuotaFits, proofs.FourRuns.IsLevel, proofs.FourRuns.four_of_root}
+pub use Rattle.pk_law_steps.proofs.FourRuns.{four_of_root as counted_of}
 
 -- ---- entries that are read
 
@@ -59,13 +60,11 @@ module _ (shape : Shape) (spaces : ℕ) (at : ℕ → Page) where
 
   journal_most : (number index : ℕ) (before : List Entry) (pages : NumberedPages) (es : List Entry)
       → length (firsts before) ≤ buffer shape → journal shape spaces number index before pages ≡ Ok es → length (firsts es) ≤ buffer shape
-  journal_most number index before [] es few ok = subst (λ (x : List Entry). length (firsts x) ≤ buffer shape) (ok_same before es ok) few
-  journal_most number index before ((p, erased) ∷ pages) es few ok = subst (λ (x : List Entry). length (firsts x) ≤ buffer shape) (ok_same before es ok) few
-  journal_most number index before ((p, torn) ∷ pages) es few ok = subst (λ (x : List Entry). length (firsts x) ≤ buffer shape) (ok_same before es ok) few
   journal_most number index before ((p, whole bytes) ∷ pages) es few ok =
       let read = bind_ok (some_or (journal_entries shape number index bytes) (damaged p)) _ es ok in
       let tested = bind_ok (ensure (may_follow shape spaces before read.0) p) _ es read.2 in
       journal_most number (index + 1) (before ++ read.0) pages es (leb→le _ _ (left_part (nat_le (length (firsts (before ++ read.0))) (buffer shape)) (in_spaces spaces read.0) (passed _ _ tested.0 tested.1))) tested.2
+  journal_most number index before pages es few ok = subst (λ (x : List Entry). length (firsts x) ≤ buffer shape) (ok_same before es ok) few
 
   -- an epoch has no more keys than a buffer
   pub epoch_most : (number : ℕ) (blocks : List ℕ) (es : List Entry) → epoch shape spaces at number blocks ≡ Ok es → length (firsts es) ≤ buffer shape
@@ -74,22 +73,6 @@ module _ (shape : Shape) (spaces : ℕ) (at : ℕ → Page) where
 
 -- ---- counts of a root
 
--- what a root says of its runs
-pub record Counted (shape : Shape) (root : Root) : Type 0 where
-  pub fit : T (list_all (λ p. nat_le p.0 (p.1 * page_entries shape)) (zip root.counts (caps shape)))
-  pub sizes : map (λ bs. length bs) root.runs ≡ map (run_blocks shape) root.counts
-
-pub counted_of : (shape : Shape) (root : Root) → T (is_root shape root) → Counted shape root
-counted_of shape root is =
-    let sized : Bool = length root.counts == 4 in
-    let fit : Bool = list_all (λ p. nat_le p.0 (p.1 * page_entries shape)) (zip root.counts (caps shape)) in
-    let same : Bool = bytes_eq (map length root.runs) (map (run_blocks shape) root.counts) in
-    let has = of_true _ (root_parts shape root (is_true _ is)).runs in
-    record {
-      fit = right_part sized fit (left_part (sized && fit) same has);
-      sizes = bytes_equal (map length root.runs) (map (run_blocks shape) root.counts) (right_part (sized && fit) same has);
-    }
-
 -- four counts within the caps
 pub record WithinCaps (shape : Shape) (n1 n2 n3 n4 : ℕ) : Type 0 where
   pub one : n1 ≤ 4 * page_entries shape
@@ -97,17 +80,14 @@ pub record WithinCaps (shape : Shape) (n1 n2 n3 n4 : ℕ) : Type 0 where
   pub three : n3 ≤ 64 * page_entries shape
   pub four : n4 ≤ deepest shape * page_entries shape
 
+four_parts : (a b c d : Bool) → T (a && (b && (c && (d && true)))) → T a × T b × T c × T d
+four_parts true true true true t = (tt, tt, tt, tt)
+four_parts a b c d t = absurd t
+
 pub within_caps : (shape : Shape) (n1 n2 n3 n4 : ℕ) → T (list_all (λ p. nat_le p.0 (p.1 * page_entries shape)) (zip (n1 ∷ n2 ∷ n3 ∷ n4 ∷ []) (caps shape))) → WithinCaps shape n1 n2 n3 n4
 within_caps shape n1 n2 n3 n4 is =
-    let e = page_entries shape in
-    let first = left_part (nat_le n1 (4 * e)) (nat_le n2 (16 * e) && (nat_le n3 (64 * e) && (nat_le n4 (deepest shape * e) && true))) is in
-    let behind = right_part (nat_le n1 (4 * e)) (nat_le n2 (16 * e) && (nat_le n3 (64 * e) && (nat_le n4 (deepest shape * e) && true))) is in
-    let second = left_part (nat_le n2 (16 * e)) (nat_le n3 (64 * e) && (nat_le n4 (deepest shape * e) && true)) behind in
-    let more = right_part (nat_le n2 (16 * e)) (nat_le n3 (64 * e) && (nat_le n4 (deepest shape * e) && true)) behind in
-    let third = left_part (nat_le n3 (64 * e)) (nat_le n4 (deepest shape * e) && true) more in
-    let last = right_part (nat_le n3 (64 * e)) (nat_le n4 (deepest shape * e) && true) more in
-    let fourth = left_part (nat_le n4 (deepest shape * e)) true last in
-    record { one = leb→le _ _ first; two = leb→le _ _ second; three = leb→le _ _ third; four = leb→le _ _ fourth }
+    let fit = four_parts (nat_le n1 (4 * page_entries shape)) (nat_le n2 (16 * page_entries shape)) (nat_le n3 (64 * page_entries shape)) (nat_le n4 (deepest shape * page_entries shape)) is in
+    record { one = leb→le _ _ fit.0; two = leb→le _ _ fit.1; three = leb→le _ _ fit.2; four = leb→le _ _ fit.3 }
 
 -- ---- blocks
 
@@ -136,43 +116,28 @@ module _ (shape : Shape) (is_shape : IsShape shape) where
       within : (l cap : ℕ) → room shape l ≡ cap * page_entries shape → cap ≤ max 64 (deepest shape) → room shape l ≤ max 64 (deepest shape) * page_entries shape
       within l cap e small = subst (λ n. n ≤ max 64 (deepest shape) * page_entries shape) (sym e) (mul-le-mul_right (page_entries shape) small)
 
-  quota_four : (n1 n2 n3 n4 : ℕ) (b1 b2 b3 b4 : List ℕ) (level count : ℕ) → WithinCaps shape n1 n2 n3 n4
-      → map (λ bs. length bs) (b1 ∷ b2 ∷ b3 ∷ b4 ∷ []) ≡ map (run_blocks shape) (n1 ∷ n2 ∷ n3 ∷ n4 ∷ [])
-      → IsLevel level → count ≤ room shape level → length (concat (b1 ∷ b2 ∷ b3 ∷ b4 ∷ [])) + run_blocks shape count ≤ meta_blocks shape
-  unfolding meta_blocks
-  quota_four n1 n2 n3 n4 b1 b2 b3 b4 level count caps sizes which few =
-      let one = head_same _ _ _ _ sizes in
-      let after_one = tail_same _ _ _ _ sizes in
-      let two = head_same _ _ _ _ after_one in
-      let after_two = tail_same _ _ _ _ after_one in
-      let three = head_same _ _ _ _ after_two in
-      let four = head_same _ _ _ _ (tail_same _ _ _ _ after_two) in
-      let most_one = run_blocks_most n1 4 caps.one in
-      let most_two = run_blocks_most n2 16 caps.two in
-      let most_three = run_blocks_most n3 64 caps.three in
-      let most_four = run_blocks_most n4 (deepest shape) caps.four in
-      let output = output_blocks level count which few in
-      let all : length (concat (b1 ∷ b2 ∷ b3 ∷ b4 ∷ [])) ≡ length b1 + (length b2 + (length b3 + length b4)) = of_four b1 b2 b3 b4 in
-      omega (arith, one, two, three, four, most_one, most_two, most_three, most_four, output, all)
-    where
-      of_four : (a b c d : List ℕ) → length (a ++ (b ++ (c ++ (d ++ [])))) ≡ length a + (length b + (length c + length d))
-      of_four a b c d =
-          let first = length-append a (b ++ (c ++ (d ++ []))) in
-          let second = length-append b (c ++ (d ++ [])) in
-          let third = length-append c (d ++ []) in
-          let fourth = length-append d [] in
-          omega (arith, first, second, third, fourth)
+  -- the blocks of runs with these caps
+  abbrev blocks_for : List ℕ → ℕ
+  blocks_for [] = 0
+  blocks_for (c ∷ cs) = blocks_of shape c + blocks_for cs
+
+  blocks_most : (ns cs : List ℕ) (bs : List (List ℕ)) → length ns ≤ length cs → T (list_all (λ p. nat_le p.0 (p.1 * page_entries shape)) (zip ns cs))
+      → map (λ b. length b) bs ≡ map (run_blocks shape) ns → length (concat bs) ≤ blocks_for cs
+  blocks_most [] cs [] few fit sizes = omega arith
+  blocks_most (n ∷ ns) [] bs few fit sizes = absurd (omega (arith, few))
+  blocks_most (n ∷ ns) (c ∷ cs) (b ∷ bs) few fit sizes =
+      let here = run_blocks_most n c (leb→le _ _ (left_part (nat_le n (c * page_entries shape)) _ fit)) in
+      let rest = blocks_most ns cs bs (omega (arith, few)) (right_part (nat_le n (c * page_entries shape)) _ fit) (tail_same _ _ _ _ sizes) in
+      omega (arith, here, rest, head_same _ _ _ _ sizes, length-append b (concat bs))
+  blocks_most ns cs bs few fit sizes = cc
 
   pub quota : (root : Root) (level count : ℕ) → T (is_root shape root) → IsLevel level → count ≤ room shape level → length (concat root.runs) + run_blocks shape count ≤ meta_blocks shape
+  unfolding meta_blocks
   quota root level count is which few =
       let four = four_of_root shape root is in
-      let known = counted_of shape root is in
-      let c = four_of root.counts four.counts in
-      let b = four_of root.runs four.runs in
-      let caps_are = within_caps shape c.a c.b c.c c.d (subst (λ ns. T (list_all (λ p. nat_le p.0 (p.1 * page_entries shape)) (zip ns (caps shape)))) c.are known.fit) in
-      let sizes : map (λ bs. length bs) (b.a ∷ b.b ∷ b.c ∷ b.d ∷ []) ≡ map (run_blocks shape) (c.a ∷ c.b ∷ c.c ∷ c.d ∷ []) = ap (map (λ bs. length bs)) (sym b.are)
-      ∙ known.sizes ∙ ap (map (run_blocks shape)) c.are in
-      subst (λ bs. length (concat bs) + run_blocks shape count ≤ meta_blocks shape) (sym b.are) (quota_four c.a c.b c.c c.d b.a b.b b.c b.d level count caps_are sizes which few)
+      let runs = blocks_most root.counts (caps shape) root.runs (omega (arith, four.counts)) four.fit four.sizes in
+      let output = output_blocks level count which few in
+      omega (arith, runs, output)
 
 pub levels : (level : ℕ) → 1 ≤ level → level ≤ 4 → IsLevel level
 levels zero low high = absurd (omega (arith, low))

@@ -1,16 +1,15 @@
 -- The root after a merge is a valid successor.
-use Rattle.std.proofs.Common.{◌≡◌, inl, inr, ℕ, ◌-◌, ◌/◌, refl, T, Bool, true, false, List, [], ◌++◌, length, map, nat_le, ◌==◌, ◌||◌, if◌then◌else◌, Ok, leb→le}
-use Rattle.std.specs.List.{concat}
+use Rattle.std.proofs.Common.{◌≡◌, inl, inr, ℕ, ◌-◌, ◌/◌, refl, T, Bool, true, false, List, [], length, map, nat_le, ◌==◌, ◌||◌, if◌then◌else◌, Ok, leb→le}
 use Rattle.pk_base.{specs.Shape.Shape, specs.Shape.IsShape, specs.Page.Page, specs.Page.Flash, specs.Page.page_at, specs.Page.page_in, specs.Entry.Entry, specs.Firsts.firsts, specs.Map.Map}
 use Rattle.pk_base.specs.Refusal.{ensure, ◌>>=◌}
 use Rattle.pk_jrnfmt.specs.Epoch.{epoch}
 use Rattle.pk_rootfmt.specs.Root.{Root, is_root, named}
-use Rattle.pk_model.{specs.RootLimits.root_limits, specs.RootLimits.root_spaces, specs.Found.Found, specs.Found.older_epoch, specs.Found.newest_epoch, specs.Found.found_under, specs.Tree.blocks_after}
-use Rattle.pk_model.{proofs.SamePages.any_front, proofs.SamePages.any_back, proofs.Roots.newest_sound, proofs.Commits.root_valid, proofs.Commits.values_apart, proofs.Commits.is_any_back}
+use Rattle.pk_model.{specs.RootLimits.root_limits, specs.RootLimits.root_spaces, specs.Found.Found, specs.Found.older_epoch, specs.Found.newest_epoch, specs.Found.found_under}
+use Rattle.pk_model.{proofs.Roots.newest_sound, proofs.Commits.root_valid, proofs.Commits.values_apart, proofs.Commits.is_any_back}
 use Rattle.pk_law_steps.{specs.Under.IsUnder, specs.Under.IsNamed, specs.Under.IsValuePage, specs.Under.places, proofs.Untouched.Values, proofs.Untouched.values_under, proofs.FrozenNext.no_blocks}
-use Rattle.pk_law_steps.{proofs.Places.In, proofs.Places.in_append, specs.Merging.IsMerged, specs.Merging.Merged, specs.Merging.merged_root, specs.Merging.merged_found}
+use Rattle.pk_law_steps.{proofs.Places.In, specs.Merging.IsMerged, specs.Merging.Merged, specs.Merging.merged_root, specs.Merging.merged_found}
 use Rattle.pk_law_steps.proofs.FourRuns.{Runs, IsLevel, FourOf, Pieces, four_of_root, four_runs, next_is_level, pieces_of}
-use Rattle.pk_law_steps.proofs.Merging.{runs_after, same_places, in_after}
+use Rattle.pk_law_steps.proofs.Merging.{runs_after, same_places, either}
 
 -- no older epoch is named, or the former one
 older_is : (shape : Shape) (spaces : ℕ) (at : ℕ → Page) (number : ℕ) (one : Bool) (blocks : List ℕ) (es : List Entry)
@@ -36,7 +35,7 @@ module _ (shape : Shape) (flash : Flash) (extra : List Entry) (top : ℕ × Root
   is_level : IsLevel level
   is_level = next_is_level shape (length (firsts found.older)) (map (λ es. length es) found.runs) level is.next
 
-  four : FourOf root
+  four : FourOf shape root.counts root.runs
   four = four_of_root shape root valid
 
   values : Values shape flash extra root found m
@@ -62,20 +61,7 @@ module _ (shape : Shape) (flash : Flash) (extra : List Entry) (top : ℕ × Root
   outside k value among =
       let b = k / shape.block_pages in
       let former : In b (named root) → ⊥ = λ there. values_apart shape (page_at flash) (root_limits shape root) (named root) [] (places found extra) values.values values.read k value (is_any_back b (named root) there) in
-      elim (in_append b (root.newest ++ (if level == 1 then [] else root.older)) (concat (blocks_after level taken root.runs)) among) [
-        | inl front ↦ elim (in_append b root.newest (if level == 1 then [] else root.older) front) [
-          | inl newest ↦ former (any_front (λ c. b ≡ c) (root.newest ++ root.older) (concat root.runs) (any_front (λ c. b ≡ c) root.newest root.older newest))
-          | inr older ↦ former (any_front (λ c. b ≡ c) (root.newest ++ root.older) (concat root.runs) (any_back (λ c. b ≡ c) root.newest root.older (in_older (level == 1) root.older older)))
-        ]
-        | inr run ↦ elim (in_after b level taken root.runs run) [
-          | inl fresh ↦ is.outside k value fresh
-          | inr was ↦ former (any_back (λ c. b ≡ c) (root.newest ++ root.older) (concat root.runs) was)
-        ]
-      ]
-    where
-      in_older : (one : Bool) (blocks : List ℕ) → In (k / shape.block_pages) (if one then [] else blocks) → In (k / shape.block_pages) blocks
-      in_older true blocks there = absurd there
-      in_older false blocks there = there
+      elim (either root level count taken four.runs is_level b among) [ inl fresh ↦ is.outside k value fresh | inr was ↦ former was ]
 
 pub merged_next : Merged
 merged_next shape flash extra top found m level count taken is_shape before is =

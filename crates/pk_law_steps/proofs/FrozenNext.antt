@@ -1,6 +1,6 @@
 -- The root after a freeze is a valid successor.
 use Rattle.std.proofs.Common.{◌≡◌, [], inl, inr, ℕ, suc, ◌+◌, ◌-◌, ◌*◌, ◌/◌, ◌%◌, ◌<◌, ◌≤◌, refl, sym, ap, subst, ◌∙◌, arith, true, false, T, List, ◌∷◌, ◌++◌, length, reverse, slice_index, ◌==◌, ◌||◌}
-use Rattle.std.proofs.Common.{nat_le, zero-mul, le→leb, if◌then◌else◌, Ok, append-nil, mul-le-mul_right, div-add-mod', mod-lt, eqb→eq, leb→le, le_trans}
+use Rattle.std.proofs.Common.{nat_le, ne_eqb, zero-mul, le→leb, if◌then◌else◌, Ok, append-nil, mul-le-mul_right, div-add-mod', mod-lt, leb→le, le_trans}
 use Rattle.std.{proofs.lemmas.Nat.div-mul-add, proofs.lemmas.List.reverse-append, specs.List.concat, specs.List.flat_map}
 use Rattle.pk_base.{specs.Shape.Shape, specs.Shape.IsShape, specs.Shape.buffer, specs.Shape.epoch_pages, specs.Page.Flash, specs.Page.page_at, specs.Page.erased, specs.Page.page_in, specs.Entry.Entry}
 use Rattle.pk_base.{specs.Firsts.firsts, specs.Map.Map, proofs.ShapeLemmas.block_pages_positive, proofs.CommitPages.second as next_page, proofs.KeyLemmas.firsts_sorted}
@@ -16,8 +16,7 @@ use Rattle.pk_law_steps.{proofs.FourRuns.pieces_of, proofs.Keys.no_more_keys, pr
 
 -- a list with an element is not empty
 not_empty : (n : ℕ) → (suc n == 0) ≡ false
-not_empty n = elim (suc n == 0) as (λ b. (suc n == 0) ≡ b
-    → b ≡ false) [ true ↦ λ e. let same : suc n ≡ 0 = eqb→eq (suc n) 0 (subst T (sym e) tt) in absurd (omega (arith, same)) | false ↦ λ e. refl ] refl
+not_empty n = ne_eqb (suc n) 0 (λ e. omega (arith, e))
 
 -- no blocks, no entries
 pub no_blocks : (shape : Shape) (spaces : ℕ) (at : ℕ → Page) (number : ℕ) → epoch shape spaces at number [] ≡ Ok []
@@ -25,7 +24,7 @@ unfolding epoch
 no_blocks shape spaces at number = rw (zero-mul (shape.block_pages / 2)) refl
 
 -- the older epoch of a freeze is the newest one before, which has entries or is not named
-pub older_is : (shape : Shape) (spaces : ℕ) (at : ℕ → Page) (number : ℕ) (blocks : List ℕ) (es : List Entry) → length blocks ≡ 2 → epoch shape spaces at number blocks ≡ Ok es
+older_is : (shape : Shape) (spaces : ℕ) (at : ℕ → Page) (number : ℕ) (blocks : List ℕ) (es : List Entry) → length blocks ≡ 2 → epoch shape spaces at number blocks ≡ Ok es
     → (do
       found ← epoch shape spaces at (number + 1 - 1) (if length es == 0 then [] else blocks)
       _ ← ensure (length (if length es == 0 then [] else blocks) == 0 || nat_le 1 (length found)) (page_in shape (if length es == 0 then [] else blocks) 0)
@@ -61,7 +60,7 @@ module _ (shape : Shape) (flash : Flash) (extra : List Entry) (top : ℕ × Root
       (erased_not _ (is.are_erased 0 (omega (arith, least))))
       (erased_not _ (ap (page_at flash) (sym (next_page shape (first ∷ second ∷ []) is_shape 0)) ∙ is.are_erased 1 (omega (arith, least)))))
 
-  pub is_found : found_under shape (page_at flash) then_root ≡ Ok (frozen found)
+  is_found : found_under shape (page_at flash) then_root ≡ Ok (frozen found)
   unfolding found_under root_limits
   is_found =
       let pieces = pieces_of shape (page_at flash) root found before.is_found in
@@ -71,7 +70,7 @@ module _ (shape : Shape) (flash : Flash) (extra : List Entry) (top : ℕ × Root
       let runs = pieces.runs in
       rw (older, empty, runs) refl
 
-  pub same_entries : entries_in_order (frozen found) extra ≡ entries_in_order found extra
+  same_entries : entries_in_order (frozen found) extra ≡ entries_in_order found extra
   same_entries =
       let runs = flat_map (λ es. es) found.runs in
       let active = reverse (found.newest ++ extra) in
@@ -102,7 +101,7 @@ module _ (shape : Shape) (flash : Flash) (extra : List Entry) (top : ℕ × Root
   values = values_under shape flash extra root found m before.is_map
 
   -- no value is in a block that the root names
-  pub outside : (k : ℕ) → IsValuePage shape (places found extra) k → IsNamed shape then_root k → ⊥
+  outside : (k : ℕ) → IsValuePage shape (places found extra) k → IsNamed shape then_root k → ⊥
   outside k value among =
       let b = k / shape.block_pages in
       let former : In b (named root) → ⊥ = λ there. values_apart shape (page_at flash) (root_limits shape root) (named root) [] (places found extra) values.values values.read k value (is_any_back b (named root) there) in

@@ -1,12 +1,15 @@
 -- A merge leaves the entries that count, and its root names the output in place of source and target.
-use Rattle.std.proofs.Common.{◌≡◌, ◌⊎◌, inl, inr, ℕ, zero, suc, ◌-◌, refl, sym, ap, subst, ◌∙◌, List, [], ◌∷◌, ◌++◌, reverse, true, false, Option, None, if◌then◌else◌, ◌==◌, slice_set, Ok}
+use Rattle.std.proofs.Common.{◌≡◌, ◌⊎◌, inl, inr, ℕ, zero, suc, ◌+◌, ◌-◌, ◌≤◌, ◌<◌, refl, sym, ap, subst, ◌∙◌, arith, T, List, [], ◌∷◌, ◌++◌, length, reverse, true, false, Option, None, if◌then◌else◌}
+use Rattle.std.proofs.Common.{◌==◌, slice_set, Ok, slice_index_or, le_trans}
 use Rattle.std.{specs.List.concat, specs.FinMap.Entries.find}
 use Rattle.pk_base.{specs.Shape.Shape, specs.Page.Page, specs.Key.key_cmp, specs.Entry.Entry, specs.Firsts.firsts}
 use Rattle.pk_meta.{specs.Over.over, specs.Run.run}
 use Rattle.pk_model.{specs.Found.Found, specs.Found.entries_in_order, specs.Found.runs_from, specs.Values.placed, specs.Tree.merged, specs.Tree.blocks_after, proofs.Lookups.flat}
 use Rattle.pk_model.proofs.Merges.{first_some, first_some_assoc, first_some_none, found_in, found_over, same_placed, merge_one, merge_two, merge_four}
 use Rattle.pk_model.proofs.SamePages.{any_front, any_back}
-use Rattle.pk_law_steps.{proofs.Places.In, proofs.Places.in_append, specs.Merging.output_of, specs.Merging.counts_after, proofs.FourRuns.Runs, proofs.FourRuns.IsLevel, proofs.FourRuns.empty_run}
+use Rattle.pk_rootfmt.specs.Root.{Root, named, differ}
+use Rattle.pk_law_steps.proofs.Places.{In, in_append, weight, weight-append, once, times, in_times, times_in, differ_times, among_both}
+use Rattle.pk_law_steps.{specs.Merging.output_of, specs.Merging.counts_after, specs.Merging.merged_root, specs.Merging.freed_by, proofs.FourRuns.Runs, proofs.FourRuns.IsLevel, proofs.FourRuns.empty_run}
 
 -- ---- what is found
 
@@ -91,3 +94,70 @@ in_after b level taken runs =
       | true ↦ λ is. in_set b 0 taken runs is
       | false ↦ λ is. elim (in_set b (level - 2) [] (slice_set runs (level - 1) taken) is) [ inl none ↦ absurd none | inr was ↦ in_set b (level - 1) taken runs was ]
     ]
+
+-- ---- what the blocks weigh
+
+module _ (w : ℕ → ℕ) where
+  -- the blocks of the first run, which has new ones
+  one_weighs : (new : List ℕ) (runs : List (List ℕ)) → 0 < length runs → weight w (concat (slice_set runs 0 new)) + weight w (slice_index_or runs 0 []) ≡ weight w (concat runs) + weight w new
+  one_weighs new [] low = absurd (omega (arith, low))
+  one_weighs new (bs ∷ runs) low = omega (arith, weight-append w new (concat runs), weight-append w bs (concat runs))
+
+  -- the blocks of two runs, of which the later has new ones
+  pair_weighs : (i : ℕ) (new : List ℕ) (runs : List (List ℕ)) → suc i < length runs
+      → weight w (concat (slice_set (slice_set runs (suc i) new) i [])) + weight w (slice_index_or runs i [] ++ slice_index_or runs (suc i) []) ≡ weight w (concat runs) + weight w new
+  pair_weighs zero new (bs ∷ cs ∷ runs) low =
+      omega (arith, weight-append w new (concat runs), weight-append w bs cs, weight-append w bs (cs ++ concat runs), weight-append w cs (concat runs))
+  pair_weighs (suc i) new (bs ∷ runs) low =
+      let rest = pair_weighs i new runs (omega (arith, low)) in
+      omega (arith, rest, weight-append w bs (concat (slice_set (slice_set runs (suc i) new) i [])), weight-append w bs (concat runs))
+  pair_weighs i new runs low = absurd (omega (arith, low))
+
+  module _ (root : Root) (count : ℕ) (taken : List ℕ) (four : length root.runs ≡ 4) where
+    -- after a merge the root names what it named, without what is freed and with what was taken
+    abbrev Weighs : ℕ → Type 0
+    Weighs level = weight w (named (merged_root root level count taken)) + weight w (freed_by level root) ≡ weight w (named root) + weight w taken
+
+    first : Weighs 1
+    first =
+        let runs = one_weighs taken root.runs (omega (arith, four)) in
+        let now = weight-append w (root.newest ++ []) (concat (slice_set root.runs 0 taken)) in
+        let gone = weight-append w root.older (slice_index_or root.runs 0 []) in
+        let was = weight-append w (root.newest ++ root.older) (concat root.runs) in
+        omega (arith, runs, now, gone, was, weight-append w root.newest [], weight-append w root.newest root.older)
+
+    deep : (i : ℕ) → suc i < length root.runs → weight w ((root.newest ++ root.older) ++ concat (slice_set (slice_set root.runs (suc i) taken) i []))
+        + weight w (slice_index_or root.runs i [] ++ slice_index_or root.runs (suc i) []) ≡ weight w (named root) + weight w taken
+    deep i low =
+        let runs = pair_weighs i taken root.runs low in
+        let both = weight-append w (root.newest ++ root.older) in
+        omega (arith, runs, both (concat root.runs), both (concat (slice_set (slice_set root.runs (suc i) taken) i [])))
+
+    pub weighs : (level : ℕ) → IsLevel level → Weighs level
+    weighs level (inl e) = rw e first
+    weighs level (inr (inl e)) = rw e (deep 0 (omega (arith, four)))
+    weighs level (inr (inr (inl e))) = rw e (deep 1 (omega (arith, four)))
+    weighs level (inr (inr (inr e))) = rw e (deep 2 (omega (arith, four)))
+
+-- ---- so of each block
+
+module _ (root : Root) (level count : ℕ) (taken : List ℕ) (four : length root.runs ≡ 4) (which : IsLevel level) where
+  pub named_times : (b : ℕ) → times b (named (merged_root root level count taken)) ≤ times b taken + times b (named root)
+  named_times b = let all = weighs (once b) root count taken four level which in omega (arith, all)
+
+  pub freed_times : (b : ℕ) → times b (freed_by level root) ≤ times b (named root)
+  freed_times b = let all = weighs (once b) root count [] four level which in omega (arith, all)
+
+  -- a block that is named after the merge was taken, or was named before
+  pub either : (b : ℕ) → In b (named (merged_root root level count taken)) → In b taken ⊎ In b (named root)
+  either b = among_both b (named (merged_root root level count taken)) taken (named root) (named_times b)
+
+  -- one that is freed was named
+  pub was_named : (b : ℕ) → In b (freed_by level root) → In b (named root)
+  was_named b was = times_in b (named root) (le_trans (in_times b (freed_by level root) was) (freed_times b))
+
+  -- and is named after the merge only if it was taken anew
+  pub only : T (differ (named root)) → (b : ℕ) → In b (freed_by level root) → In b (named (merged_root root level count taken)) → In b taken
+  only d b was is =
+      let all = weighs (once b) root count taken four level which in
+      times_in b taken (omega (arith, all, in_times b (freed_by level root) was, in_times b (named (merged_root root level count taken)) is, differ_times b (named root) d))

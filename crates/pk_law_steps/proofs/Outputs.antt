@@ -1,12 +1,12 @@
 -- The output of the next merge fits into its run.
-use Rattle.std.proofs.Common.{◌≡◌, ◌⊎◌, inl, inr, ℕ, ◌+◌, ◌-◌, ◌*◌, ◌<◌, ◌≤◌, sym, ap, subst, ◌∙◌, arith, Bool, true, false, T, List, [], ◌∷◌, ◌++◌, length, map, reverse, filter, nat_le, ◌==◌, refl}
-use Rattle.std.proofs.Common.{cond, is_some, slice_index, if◌then◌else◌, Option, Some, None, ◌||◌, zip, leb→le, length-append, mul-le-mul_right, add-mul, append_assoc, append-nil, le_trans}
-use Rattle.std.{specs.Int.div_ceil, specs.Ordering.eq_by_cmp, specs.FinMap.Entries.find, specs.FinMap.Entries.is_sorted, specs.FinMap.Entries.below_all, specs.List.list_all, specs.List.flat_map}
+use Rattle.std.proofs.Common.{◌≡◌, ◌⊎◌, inl, inr, ℕ, ◌+◌, ◌-◌, ◌*◌, ◌<◌, ◌≤◌, sym, ap, subst, ◌∙◌, arith, true, false, T, List, [], ◌∷◌, ◌++◌, length, map, reverse, filter, nat_le, ◌==◌, refl, cond}
+use Rattle.std.proofs.Common.{is_some, slice_index, Option, Some, None, ◌||◌, zip, leb→le, length-append, mul-le-mul_right, add-mul, append_assoc, append-nil, le_trans}
 use Rattle.std.proofs.lemmas.List.FromFn.{length-range_with_len}
+use Rattle.std.{specs.Int.div_ceil, specs.Ordering.eq_by_cmp, specs.FinMap.Entries.find, specs.FinMap.Entries.is_sorted, specs.FinMap.Entries.below_all, specs.List.list_all, specs.List.flat_map}
 use Rattle.pk_base.{specs.Choices.or_else, specs.Key.Key, specs.Key.key_cmp, specs.Page.Flash, specs.Page.page_at, specs.Page.page_in, specs.Entry.Entry, specs.Entry.Place, specs.Firsts.firsts}
 use Rattle.pk_base.specs.Shape.{Shape, IsShape, page_entries, buffer, deepest, limit, data_blocks, dense, charge, caps, meta_blocks}
-use Rattle.pk_base.{specs.Map.Map, specs.Merge.room, specs.Merge.next_merge, proofs.ShapeLemmas.charge_least, specs.Refusal.ensure, proofs.KeyLemmas.firsts_sorted}
 use Rattle.pk_base.proofs.Logic.{left_part, right_part, both, ok_same}
+use Rattle.pk_base.{specs.Map.Map, specs.Merge.room, specs.Merge.next_merge, proofs.ShapeLemmas.charge_least, specs.Refusal.ensure, proofs.KeyLemmas.firsts_sorted}
 use Rattle.pk_segfmt.specs.Value.{value_pages}
 use Rattle.pk_meta.specs.Over.{over}
 use Rattle.pk_rootfmt.specs.Root.{Root, named, is_root}
@@ -15,22 +15,9 @@ use Rattle.pk_model.{proofs.Lookups.find-firsts, proofs.Lookups.find-placed, pro
 use Rattle.pk_model.{proofs.StrangePages.bind_ok, proofs.Roots.newest_sound, proofs.Commits.root_valid, proofs.ValueSets.values_sound, proofs.ValueSets.fits_parts, proofs.HeldMap.nothing_fits}
 use Rattle.pk_jrnfmt.specs.Epoch.{epoch}
 use Rattle.pk_law_steps.{proofs.Untouched.Values, proofs.Untouched.values_under, specs.Under.IsUnder, specs.Under.places, specs.Merging.output_of, specs.Fitting.OutputFits}
-use Rattle.pk_law_steps.proofs.FourRuns.{Runs, Pieces, four_of_root, four_runs, pieces_of}
-use Rattle.pk_law_steps.proofs.Amounts.{run_most, epoch_most, WithinCaps, within_caps, counted_of}
+use Rattle.pk_law_steps.proofs.FourRuns.{Runs, Pieces, four_of_root, four_runs, pieces_of, chosen}
+use Rattle.pk_law_steps.proofs.Amounts.{run_most, epoch_most, WithinCaps, within_caps}
 use Rattle.pk_law_steps.proofs.Keys.{Has, no_more_than_both, find-both, has_firsts, firsts_of_both, firsts_reversed, firsts_fewer}
-
--- ---- which test led to the level
-
-some_same : (x y : ℕ) → ◌≡◌ {A = Option ℕ} (Some x) (Some y) → y ≡ x
-some_same x y e = cc
-
-chosen : (a b c d : Bool) (level : ℕ) → (if a then None else if b then Some 1 else if c then Some 2 else if d then Some 3 else Some 4) ≡ Some level
-    → ((level ≡ 1) × T b) ⊎ ((level ≡ 2) × T c) ⊎ ((level ≡ 3) × T d) ⊎ (level ≡ 4)
-chosen true b c d level e = cc
-chosen false true c d level e = inl (some_same 1 level e, tt)
-chosen false false true d level e = inr (inl (some_same 2 level e, tt))
-chosen false false false true level e = inr (inr (inl (some_same 3 level e, tt)))
-chosen false false false false level e = inr (inr (inr (some_same 4 level e)))
 
 -- the output of a merge into a run but the last
 over_most : (source target : List Entry) → length (over source target) ≤ length (firsts source) + length target
@@ -66,9 +53,8 @@ filtered_sorted ((q, None) ∷ es) h = filtered_sorted es (right_part (below_all
 
 -- a deleted key that is dropped
 keep : Option (Option Place) → Option (Option Place)
-keep None = None
-keep (Some None) = None
 keep (Some (Some p)) = Some (Some p)
+keep _ = None
 
 find-filtered : (q : Key) (es : List Entry) → T (is_sorted key_cmp es) → find key_cmp q (filter (λ e. is_some e.1) es) ≡ keep (find key_cmp q es)
 unfolding keep
@@ -86,9 +72,8 @@ find-filtered q ((k, None) ∷ es) h =
 counts_or_above : (above below : Option (Option Place)) → T (is_some (keep below)) → T (is_some above) ⊎ T (is_some (flat (or_else above below)))
 unfolding keep
 counts_or_above (Some x) below h = inl tt
-counts_or_above None None h = absurd h
-counts_or_above None (Some None) h = absurd h
 counts_or_above None (Some (Some p)) h = inr tt
+counts_or_above _ _ h = absurd h
 
 module _ (upper r3 r4 : List Entry) where
   abbrev pub kept : List Entry
@@ -138,7 +123,7 @@ module _ (shape : Shape) (flash : Flash) (extra : List Entry) (top : ℕ × Root
 
   caps_are : WithinCaps shape runs.n1 runs.n2 runs.n3 runs.n4
   caps_are = within_caps shape runs.n1 runs.n2 runs.n3 runs.n4
-      (subst (λ ns. T (list_all (λ p. nat_le p.0 (p.1 * page_entries shape)) (zip ns (caps shape)))) runs.counts_are (counted_of shape root valid).fit)
+      (subst (λ ns. T (list_all (λ p. nat_le p.0 (p.1 * page_entries shape)) (zip ns (caps shape)))) runs.counts_are (four_of_root shape root valid).fit)
 
   abbrev upper : List Entry
   upper = (reverse (found.newest ++ extra) ++ reverse found.older) ++ (runs.r1 ++ runs.r2)

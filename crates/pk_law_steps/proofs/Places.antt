@@ -1,15 +1,16 @@
 -- One value more, or one less, that is well placed.
-use Rattle.std.proofs.Common.{◌≡◌, ◌⊎◌, inl, inr, ℕ, zero, suc, ◌+◌, ◌/◌, ◌<◌, ◌≤◌, refl, sym, ap, subst, ◌∙◌, arith, Bool, true, false, not, ◌||◌, cond, T, List, [], ◌∷◌, ◌++◌, length, filter, ◌==◌}
-use Rattle.std.proofs.Common.{eqb→eq, le_trans, eq-or-lt_of_le, length-append}
+use Rattle.std.proofs.Common.{◌≡◌, ◌⊎◌, inl, inr, ℕ, zero, suc, ◌+◌, ◌/◌, ◌<◌, ◌≤◌, refl, sym, subst, arith, Bool, true, false, not, ◌||◌, cond, T, List, [], ◌∷◌, ◌++◌, length, filter, ◌==◌, eqb→eq}
+use Rattle.std.proofs.Common.{eqb, ne_eqb, eqb-true, le_trans, eq-or-lt_of_le, if◌then◌else◌}
 use Rattle.std.specs.declared.cmp.Ordering.TheVariants.{Less, Equal, Greater}
+use Rattle.std.{proofs.lemmas.Bool.Decides.nat_tests, proofs.lemmas.Map.Made.length-le_from_is_member, specs.Cmp.nat_eq_equiv, specs.List.IsDistinct, specs.List.AllByRecursion}
 use Rattle.std.{specs.List.list_any, specs.List.list_all, specs.List.range_with_len, specs.FinMap.Entries.put, specs.FinMap.Entries.by_order}
 use Rattle.pk_base.{specs.Key.Key, specs.Key.key_cmp, specs.Shape.Shape, specs.Shape.charge, specs.Entry.Place}
-use Rattle.pk_base.proofs.Logic.{is_true, left_part, right_part, both, or_cases}
+use Rattle.pk_base.proofs.Logic.{is_true, of_true, left_part, right_part, both, or_cases}
 use Rattle.pk_segfmt.specs.Value.{value_pages}
 use Rattle.pk_rootfmt.specs.Root.{differ}
 use Rattle.pk_model.{specs.Values.fits, specs.Values.blocks_with, specs.Values.all_pages, specs.Values.KeepsWithin, specs.Values.pages_of_space, specs.Laws.AnyByRecursion, proofs.SamePages.any_front}
-use Rattle.pk_model.proofs.Commits.{refuted, rest_differs, any_behind, apart, differ_front, all_front, is_any, or_right}
-use Rattle.pk_model.{proofs.ValueSets.fits_parts, proofs.ValueSets.parts_fit, proofs.ValueSets.any_more, proofs.ValueSets.filter_more, proofs.RootAlone.all_back}
+use Rattle.pk_model.proofs.Commits.{refuted, rest_differs, any_behind, is_any, or_right}
+use Rattle.pk_model.proofs.ValueSets.{fits_parts, parts_fit, filter_more}
 use Rattle.pk_law_steps.{specs.Under.IsValuePage, specs.Stores.Fits}
 
 abbrev pub In : ℕ → List ℕ → Type 0
@@ -27,14 +28,6 @@ or_left false b p = absurd p
 
 eq_of : (a b : ℕ) → T (a == b) → a ≡ b
 eq_of a b t = eqb→eq a b t
-
-pub any_in : (x : ℕ) (xs : List ℕ) → T (list_any (λ c. x == c) xs) → In x xs
-any_in x [] t = absurd t
-any_in x (y ∷ xs) t = elim (or_cases (x == y) (list_any (λ c. x == c) xs) t) [ inl is ↦ inl (eq_of x y is) | inr is ↦ inr (any_in x xs is) ]
-
-pub any_in_back : (x : ℕ) (xs : List ℕ) → T (list_any (λ c. c == x) xs) → In x xs
-any_in_back x [] t = absurd t
-any_in_back x (y ∷ xs) t = elim (or_cases (y == x) (list_any (λ c. c == x) xs) t) [ inl is ↦ inl (sym (eq_of y x is)) | inr is ↦ inr (any_in_back x xs is) ]
 
 pub in_append : (k : ℕ) (xs ys : List ℕ) → In k (xs ++ ys) → In k xs ⊎ In k ys
 in_append k [] ys is = inr is
@@ -54,20 +47,33 @@ pub all_of : (p : ℕ → Bool) (xs : List ℕ) → ((k : ℕ) → In k xs → T
 all_of p [] every = tt
 all_of p (x ∷ xs) every = both (p x) (list_all p xs) (every x (inl refl)) (all_of p xs (λ k is. every k (inr is)))
 
-all_append : (p : ℕ → Bool) (xs ys : List ℕ) → T (list_all p xs) → T (list_all p ys) → T (list_all p (xs ++ ys))
-all_append p [] ys front back = back
-all_append p (x ∷ xs) ys front back = both (p x) (list_all p (xs ++ ys)) (left_part (p x) (list_all p xs) front) (all_append p xs ys (right_part (p x) (list_all p xs) front) back)
+pub all_at_each : (p : ℕ → Bool) (xs : List ℕ) (b : ℕ) → T (list_all p xs) → In b xs → T (p b)
+all_at_each p [] b all is = absurd is
+all_at_each p (x ∷ xs) b all (inl e) = subst (λ y. T (p y)) (sym e) (left_part (p x) (list_all p xs) all)
+all_at_each p (x ∷ xs) b all (inr is) = all_at_each p xs b (right_part (p x) (list_all p xs) all) is
 
-any_behind_test : (p : ℕ → Bool) (xs ys : List ℕ) → T (list_any p ys) → T (list_any p (xs ++ ys))
-any_behind_test p [] ys is = is
-any_behind_test p (x ∷ xs) ys is = elim (p x) as (λ b. T (b || list_any p (xs ++ ys))) [ true ↦ tt | false ↦ any_behind_test p xs ys is ]
-
-any_front_test : (p : ℕ → Bool) (xs ys : List ℕ) → T (list_any p (xs ++ ys)) → T (list_any p xs) ⊎ T (list_any p ys)
-any_front_test p [] ys is = inr is
-any_front_test p (x ∷ xs) ys is = elim (or_cases (p x) (list_any p (xs ++ ys)) is) [
-  | inl here ↦ inl (or_left (p x) (list_any p xs) here)
-  | inr there ↦ elim (any_front_test p xs ys there) [ inl front ↦ inl (or_right (p x) (list_any p xs) front) | inr back ↦ inr back ]
+-- an element that passes a test
+any_at : (p : ℕ → Bool) (xs : List ℕ) → T (list_any p xs) → (k : ℕ) × In k xs × T (p k)
+any_at p [] t = absurd t
+any_at p (x ∷ xs) t = elim (or_cases (p x) (list_any p xs) t) [
+  | inl here ↦ (x, inl refl, here)
+  | inr there ↦ let more = any_at p xs there in (more.0, inr more.1, more.2)
 ]
+
+any_of : (p : ℕ → Bool) (xs : List ℕ) (k : ℕ) → In k xs → T (p k) → T (list_any p xs)
+any_of p [] k is t = absurd is
+any_of p (x ∷ xs) k (inl e) t = or_left (p x) (list_any p xs) (subst (λ y. T (p y)) e t)
+any_of p (x ∷ xs) k (inr is) t = or_right (p x) (list_any p xs) (any_of p xs k is t)
+
+pub any_in : (x : ℕ) (xs : List ℕ) → T (list_any (λ c. x == c) xs) → In x xs
+any_in x xs t = let found = any_at (λ c. x == c) xs t in subst (λ y. In y xs) (sym (eq_of x found.0 found.2)) found.1
+
+pub any_in_back : (x : ℕ) (xs : List ℕ) → T (list_any (λ c. c == x) xs) → In x xs
+any_in_back x xs t = let found = any_at (λ c. c == x) xs t in subst (λ y. In y xs) (eq_of found.0 x found.2) found.1
+
+some_or_none : (n : ℕ) → (1 ≤ n) ⊎ (n ≡ 0)
+some_or_none zero = inr refl
+some_or_none (suc n) = inl (omega arith)
 
 -- ---- lists without repetition
 
@@ -76,12 +82,6 @@ absent x xs d is = refuted (list_any (λ c. x == c) xs) (left_part (not (list_an
 
 pub differ_cons : (x : ℕ) (xs : List ℕ) → (In x xs → ⊥) → T (differ xs) → T (differ (x ∷ xs))
 differ_cons x xs new d = both (not (list_any (λ c. x == c) xs)) (differ xs) (not_of (list_any (λ c. x == c) xs) (λ t. new (any_in x xs t))) d
-
-pub differ_append : (xs ys : List ℕ) → T (differ xs) → T (differ ys) → ((k : ℕ) → In k xs → In k ys → ⊥) → T (differ (xs ++ ys))
-differ_append [] ys front back none = back
-differ_append (x ∷ xs) ys front back none =
-    differ_cons x (xs ++ ys) (λ is. elim (in_append x xs ys is) [ inl here ↦ absent x xs front here | inr there ↦ none x (inl refl) there ])
-    (differ_append xs ys (rest_differs x xs front) back (λ k here there. none k (inr here) there))
 
 pub differ_range : (a n : ℕ) → T (differ (range_with_len a n))
 differ_range a zero = tt
@@ -107,34 +107,80 @@ differ_filter p (x ∷ xs) d =
       | false ↦ rest
     ]
 
--- a list without the first place of an element that it has
-taken_out : (x : ℕ) (xs : List ℕ) → In x xs → List ℕ
-taken_out x [] is = []
-taken_out x (y ∷ xs) (inl e) = xs
-taken_out x (y ∷ xs) (inr is) = y ∷ taken_out x xs is
+none_equal : (x : ℕ) (xs : List ℕ) → ((k : ℕ) → In k xs → x ≡ k → ⊥) → AllByRecursion (λ y. eqb x y ≡ false) xs
+none_equal x [] other = tt
+none_equal x (y ∷ ys) other = (ne_eqb x y (other y (inl refl)), none_equal x ys (λ k is. other k (inr is)))
 
-length-taken_out : (x : ℕ) (xs : List ℕ) (is : In x xs) → suc (length (taken_out x xs is)) ≡ length xs
-unfolding taken_out
-length-taken_out x [] is = absurd is
-length-taken_out x (y ∷ xs) (inl e) = refl
-length-taken_out x (y ∷ xs) (inr is) = ap suc (length-taken_out x xs is)
-
-stays_in : (x k : ℕ) (xs : List ℕ) (is : In x xs) → In k xs → (k ≡ x → ⊥) → In k (taken_out x xs is)
-unfolding taken_out
-stays_in x k [] is there other = absurd is
-stays_in x k (y ∷ xs) (inl e) (inl there) other = absurd (other (there ∙ sym e))
-stays_in x k (y ∷ xs) (inl e) (inr there) other = there
-stays_in x k (y ∷ xs) (inr is) (inl there) other = inl there
-stays_in x k (y ∷ xs) (inr is) (inr there) other = inr (stays_in x k xs is there other)
+distinct : (xs : List ℕ) → T (differ xs) → IsDistinct eqb xs
+unfolding IsDistinct
+distinct [] d = tt
+distinct (x ∷ xs) d = (none_equal x xs (λ k is e. absent x xs d (subst (λ y. In y xs) (sym e) is)), distinct xs (rest_differs x xs d))
 
 -- different elements that are all among others are not more than these
 pub no_more : (xs ys : List ℕ) → T (differ xs) → ((k : ℕ) → In k xs → In k ys) → length xs ≤ length ys
-no_more [] ys d among = omega arith
-no_more (x ∷ xs) ys d among =
-    let here = among x (inl refl) in
-    let rest = no_more xs (taken_out x ys here) (rest_differs x xs d) (λ k is. stays_in x k ys here (among k (inr is)) (λ e. absent x xs d (subst (λ y. In y xs) e is))) in
-    let size = length-taken_out x ys here in
-    omega (arith, rest, size)
+no_more xs ys d among = length-le_from_is_member nat_eq_equiv xs ys (distinct xs d) (λ q t. is_true _ (is_any q ys (among q (any_in q xs (of_true _ t)))))
+
+-- ---- what a list weighs, each element by itself: how often an element is in it, and how long it is
+
+abbrev pub weight : (ℕ → ℕ) → List ℕ → ℕ
+weight w [] = 0
+weight w (x ∷ xs) = w x + weight w xs
+
+pub weight-append : (w : ℕ → ℕ) (xs ys : List ℕ) → weight w (xs ++ ys) ≡ weight w xs + weight w ys
+weight-append w [] ys = omega arith
+weight-append w (x ∷ xs) ys = let rest = weight-append w xs ys in omega (arith, rest)
+
+pub weight-ones : (xs : List ℕ) → weight (λ x. 1) xs ≡ length xs
+weight-ones [] = refl
+weight-ones (x ∷ xs) = let rest = weight-ones xs in omega (arith, rest)
+
+abbrev pub once : ℕ → ℕ → ℕ
+once k x = if k == x then 1 else 0
+
+abbrev pub times : ℕ → List ℕ → ℕ
+times k xs = weight (once k) xs
+
+pub in_times : (k : ℕ) (xs : List ℕ) → In k xs → 1 ≤ times k xs
+in_times k [] is = absurd is
+in_times k (x ∷ xs) (inl e) = grind (arith, nat_tests, e)
+in_times k (x ∷ xs) (inr is) = let rest = in_times k xs is in omega (arith, rest)
+
+pub times_in : (k : ℕ) (xs : List ℕ) → 1 ≤ times k xs → In k xs
+times_in k [] some = absurd (omega (arith, some))
+times_in k (x ∷ xs) some = elim (k == x) as (λ t. (k == x) ≡ t → 1 ≤ (if t then 1 else 0) + times k xs → In k (x ∷ xs)) [
+  | true ↦ λ e h. inl (eqb-true k x e)
+  | false ↦ λ e h. inr (times_in k xs (omega (arith, h)))
+] refl some
+
+pub differ_times : (k : ℕ) (xs : List ℕ) → T (differ xs) → times k xs ≤ 1
+differ_times k [] d = omega arith
+differ_times k (x ∷ xs) d = elim (k == x) as (λ t. (k == x) ≡ t → (if t then 1 else 0) + times k xs ≤ 1) [
+  | true ↦ λ e. elim (some_or_none (times k xs)) [ inl some ↦ absurd (absent x xs d (subst (λ y. In y xs) (eqb-true k x e) (times_in k xs some))) | inr none ↦ omega (arith, none) ]
+  | false ↦ λ e. let rest = differ_times k xs (rest_differs x xs d) in omega (arith, rest)
+] refl
+
+pub times_differ : (xs : List ℕ) → ((k : ℕ) → times k xs ≤ 1) → T (differ xs)
+times_differ [] few = tt
+times_differ (x ∷ xs) few = differ_cons x xs
+    (λ is. let more = in_times x xs is in let most = few x in let here : once x x ≡ 1 = grind (arith, nat_tests) in omega (arith, more, most, here))
+    (times_differ xs (λ k. let most = few k in omega (arith, most)))
+
+-- a list that has no element more often than two others together
+pub among_both : (k : ℕ) (zs xs ys : List ℕ) → times k zs ≤ times k xs + times k ys → In k zs → In k xs ⊎ In k ys
+among_both k zs xs ys few is = let here = in_times k zs is in elim (some_or_none (times k xs)) [ inl some ↦ inl (times_in k xs some) | inr none ↦ inr (times_in k ys (omega (arith, few, here, none))) ]
+
+pub both_differ : (zs xs ys : List ℕ) → ((k : ℕ) → times k zs ≤ times k xs + times k ys) → T (differ xs) → T (differ ys) → ((k : ℕ) → In k xs → In k ys → ⊥) → T (differ zs)
+both_differ zs xs ys few front back none = times_differ zs (λ k.
+    let most = few k in
+    let one = differ_times k xs front in
+    let other = differ_times k ys back in
+    elim (some_or_none (times k xs)) [
+      | inl here ↦ elim (some_or_none (times k ys)) [ inl there ↦ absurd (none k (times_in k xs here) (times_in k ys there)) | inr zero_there ↦ omega (arith, most, one, zero_there) ]
+      | inr zero_here ↦ omega (arith, most, other, zero_here)
+    ])
+
+pub differ_append : (xs ys : List ℕ) → T (differ xs) → T (differ ys) → ((k : ℕ) → In k xs → In k ys → ⊥) → T (differ (xs ++ ys))
+differ_append xs ys = both_differ (xs ++ ys) xs ys (λ k. let all = weight-append (once k) xs ys in omega (arith, all))
 
 -- the values whose keys pass a test
 abbrev pub kept : (Key → Bool) → List (Key × Place) → List (Key × Place)
@@ -160,132 +206,58 @@ module _ (shape : Shape) where
     | inr there ↦ inr (in_value es k there)
   ]
 
-  any_page : (pages : List ℕ) (b : ℕ) → T (list_any (λ p. p / shape.block_pages == b) pages) → (p : ℕ) × In p pages × (p / shape.block_pages ≡ b)
-  any_page [] b t = absurd t
-  any_page (p ∷ pages) b t = elim (or_cases (p / shape.block_pages == b) (list_any (λ p. p / shape.block_pages == b) pages) t) [
-    | inl here ↦ (p, inl refl, eq_of (p / shape.block_pages) b here)
-    | inr there ↦ let more = any_page pages b there in (more.0, inr more.1, more.2)
-  ]
-
   pub few_blocks : (pages used : List ℕ) → ((k : ℕ) → In k pages → AnyByRecursion (λ b. k / shape.block_pages ≡ b) used) → length (blocks_with shape pages) ≤ length used
   few_blocks pages used among = no_more (blocks_with shape pages) used
       (differ_filter (λ b. list_any (λ p. p / shape.block_pages == b) pages) (range_with_len 0 shape.blocks) (differ_range 0 shape.blocks)) (λ b is.
       let with_page = (in_filter (λ c. list_any (λ p. p / shape.block_pages == c) pages) b (range_with_len 0 shape.blocks) is).1 in
-      let page = any_page pages b with_page in
-      subst (λ x. In x used) page.2 (among page.0 page.1))
+      let page = any_at (λ p. p / shape.block_pages == b) pages with_page in
+      subst (λ x. In x used) (eq_of (page.0 / shape.block_pages) b page.2) (among page.0 page.1))
 
   -- ---- one value more
 
-  module _ (key : Key) (place : Place) where
-    all_put : (p : ℕ → Bool) (es : List (Key × Place)) → T (list_all p (value_pages shape place)) → T (list_all p (all_pages shape es)) → T (list_all p (all_pages shape (put key_cmp key place es)))
-    all_put p [] new all = all_append p (value_pages shape place) [] new tt
-    all_put p (e ∷ es) new all =
-        let here = all_front p (value_pages shape e.1) (all_pages shape es) all in
-        let rest = all_back p (value_pages shape e.1) (all_pages shape es) all in
-        elim (key_cmp key e.0) as (λ r. T (list_all p (all_pages shape (by_order r ((key, place) ∷ e ∷ es) ((e.0, place) ∷ es) (e ∷ put key_cmp key place es))))) [
-          | Less ↦ all_append p (value_pages shape place) (all_pages shape (e ∷ es)) new all
-          | Equal ↦ all_append p (value_pages shape place) (all_pages shape es) new rest
-          | Greater ↦ all_append p (value_pages shape e.1) (all_pages shape (put key_cmp key place es)) here (all_put p es new rest)
-        ]
-
-    in_put : (k : ℕ) (es : List (Key × Place)) → In k (all_pages shape (put key_cmp key place es)) → In k (value_pages shape place) ⊎ In k (all_pages shape es)
-    in_put k [] is = in_append k (value_pages shape place) [] is
-    in_put k (e ∷ es) is =
-        elim (key_cmp key e.0) as (λ r. In k (all_pages shape (by_order r ((key, place) ∷ e ∷ es) ((e.0, place) ∷ es) (e ∷ put key_cmp key place es)))
-        → In k (value_pages shape place) ⊎ In k (all_pages shape (e ∷ es))) [
-          | Less ↦ λ i. in_append k (value_pages shape place) (all_pages shape (e ∷ es)) i
-          | Equal ↦ λ i. elim (in_append k (value_pages shape place) (all_pages shape es) i) [
-            | inl new ↦ inl new
-            | inr old ↦ inr
-                (any_behind (λ y. k ≡ y) (value_pages shape e.1) (all_pages shape es) old)
-          ]
-          | Greater ↦ λ i. elim (in_append k (value_pages shape e.1) (all_pages shape (put key_cmp key place es)) i) [
-            | inl here ↦ inr (any_front (λ y. k ≡ y) (value_pages shape e.1) (all_pages shape es) here)
-            | inr there ↦ elim (in_put k es there) [ inl new ↦ inl new | inr old ↦ inr (any_behind (λ y. k ≡ y) (value_pages shape e.1) (all_pages shape es) old) ]
-          ]
-        ] is
-
-    differ_put : (es : List (Key × Place)) → T (differ (all_pages shape es))
-        → ((k : ℕ) → In k (value_pages shape place) → In k (all_pages shape es) → ⊥) → T (differ (all_pages shape (put key_cmp key place es)))
-    differ_put [] d none = differ_append (value_pages shape place) [] (differ_range place.page (charge shape place.len)) tt (λ k new old. old)
-    differ_put (e ∷ es) d none =
-        let new = differ_range place.page (charge shape place.len) in
-        let rest = differ_back (value_pages shape e.1) (all_pages shape es) d in
-        elim (key_cmp key e.0) as (λ r. T (differ (all_pages shape (by_order r ((key, place) ∷ e ∷ es) ((e.0, place) ∷ es) (e ∷ put key_cmp key place es))))) [
-          | Less ↦ differ_append (value_pages shape place) (all_pages shape (e ∷ es)) new d none
-          | Equal ↦ differ_append (value_pages shape place) (all_pages shape es) new rest (λ k here there. none k here (any_behind (λ y. k ≡ y) (value_pages shape e.1) (all_pages shape es) there))
-          | Greater ↦ differ_append (value_pages shape e.1) (all_pages shape (put key_cmp key place es)) (differ_front (value_pages shape e.1) (all_pages shape es) d)
-              (differ_put es rest (λ k here there. none k here (any_behind (λ y. k ≡ y) (value_pages shape e.1) (all_pages shape es) there)))
-              (λ k here there. elim (in_put k es there) [
-                | inl is ↦ none k is (any_front (λ y. k ≡ y) (value_pages shape e.1) (all_pages shape es) here)
-                | inr is ↦ apart k (value_pages shape e.1) (all_pages shape es) d here is
-              ])
-        ]
+  put_weighs : (w : ℕ → ℕ) (key : Key) (place : Place) (es : List (Key × Place))
+      → weight w (all_pages shape (put key_cmp key place es)) ≤ weight w (value_pages shape place) + weight w (all_pages shape es)
+  put_weighs w key place [] = let all = weight-append w (value_pages shape place) [] in omega (arith, all)
+  put_weighs w key place (e ∷ es) =
+      let new = weight-append w (value_pages shape place) in
+      let here = weight-append w (value_pages shape e.1) in
+      let rest = put_weighs w key place es in
+      elim (key_cmp key e.0) as (λ r. weight w (all_pages shape (by_order r ((key, place) ∷ e ∷ es) ((e.0, place) ∷ es) (e ∷ put key_cmp key place es)))
+      ≤ weight w (value_pages shape place) + weight w (all_pages shape (e ∷ es))) [
+        | Less ↦ omega (arith, new (all_pages shape (e ∷ es)))
+        | Equal ↦ omega (arith, new (all_pages shape es), here (all_pages shape es))
+        | Greater ↦ omega (arith, here (all_pages shape (put key_cmp key place es)), here (all_pages shape es), rest)
+      ]
 
   -- ---- some values less
 
   module _ (q : Key → Bool) where
-    all_kept : (p : ℕ → Bool) (es : List (Key × Place)) → T (list_all p (all_pages shape es)) → T (list_all p (all_pages shape (kept q es)))
-    all_kept p [] all = tt
-    all_kept p (e ∷ es) all =
-        let rest = all_kept p es (all_back p (value_pages shape e.1) (all_pages shape es) all) in
-        elim (q e.0) as (λ b. T (list_all p (all_pages shape (cond b (e ∷ kept q es) (kept q es))))) [
-          | true ↦ all_append p (value_pages shape e.1) (all_pages shape (kept q es)) (all_front p (value_pages shape e.1) (all_pages shape es) all) rest
-          | false ↦ rest
+    kept_weighs : (w : ℕ → ℕ) (es : List (Key × Place)) → weight w (all_pages shape (kept q es)) ≤ weight w (all_pages shape es)
+    kept_weighs w [] = omega arith
+    kept_weighs w (e ∷ es) =
+        let rest = kept_weighs w es in
+        let all = weight-append w (value_pages shape e.1) in
+        elim (q e.0) as (λ b. weight w (all_pages shape (cond b (e ∷ kept q es) (kept q es))) ≤ weight w (all_pages shape (e ∷ es))) [
+          | true ↦ omega (arith, rest, all (all_pages shape es), all (all_pages shape (kept q es)))
+          | false ↦ omega (arith, rest, all (all_pages shape es))
         ]
 
     in_kept : (k : ℕ) (es : List (Key × Place)) → In k (all_pages shape (kept q es)) → In k (all_pages shape es)
-    in_kept k [] is = is
-    in_kept k (e ∷ es) is =
-        elim (q e.0) as (λ b. In k (all_pages shape (cond b (e ∷ kept q es) (kept q es))) → In k (all_pages shape (e ∷ es))) [
-          | true ↦ λ i. elim (in_append k (value_pages shape e.1) (all_pages shape (kept q es)) i) [
-            | inl here ↦ any_front (λ y. k ≡ y) (value_pages shape e.1) (all_pages shape es) here
-            | inr there ↦ any_behind (λ y. k ≡ y) (value_pages shape e.1) (all_pages shape es) (in_kept k es there)
-          ]
-          | false ↦ λ i. any_behind (λ y. k ≡ y) (value_pages shape e.1) (all_pages shape es) (in_kept k es i)
-        ] is
-
-    differ_kept : (es : List (Key × Place)) → T (differ (all_pages shape es)) → T (differ (all_pages shape (kept q es)))
-    differ_kept [] d = tt
-    differ_kept (e ∷ es) d =
-        let rest = differ_kept es (differ_back (value_pages shape e.1) (all_pages shape es) d) in
-        elim (q e.0) as (λ b. T (differ (all_pages shape (cond b (e ∷ kept q es) (kept q es))))) [
-          | true ↦ differ_append (value_pages shape e.1) (all_pages shape (kept q es)) (differ_front (value_pages shape e.1) (all_pages shape es) d) rest
-              (λ k here there. apart k (value_pages shape e.1) (all_pages shape es) d here (in_kept k es there))
-          | false ↦ rest
-        ]
-
-    length_kept : (es : List (Key × Place)) → length (all_pages shape (kept q es)) ≤ length (all_pages shape es)
-    length_kept [] = omega arith
-    length_kept (e ∷ es) =
-        let rest = length_kept es in
-        let all = length-append (value_pages shape e.1) (all_pages shape es) in
-        elim (q e.0) as (λ b. length (all_pages shape (cond b (e ∷ kept q es) (kept q es))) ≤ length (all_pages shape (e ∷ es))) [
-          | true ↦ let some = length-append (value_pages shape e.1) (all_pages shape (kept q es)) in omega (arith, rest, all, some)
-          | false ↦ omega (arith, rest, all)
-        ]
-
-    any_kept : (p : ℕ → Bool) (es : List (Key × Place)) → T (list_any p (all_pages shape (kept q es))) → T (list_any p (all_pages shape es))
-    any_kept p [] is = is
-    any_kept p (e ∷ es) is =
-        elim (q e.0) as (λ b. T (list_any p (all_pages shape (cond b (e ∷ kept q es) (kept q es)))) → T (list_any p (all_pages shape (e ∷ es)))) [
-          | true ↦ λ i. elim (any_front_test p (value_pages shape e.1) (all_pages shape (kept q es)) i) [
-            | inl here ↦ any_more p (value_pages shape e.1) (all_pages shape es) here
-            | inr there ↦ any_behind_test p (value_pages shape e.1) (all_pages shape es) (any_kept p es there)
-          ]
-          | false ↦ λ i. any_behind_test p (value_pages shape e.1) (all_pages shape es) (any_kept p es i)
-        ] is
+    in_kept k es is = times_in k (all_pages shape es) (le_trans (in_times k (all_pages shape (kept q es)) is) (kept_weighs (once k) es))
 
     -- fewer values are well placed
     pub kept_fit : (blocks : List ℕ) (es : List (Key × Place)) → T (fits shape blocks (all_pages shape es)) → T (fits shape blocks (all_pages shape (kept q es)))
     kept_fit blocks es is =
         let parts = fits_parts shape blocks (all_pages shape es) is in
+        let fewer = kept_weighs (λ x. 1) es in
+        let passes : (p : ℕ → Bool) → T (list_any p (all_pages shape (kept q es))) → T (list_any p (all_pages shape es)) = λ p t.
+        let page = any_at p (all_pages shape (kept q es)) t in any_of p (all_pages shape es) page.0 (in_kept page.0 es page.1) page.2 in
         parts_fit shape blocks (all_pages shape (kept q es)) (record {
-          out = all_kept (λ p. not (list_any (λ b. b == p / shape.block_pages) blocks)) es parts.out;
-          different = differ_kept es parts.different;
-          few = le_trans (length_kept es) parts.few;
+          out = all_of (λ p. not (list_any (λ b. b == p / shape.block_pages) blocks)) (all_pages shape (kept q es)) (λ k is. all_at_each _ (all_pages shape es) k parts.out (in_kept k es is));
+          different = times_differ (all_pages shape (kept q es)) (λ k. le_trans (kept_weighs (once k) es) (differ_times k (all_pages shape es) parts.different));
+          few = (let most = parts.few in omega (arith, fewer, weight-ones (all_pages shape (kept q es)), weight-ones (all_pages shape es), most));
           few_blocks = le_trans (filter_more (λ b. list_any (λ p. p / shape.block_pages == b) (all_pages shape (kept q es)))
-              (λ b. list_any (λ p. p / shape.block_pages == b) (all_pages shape es)) (λ b t. any_kept _ es t) (range_with_len 0 shape.blocks)) parts.few_blocks;
+              (λ b. list_any (λ p. p / shape.block_pages == b) (all_pages shape es)) (λ b t. passes _ t) (range_with_len 0 shape.blocks)) parts.few_blocks;
         })
 
     -- and keep within the limits
@@ -303,13 +275,14 @@ pub fits_more : Fits
 fits_more shape blocks used es key place is outside new few among few_used =
     let parts = fits_parts shape blocks (all_pages shape es) (subst T (sym is) tt) in
     let pages = all_pages shape (put key_cmp key place es) in
+    let in_blocks : ℕ → Bool = λ k. list_any (λ b. b == k / shape.block_pages) blocks in
     is_true _ (parts_fit shape blocks pages (record {
-      out = all_put shape key place (λ p. not (list_any (λ b. b == p / shape.block_pages) blocks)) es
-          (all_of (λ p. not (list_any (λ b. b == p / shape.block_pages) blocks)) (value_pages shape place)
-          (λ k here. not_of (list_any (λ b. b == k / shape.block_pages) blocks)
-          (λ t. outside k (in_range k place.page (charge shape place.len) here) (any_in_back (k / shape.block_pages) blocks t))))
-          parts.out;
-      different = differ_put shape key place es parts.different (λ k here there. new k (in_range k place.page (charge shape place.len) here) (in_value shape es k there));
+      out = all_of (λ k. not (in_blocks k)) pages (λ k is. elim (among_both k pages (value_pages shape place) (all_pages shape es) (put_weighs shape (once k) key place es) is) [
+        | inl here ↦ not_of (in_blocks k) (λ t. outside k (in_range k place.page (charge shape place.len) here) (any_in_back (k / shape.block_pages) blocks t))
+        | inr there ↦ all_at_each _ (all_pages shape es) k parts.out there
+      ]);
+      different = both_differ pages (value_pages shape place) (all_pages shape es) (λ k. put_weighs shape (once k) key place es) (differ_range place.page (charge shape place.len)) parts.different
+          (λ k here there. new k (in_range k place.page (charge shape place.len) here) (in_value shape es k there));
       few = few;
       few_blocks = le_trans (few_blocks shape pages used (λ k i. among k (in_value shape (put key_cmp key place es) k i))) few_used;
     }))

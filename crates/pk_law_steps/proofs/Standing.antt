@@ -1,5 +1,5 @@
 -- A valid successor does not change the map, at any cut of its install.
-use Rattle.std.proofs.Common.{◌≡◌, inl, inr, ℕ, ◌/◌, ◌<◌, sym, ap, subst, ◌∙◌, T, true, List, [], ◌++◌, length, nat_le, ◌==◌, not, Some, Ok, le→leb, ◌⊎◌}
+use Rattle.std.proofs.Common.{◌≡◌, inl, inr, ℕ, ◌/◌, ◌<◌, sym, ap, subst, ◌∙◌, T, true, List, [], length, ◌==◌, not, Some, Ok, le→leb, ◌⊎◌}
 use Rattle.std.specs.List.{AllByRecursion, list_any}
 use Rattle.pk_base.{specs.Shape.Shape, specs.Shape.IsShape, specs.Page.Flash, specs.Page.page_at, specs.Page.SameBehind, specs.Entry.Entry, specs.Entry.Place, specs.Firsts.firsts}
 use Rattle.pk_base.{specs.EntryChecks.IsEntry, specs.Key.Key, specs.Map.Map, proofs.ShapeLemmas.block_pages_positive, proofs.Logic.is_true, proofs.Logic.both}
@@ -62,12 +62,7 @@ module _ (shape : Shape) (flash new : Flash) (extra : List Entry) (top : ℕ × 
         values_same shape (page_at flash) (page_at new) (root_limits shape top.1) (named top.1) [] es values_stay ∙ values.read in
         let there = values_sound shape (named top.1) (page_at new) (root_limits shape top.1) es values.values (nothing_fits shape (named top.1)) moved in
         let parts = fits_parts shape (named top.1) (all_pages shape es) (subst T (sym there.placed_well) tt) in
-        let fit = parts_fit shape (named root) (all_pages shape es) (record {
-          out = all_of (λ p. not (list_any (λ b. b == p / shape.block_pages) (named root))) (all_pages shape es) apart;
-          different = parts.different;
-          few = parts.few;
-          few_blocks = parts.few_blocks;
-        }) in
+        let fit = parts_fit shape (named root) (all_pages shape es) (search (all_of (λ p. not (list_any (λ b. b == p / shape.block_pages) (named root))) (all_pages shape es) apart)) in
         values_complete shape (named root) (page_at new) (root_limits shape root) es values.values
         (record { placed_well = is_true _ fit; within = subst (λ limits. KeepsWithin shape limits es) (sym same_limits) there.within; read = there.read })
 

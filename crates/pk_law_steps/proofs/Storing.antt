@@ -1,9 +1,9 @@
 -- One more entry puts a value into the map, or takes a key out of it.
-use Rattle.std.proofs.Common.{◌≡◌, ℕ, refl, sym, ap, subst, ◌∙◌, Bool, true, false, not, cond, T, List, [], ◌∷◌, ◌++◌, length, nat_le, Option, Some, None, Ok, le→leb, ◌≤◌}
-use Rattle.std.{specs.declared.cmp.Ordering.TheVariants.Less, specs.declared.cmp.Ordering.TheVariants.Equal, specs.declared.cmp.Ordering.TheVariants.Greater, specs.Cmp.eq_by_cmp_equiv}
+use Rattle.std.proofs.Common.{◌≡◌, ℕ, refl, sym, ap, subst, ◌∙◌, Bool, true, false, not, cond, T, List, [], ◌∷◌, ◌++◌, Option, Some, None, Ok, le→leb}
 use Rattle.std.specs.Ordering.{is_lt, is_eq, eq_by_cmp}
 use Rattle.std.specs.FinMap.{from_entries, get-from_entries, remove, get-remove, same_map}
 use Rattle.std.specs.FinMap.Entries.{put, find, is_sorted, below_all, by_order, where_key, find-where_key}
+use Rattle.std.{specs.declared.cmp.Ordering.TheVariants.Less, specs.declared.cmp.Ordering.TheVariants.Equal, specs.declared.cmp.Ordering.TheVariants.Greater, specs.Cmp.eq_by_cmp_equiv}
 use Rattle.pk_base.{specs.Key.Key, specs.Key.key_cmp, specs.Shape.Shape, specs.Page.Page, specs.Page.page_at, specs.Entry.Entry, specs.Entry.Place}
 use Rattle.pk_base.{specs.Firsts.firsts, proofs.Logic.is_true, proofs.Logic.left_part, proofs.Logic.right_part, proofs.Logic.both, proofs.Logic.less, proofs.KeyLemmas.firsts_sorted}
 use Rattle.pk_rootfmt.specs.Root.{named}
@@ -20,12 +20,7 @@ stores shape flash pending top found m key place value under own stands room fit
     let spaces = root_spaces shape top.1 in
     let added = in_spaces_last spaces pending (key, Some place) values.spaced own in
     let fitting = subst T (sym fit) tt in
-    record {
-      is_top = under.is_top;
-      is_found = under.is_found;
-      is_map = reading-store shape (page_at flash) top.1 found pending m key place value (nothing_fits shape (named top.1)) under.is_map stands
-          (both _ _ (le→leb _ _ room) added) fitting within;
-    }
+    search (reading-store shape (page_at flash) top.1 found pending m key place value (nothing_fits shape (named top.1)) under.is_map stands (both _ _ (le→leb _ _ room) added) fitting within)
 
 -- ---- a key less
 
@@ -63,12 +58,11 @@ placed-gone k ((q, None) ∷ es) h =
 reads-kept : (shape : Shape) (blocks : List ℕ) (at : ℕ → Page) (p : Key → Bool) (es : List (Key × Place)) (vs : List (Key × List ℕ))
     → Reads shape blocks at es vs → Reads shape blocks at (kept p es) (where_key key_cmp p vs)
 reads-kept shape blocks at p [] [] reads = tt
-reads-kept shape blocks at p [] (v ∷ vs) reads = absurd reads
-reads-kept shape blocks at p (e ∷ es) [] reads = absurd reads
 reads-kept shape blocks at p (e ∷ es) (v ∷ vs) reads =
     let rest = reads-kept shape blocks at p es vs reads.1 in
     let same : p v.0 ≡ p e.0 = ap p reads.0.0 in
     rw same (elim (p e.0) as (λ b. Reads shape blocks at (cond b (e ∷ kept p es) (kept p es)) (cond b (v ∷ where_key key_cmp p vs) (where_key key_cmp p vs))) [ true ↦ (reads.0, rest) | false ↦ rest ])
+reads-kept shape blocks at p es vs reads = absurd reads
 
 turned : (k q : Key) → eq_by_cmp key_cmp k q ≡ eq_by_cmp key_cmp q k
 turned k q = (eq_by_cmp_equiv key_total).symm k q

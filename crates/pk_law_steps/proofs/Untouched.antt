@@ -1,10 +1,10 @@
 -- What is not read may change.
-use Rattle.std.proofs.Common.{◌≡◌, ◌⊎◌, inl, inr, ℕ, zero, suc, ◌+◌, ◌-◌, ◌/◌, ◌<◌, ◌≤◌, refl, sym, subst, ◌∙◌, arith, true, false, T, List, [], ◌∷◌, ◌++◌, length, drop, nat_le, nat_eq, ◌==◌, Result}
-use Rattle.std.proofs.Common.{Bool, Ok, leb→le, leb-false, eq-or-lt_of_le, div-lt_iff_lt-mul}
+use Rattle.std.proofs.Common.{◌≡◌, ◌⊎◌, inl, inr, ℕ, zero, suc, ◌+◌, ◌-◌, ◌/◌, ◌<◌, ◌≤◌, refl, sym, subst, ◌∙◌, arith, true, false, T, List, [], ◌∷◌, ◌++◌, length, drop, nat_le, nat_eq, ◌==◌, Bool}
+use Rattle.std.proofs.Common.{Ok, leb→le, leb-false, eq-or-lt_of_le, div-lt_iff_lt-mul}
 use Rattle.std.{specs.List.list_all, specs.List.starts_with, specs.List.concat, specs.FinMap.from_entries}
 use Rattle.pk_base.{specs.Key.Key, specs.Shape.Shape, specs.Shape.charge, specs.Shape.buffer, specs.Entry.Entry, specs.Entry.Place, specs.Firsts.firsts, specs.Map.Map}
 use Rattle.pk_base.{specs.Page.Page, specs.Page.Flash, specs.Page.page_at, specs.Page.erased, specs.Page.whole, specs.Page.torn, specs.Page.page_in, proofs.ShapeLemmas.block_pages_positive}
-use Rattle.pk_base.{specs.Refusal.Refusal, specs.Refusal.not_formatted, specs.Refusal.ensure, specs.Refusal.some_or, proofs.Logic.passed, proofs.Logic.left_part, proofs.Logic.right_part}
+use Rattle.pk_base.{specs.Refusal.not_formatted, specs.Refusal.ensure, specs.Refusal.some_or, proofs.Logic.passed, proofs.Logic.ok_same, proofs.Logic.left_part, proofs.Logic.right_part}
 use Rattle.pk_segfmt.specs.Value.{head_bytes, value_page, value_from, value_at}
 use Rattle.pk_rootfmt.{specs.Root.Root, specs.Root.named, specs.Newest.newest_root}
 use Rattle.pk_model.{specs.RootLimits.root_limits, specs.RootLimits.root_spaces, specs.Found.Found, specs.Found.found_under, specs.Found.entries_in_order, specs.Values.values_of}
@@ -96,9 +96,6 @@ values_under shape flash extra root found m ok =
       read = values.1;
       whole_map = ok_same _ _ values.2;
     }
-  where
-    ok_same : (x y : Map) → ◌≡◌ {A = Result Map Refusal} (Ok x) (Ok y) → x ≡ y
-    ok_same x y e = cc
 
 pub value_page_whole : (shape : Shape) (flash : Flash) (extra : List Entry) (top : ℕ × Root) (found : Found) (m : Map)
     → IsUnder shape flash extra top found m → (k : ℕ) → IsValuePage shape (places found extra) k → IsWholePage (page_at flash k)
