@@ -1,7 +1,7 @@
 -- Counts of blocks after one changes its state.
 use Rattle.std.{proofs.Common.inl, proofs.Common.inr, proofs.Common.[], proofs.Common.◌∷◌, proofs.Common.refl, proofs.Common.arith, specs.Prelude.not, proofs.lemmas.List.Sums.sum_by-cons}
 use Rattle.pk_pool.{specs.declared.state.BlockState.BlockState, specs.Blocks.is_ready, proofs.Sharing.count-set}
-use Rattle.pk_pool.specs.declared.state.BlockState.TheVariants.{Root, Free, Ready, Owned, Leaving}
+use Rattle.pk_pool.specs.declared.state.BlockState.TheVariants.{Root, Free, Ready, Owned}
 use Rattle.pk_pool.specs.Unready.{Erased, TakenReady, TakenFree, GivenBack, AllCounted, TakePays}
 
 pub erased : Erased
@@ -19,10 +19,7 @@ given_back states b o is = omega (arith, count-set (λ s. not (is_ready s)) stat
 pub all_counted : AllCounted
 all_counted [] = refl
 all_counted (Root ∷ ss) = omega (arith, all_counted ss, sum_by-cons {X = BlockState})
-all_counted (Free ∷ ss) = omega (arith, all_counted ss, sum_by-cons {X = BlockState})
-all_counted (Ready ∷ ss) = omega (arith, all_counted ss, sum_by-cons {X = BlockState})
-all_counted (Owned o ∷ ss) = omega (arith, all_counted ss, sum_by-cons {X = BlockState})
-all_counted (Leaving o ∷ ss) = omega (arith, all_counted ss, sum_by-cons {X = BlockState})
+all_counted (_ ∷ ss) = omega (arith, all_counted ss, sum_by-cons {X = BlockState})
 
 pub take_pays : TakePays
 take_pays p b o left left' (inl free) less = let e = taken_free p.states b o free in record { none_ready = omega arith; less = omega arith }

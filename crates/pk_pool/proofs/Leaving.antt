@@ -33,32 +33,21 @@ state_after (s ∷ ss) (suc b) t h = state_after ss b t h
 
 -- a state that no freed block has was there before
 was_ready : (t : BlockState) → freed_state t ≡ Ready → t ≡ Ready
-was_ready Root h = cc
-was_ready Free h = cc
 was_ready Ready h = refl
-was_ready (Owned o) h = cc
-was_ready (Leaving o) h = cc
+was_ready _ h = cc
 
 was_owned : (t : BlockState) (o : Owner) → freed_state t ≡ Owned o → t ≡ Owned o
-was_owned Root o h = cc
-was_owned Free o h = cc
-was_owned Ready o h = cc
 was_owned (Owned p) o h = h
-was_owned (Leaving p) o h = cc
+was_owned _ o h = cc
 
 was_free : (t : BlockState) → freed_state t ≡ Free → (t ≡ Free) ⊎ ((o : Owner) × (t ≡ Leaving o))
-was_free Root h = cc
 was_free Free h = inl refl
-was_free Ready h = cc
-was_free (Owned o) h = cc
 was_free (Leaving o) h = inr (o, refl)
+was_free _ h = cc
 
 none_is_leaving : (t : BlockState) (o : Owner) → freed_state t ≡ Leaving o → ⊥
 none_is_leaving Root o h = cc
-none_is_leaving Free o h = cc
-none_is_leaving Ready o h = cc
-none_is_leaving (Owned p) o h = cc
-none_is_leaving (Leaving p) o h = cc
+none_is_leaving _ o h = cc
 
 pub none_leaves : (p : Blocks) → NoneLeaves (freed p)
 none_leaves p b o h = let was = state_before p.states b (Leaving o) h in none_is_leaving was.0 o was.2
@@ -66,10 +55,7 @@ none_leaves p b o h = let was = state_before p.states b (Leaving o) h in none_is
 used_map : (o : Owner) (states : List BlockState) → used_by o (map freed_state states) ≤ used_by o states
 used_map o [] = omega arith
 used_map o (Root ∷ ss) = omega (arith, used_map o ss, sum_by-cons {X = BlockState})
-used_map o (Free ∷ ss) = omega (arith, used_map o ss, sum_by-cons {X = BlockState})
-used_map o (Ready ∷ ss) = omega (arith, used_map o ss, sum_by-cons {X = BlockState})
-used_map o (Owned p ∷ ss) = omega (arith, used_map o ss, sum_by-cons {X = BlockState})
-used_map o (Leaving p ∷ ss) = omega (arith, used_map o ss, sum_by-cons {X = BlockState})
+used_map o (_ ∷ ss) = omega (arith, used_map o ss, sum_by-cons {X = BlockState})
 
 pub freed_used : (p : Blocks) (o : Owner) → used_by o (freed p).states ≤ used_by o p.states
 freed_used p o = used_map o p.states
@@ -77,10 +63,7 @@ freed_used p o = used_map o p.states
 roots_freed : (states : List BlockState) → count_by is_root (map freed_state states) ≡ count_by is_root states
 roots_freed [] = refl
 roots_freed (Root ∷ ss) = omega (arith, roots_freed ss, sum_by-cons {X = BlockState})
-roots_freed (Free ∷ ss) = omega (arith, roots_freed ss, sum_by-cons {X = BlockState})
-roots_freed (Ready ∷ ss) = omega (arith, roots_freed ss, sum_by-cons {X = BlockState})
-roots_freed (Owned o ∷ ss) = omega (arith, roots_freed ss, sum_by-cons {X = BlockState})
-roots_freed (Leaving o ∷ ss) = omega (arith, roots_freed ss, sum_by-cons {X = BlockState})
+roots_freed (_ ∷ ss) = omega (arith, roots_freed ss, sum_by-cons {X = BlockState})
 
 pub shared_freed : (shape : Shape) (states : List BlockState) → IsShared shape states → IsShared shape (map freed_state states)
 shared_freed shape states i = record {
@@ -105,11 +88,8 @@ unfreed_fits p f fits = record { erased = λ b is. fits.erased b (state_after p.
 
 states_same : (states : List BlockState) → ((b : ℕ) (o : Owner) → slice_get states b ≡ Some (Leaving o) → ⊥) → map freed_state states ≡ states
 states_same [] none = refl
-states_same (Root ∷ ss) none = ap (λ xs. Root ∷ xs) (states_same ss (λ b. none (suc b)))
-states_same (Free ∷ ss) none = ap (λ xs. Free ∷ xs) (states_same ss (λ b. none (suc b)))
-states_same (Ready ∷ ss) none = ap (λ xs. Ready ∷ xs) (states_same ss (λ b. none (suc b)))
-states_same (Owned o ∷ ss) none = ap (λ xs. Owned o ∷ xs) (states_same ss (λ b. none (suc b)))
 states_same (Leaving o ∷ ss) none = absurd (none 0 o refl)
+states_same (s ∷ ss) none = ap (λ xs. s ∷ xs) (states_same ss (λ b. none (suc b)))
 
 pub freed_same : FreedSame
 freed_same p none = ap (λ states. record { shape = p.shape; states = states }) (states_same p.states none)
@@ -147,10 +127,7 @@ owned_freed p b o = (state_after p.states b (Owned o), freed_owned p b o)
 unready_map : (states : List BlockState) → count_by (λ s. not (is_ready s)) (map freed_state states) ≡ count_by (λ s. not (is_ready s)) states
 unready_map [] = refl
 unready_map (Root ∷ ss) = omega (arith, unready_map ss, sum_by-cons {X = BlockState})
-unready_map (Free ∷ ss) = omega (arith, unready_map ss, sum_by-cons {X = BlockState})
-unready_map (Ready ∷ ss) = omega (arith, unready_map ss, sum_by-cons {X = BlockState})
-unready_map (Owned o ∷ ss) = omega (arith, unready_map ss, sum_by-cons {X = BlockState})
-unready_map (Leaving o ∷ ss) = omega (arith, unready_map ss, sum_by-cons {X = BlockState})
+unready_map (_ ∷ ss) = omega (arith, unready_map ss, sum_by-cons {X = BlockState})
 
 pub freed_unready : FreedUnready
 freed_unready p = unready_map p.states

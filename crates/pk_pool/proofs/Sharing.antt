@@ -20,37 +20,24 @@ count-set p states b s t h =
 pub all_counted : (states : List BlockState)
     → count_by is_root states + count_by is_free states + count_by is_ready states + used_by Journal states + used_by Meta states + used_by Values states ≡ length states
 all_counted [] = refl
-all_counted (Root ∷ ss) = omega (arith, all_counted ss, sum_by-cons {X = BlockState})
-all_counted (Free ∷ ss) = omega (arith, all_counted ss, sum_by-cons {X = BlockState})
-all_counted (Ready ∷ ss) = omega (arith, all_counted ss, sum_by-cons {X = BlockState})
 all_counted (Owned Journal ∷ ss) = omega (arith, all_counted ss, sum_by-cons {X = BlockState})
-all_counted (Owned Meta ∷ ss) = omega (arith, all_counted ss, sum_by-cons {X = BlockState})
-all_counted (Owned Values ∷ ss) = omega (arith, all_counted ss, sum_by-cons {X = BlockState})
 all_counted (Leaving Journal ∷ ss) = omega (arith, all_counted ss, sum_by-cons {X = BlockState})
-all_counted (Leaving Meta ∷ ss) = omega (arith, all_counted ss, sum_by-cons {X = BlockState})
-all_counted (Leaving Values ∷ ss) = omega (arith, all_counted ss, sum_by-cons {X = BlockState})
+all_counted (_ ∷ ss) = omega (arith, all_counted ss, sum_by-cons {X = BlockState})
 
 none_ready : (states : List BlockState) → IsNowhere Ready states → count_by is_ready states ≡ 0
 none_ready [] h = refl
 none_ready (Ready ∷ ss) h = absurd (h 0 refl)
-none_ready (Root ∷ ss) h = omega (arith, none_ready ss (λ k. h (suc k)), sum_by-cons {X = BlockState})
-none_ready (Free ∷ ss) h = omega (arith, none_ready ss (λ k. h (suc k)), sum_by-cons {X = BlockState})
-none_ready (Owned o ∷ ss) h = omega (arith, none_ready ss (λ k. h (suc k)), sum_by-cons {X = BlockState})
-none_ready (Leaving o ∷ ss) h = omega (arith, none_ready ss (λ k. h (suc k)), sum_by-cons {X = BlockState})
+none_ready (_ ∷ ss) h = omega (arith, none_ready ss (λ k. h (suc k)), sum_by-cons {X = BlockState})
 
 pub none_free : (states : List BlockState) → IsNowhere Free states → count_by is_free states ≡ 0
 none_free [] h = refl
 none_free (Free ∷ ss) h = absurd (h 0 refl)
-none_free (Root ∷ ss) h = omega (arith, none_free ss (λ k. h (suc k)), sum_by-cons {X = BlockState})
-none_free (Ready ∷ ss) h = omega (arith, none_free ss (λ k. h (suc k)), sum_by-cons {X = BlockState})
-none_free (Owned o ∷ ss) h = omega (arith, none_free ss (λ k. h (suc k)), sum_by-cons {X = BlockState})
-none_free (Leaving o ∷ ss) h = omega (arith, none_free ss (λ k. h (suc k)), sum_by-cons {X = BlockState})
+none_free (_ ∷ ss) h = omega (arith, none_free ss (λ k. h (suc k)), sum_by-cons {X = BlockState})
 
 -- below its quota an owner finds a block
 pub one_is_left : (shape : Shape) (states : List BlockState) (o : Owner) → IsShared shape states → used_by o states < quota_of shape o → IsNowhere Ready states → IsNowhere Free states → ⊥
 one_is_left shape states Journal i h r f = omega (arith, all_counted states, none_ready states r, none_free states f, i.roots, i.plan.shared, i.size, i.within Journal, i.within Meta, i.within Values)
-one_is_left shape states Meta i h r f = omega (arith, all_counted states, none_ready states r, none_free states f, i.roots, i.plan.shared, i.size, i.within Journal, i.within Meta, i.within Values)
-one_is_left shape states Values i h r f = omega (arith, all_counted states, none_ready states r, none_free states f, i.roots, i.plan.shared, i.size, i.within Journal, i.within Meta, i.within Values)
+one_is_left shape states _ i h r f = omega (arith, all_counted states, none_ready states r, none_free states f, i.roots, i.plan.shared, i.size, i.within Journal, i.within Meta, i.within Values)
 
 -- a block that is no root block comes after them
 pub behind_roots : (shape : Shape) (states : List BlockState) (b : ℕ) (s : BlockState) → (Root ≡ s → ⊥) → slice_get states b ≡ Some s → IsShared shape states → 2 ≤ b
@@ -68,10 +55,7 @@ few shape states b s h i = omega (arith, exists shape states b s h i, i.plan.is_
 
 not_root_is : (s : BlockState) → (Root ≡ s → ⊥) → is_root s ≡ false
 not_root_is Root h = absurd (h refl)
-not_root_is Free h = refl
-not_root_is Ready h = refl
-not_root_is (Owned o) h = refl
-not_root_is (Leaving o) h = refl
+not_root_is _ h = refl
 
 -- a block that is no root block becomes another one that is none
 module _ (shape : Shape) (states : List BlockState) (b : ℕ) (s t : BlockState) (s_is : Root ≡ s → ⊥) (t_is : Root ≡ t → ⊥) (h : slice_get states b ≡ Some s) (i : IsShared shape states) where
@@ -94,19 +78,13 @@ module _ (shape : Shape) (states : List BlockState) (b : ℕ) (s t : BlockState)
 within_taken : (shape : Shape) (states : List BlockState) (b : ℕ) (s : BlockState) (o p : Owner) → slice_get states b ≡ Some s
     → IsShared shape states → used_by o states < quota_of shape o → used_by p (set states b (Owned o)) ≤ quota_of shape p
 within_taken shape states b s Journal Journal h i below = omega (arith, count-set (is_owned_by Journal) states b s (Owned Journal) h, i.within Journal, below)
-within_taken shape states b s Journal Meta h i below = omega (arith, count-set (is_owned_by Meta) states b s (Owned Journal) h, i.within Meta, below)
-within_taken shape states b s Journal Values h i below = omega (arith, count-set (is_owned_by Values) states b s (Owned Journal) h, i.within Values, below)
 within_taken shape states b s Meta Journal h i below = omega (arith, count-set (is_owned_by Journal) states b s (Owned Meta) h, i.within Journal, below)
-within_taken shape states b s Meta Meta h i below = omega (arith, count-set (is_owned_by Meta) states b s (Owned Meta) h, i.within Meta, below)
-within_taken shape states b s Meta Values h i below = omega (arith, count-set (is_owned_by Values) states b s (Owned Meta) h, i.within Values, below)
 within_taken shape states b s Values Journal h i below = omega (arith, count-set (is_owned_by Journal) states b s (Owned Values) h, i.within Journal, below)
-within_taken shape states b s Values Meta h i below = omega (arith, count-set (is_owned_by Meta) states b s (Owned Values) h, i.within Meta, below)
-within_taken shape states b s Values Values h i below = omega (arith, count-set (is_owned_by Values) states b s (Owned Values) h, i.within Values, below)
+within_taken shape states b s o p h i below = omega (arith, count-set (is_owned_by p) states b s (Owned o) h, i.within p, below)
 
 same_is : (o : Owner) → same_owner o o ≡ true
 same_is Journal = refl
-same_is Meta = refl
-same_is Values = refl
+same_is _ = refl
 
 -- the owner of a free block that is taken has one more
 pub used_taken : (states : List BlockState) (b : ℕ) (s : BlockState) (o : Owner) → is_owned_by o s ≡ false → slice_get states b ≡ Some s → used_by o (set states b (Owned o)) ≡ used_by o states + 1
