@@ -10,18 +10,17 @@ use Rattle.pk_rootfmt.{specs.Root.Root, specs.Root.root_bytes, specs.Root.is_roo
 use Rattle.pk_model.{specs.Found.Found, specs.Laws.IsInstall, specs.Spaces.limits_at, specs.Growth.Grows, specs.Growth.Reaches, specs.Growth.Goes, specs.Crashes.CrashFinds, specs.Crashes.background}
 use Rattle.pk_model.{specs.Wear.root_number, specs.Wear.roots, proofs.Roots.root_pair, proofs.Roots.newest_sound, proofs.Growing.top_limits, proofs.RootLimits.limits_under, proofs.Steps.roots_few}
 use Rattle.pk_model.{proofs.Running.Reaches-program, proofs.Running.Goes-program, proofs.Commits.root_valid}
-use Rattle.pk_root.{specs.declared.next.Next.Next, specs.declared.next.Next.TheVariants.Erase, specs.declared.next.Next.TheVariants.Program, specs.declared.next.Next.TheVariants.Again}
+use Rattle.pk_root.{specs.declared.next.Next.Next, specs.declared.next.Next.TheVariants.Again}
 use Rattle.pk_root.specs.Installing.{repeats_next, before_pair, InstallerOnFlash, Repeats, FailsToRepeat}
 use Rattle.pk_root.proofs.Installs.{again_install, again_start, again_fits, again_behind}
 use Rattle.pk_law_steps.{specs.Under.IsUnder, proofs.Untouched.under_reads}
 use Rattle.pk_compact.{specs.Installing.CanRepeat, specs.Installing.IsRepeated, specs.Installing.RepeatsRoot, specs.Installing.RepeatBreaks, specs.Steps.StepByCall, proofs.NextRoot.number_of_top}
-use Rattle.pk_compact.{proofs.Installing.under_at, proofs.Installing.under_behind, proofs.Growing.program_calls, proofs.Growing.program_failed_calls, proofs.Numbering.repeat_number}
+use Rattle.pk_compact.{proofs.Installing.under_at, proofs.Installing.under_behind, proofs.Growing.made_by, proofs.Growing.failed_by, proofs.Growing.program_calls, proofs.Growing.program_failed_calls, proofs.Numbering.repeat_number}
 
 -- the page whose second one is next
 abbrev again_page : Next → ℕ
-again_page (Erase beside) = 0
-again_page (Program page) = 0
 again_page (Again page) = page
+again_page _ = 0
 
 module _ (shape : Shape) (is_shape : IsShape shape) (root : Root) (next : Next) (old : BoardState) (ready : IsReady old shape)
     (top : ℕ × Root) (found : Found) (m : Map) (can : CanRepeat shape root next old.pages top found m) where
@@ -175,29 +174,10 @@ module _ (shape : Shape) (is_shape : IsShape shape) (root : Root) (next next' : 
       → StepByCall (λ u. RepeatsRoot shape root next old next' new) (RepeatBreaks shape root next old new) shape 1 old new r
   repeat_step (Ok u) r is_whole stopped failed =
       let same = (is_repeated shape is_shape root next old ready can.0 can.1 can.2 can.3 next' new is_whole behind r).number in
-      record {
-        step = record {
-          ended = λ top found m may. is_repeated shape is_shape root next old ready top found m may next' new is_whole behind r;
-          broken = tt;
-          works = works_program old new (r.page + 1) (root_bytes shape root) r.program;
-          stops = tt;
-          stopped = tt;
-          roots_few = roots_few shape 1 old new ready then_ready (omega (arith, same));
-          ready = then_ready;
-        };
-        calls = program_calls old new (r.page + 1) (root_bytes shape root) r.program;
-        grows = inl ((is_repeated shape is_shape root next old ready can.0 can.1 can.2 can.3 next' new is_whole behind r).under.is_top ∙ sym can.3.under.is_top);
-      }
-  repeat_step (Err fault) r is_whole stopped f = record {
-    step = record {
-      ended = tt;
-      broken = λ top found m may. repeat_breaks shape is_shape root next old ready top found m may new f;
-      works = tt;
-      stops = stops_program old new (f.page + 1) (root_bytes shape root) f.failed;
-      stopped = stopped;
-      roots_few = roots_few shape 1 old new ready then_ready (let less = failed_less f in omega (arith, less));
-      ready = then_ready;
-    };
-    calls = program_failed_calls old new (f.page + 1) (root_bytes shape root) f.failed;
-    grows = tt;
-  }
+      made_by (λ top found m may. is_repeated shape is_shape root next old ready top found m may next' new is_whole behind r)
+      (works_program old new (r.page + 1) (root_bytes shape root) r.program) (roots_few shape 1 old new ready then_ready (omega (arith, same))) then_ready
+      (program_calls old new (r.page + 1) (root_bytes shape root) r.program)
+      (inl ((is_repeated shape is_shape root next old ready can.0 can.1 can.2 can.3 next' new is_whole behind r).under.is_top ∙ sym can.3.under.is_top))
+  repeat_step (Err fault) r is_whole stopped f =
+      failed_by (λ top found m may. repeat_breaks shape is_shape root next old ready top found m may new f) (stops_program old new (f.page + 1) (root_bytes shape root) f.failed) stopped
+      (roots_few shape 1 old new ready then_ready (let less = failed_less f in omega (arith, less))) then_ready (program_failed_calls old new (f.page + 1) (root_bytes shape root) f.failed)

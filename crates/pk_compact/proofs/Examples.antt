@@ -1,5 +1,5 @@
 -- A flash that was just formatted may be frozen.
-use Rattle.std.proofs.Common.{◌≡◌, inl, inr, ℕ, [], ◌∷◌, replicate, Some, Ok, false, refl, sym, subst, arith, slice_set}
+use Rattle.std.proofs.Common.{◌≡◌, inl, inr, ℕ, [], ◌∷◌, replicate, Some, Ok, false, refl, sym, ap, subst, arith, slice_set}
 use Rattle.std.{specs.Prelude.slice_get, specs.FinMap.from_entries}
 use Rattle.pk_base.specs.Shape.{Shape, checked, deepest, meta_blocks, limit, data_blocks, charge, greatest}
 use Rattle.pk_base.{specs.Page.Flash, specs.Page.page_at, specs.Page.erased, specs.Page.whole, specs.Map.Map}
@@ -8,8 +8,7 @@ use Rattle.pk_jrnfmt.specs.Epoch.{epoch}
 use Rattle.pk_meta.specs.Run.{run}
 use Rattle.pk_rootfmt.{specs.Root.Root, specs.Root.root_bytes, specs.Root.root_page, specs.Held.Held, specs.Held.first, specs.Newest.newest_root}
 use Rattle.pk_model.{specs.Found.Found, specs.Found.found_under, specs.Found.runs_from, specs.Values.values_of, specs.Reading.map_under, specs.RootLimits.root_limits}
-use Rattle.pk_pool.specs.declared.state.BlockState.TheVariants.{Free, Ready, Owned}
-use Rattle.pk_pool.specs.Blocks.{Blocks, unused, with_state, IsSpare, PoolOnFlash}
+use Rattle.pk_pool.{specs.declared.state.BlockState.TheVariants.Owned, specs.Blocks.Blocks, specs.Blocks.unused, specs.Blocks.with_state, specs.Blocks.IsSpare, specs.Blocks.PoolOnFlash}
 use Rattle.pk_root.{specs.declared.next.Next.Next, specs.Installing.InstallerOnFlash, specs.Installing.repeats_next}
 use Rattle.pk_law_steps.proofs.Places.{In}
 use Rattle.pk_compact.{specs.declared.freezing.FreezeJob.TheVariants.Idle, specs.FreezeSteps.IsFreezing}
@@ -45,28 +44,16 @@ made_map : map_under small (page_at made) first nothing [] ≡ Ok empty
 unfolding map_under root_limits values_of charge limit data_blocks meta_blocks deepest greatest
 made_map = refl
 
-two_free : slice_get adopted.states 2 ≡ Some Free → ⊥
-two_free e = cc
-
-two_ready : slice_get adopted.states 2 ≡ Some Ready → ⊥
-two_ready e = cc
-
-three_free : slice_get adopted.states 3 ≡ Some Free → ⊥
-three_free e = cc
-
-three_ready : slice_get adopted.states 3 ≡ Some Ready → ⊥
-three_ready e = cc
-
 not_named : (b : ℕ) → IsSpare adopted b → In b (2 ∷ 3 ∷ []) → ⊥
-not_named b (inl free) (inl e) = let P : ℕ → Type 0 = λ x. slice_get adopted.states x ≡ Some Free in two_free (subst P e free)
-not_named b (inl free) (inr (inl e)) = let P : ℕ → Type 0 = λ x. slice_get adopted.states x ≡ Some Free in three_free (subst P e free)
-not_named b (inr ready) (inl e) = let P : ℕ → Type 0 = λ x. slice_get adopted.states x ≡ Some Ready in two_ready (subst P e ready)
-not_named b (inr ready) (inr (inl e)) = let P : ℕ → Type 0 = λ x. slice_get adopted.states x ≡ Some Ready in three_ready (subst P e ready)
+not_named b (inl free) (inl e) = let two = ap (λ x. slice_get adopted.states x) e in cc
+not_named b (inl free) (inr (inl e)) = let three = ap (λ x. slice_get adopted.states x) e in cc
+not_named b (inr ready) (inl e) = let two = ap (λ x. slice_get adopted.states x) e in cc
+not_named b (inr ready) (inr (inl e)) = let three = ap (λ x. slice_get adopted.states x) e in cc
 not_named b spare (inr (inr none)) = absurd none
 
 is_owned : (b : ℕ) → In b (2 ∷ 3 ∷ []) → slice_get adopted.states b ≡ Some (Owned Journal)
-is_owned b (inl e) = let P : ℕ → Type 0 = λ x. slice_get adopted.states x ≡ Some (Owned Journal) in subst P (sym e) refl
-is_owned b (inr (inl e)) = let P : ℕ → Type 0 = λ x. slice_get adopted.states x ≡ Some (Owned Journal) in subst P (sym e) refl
+is_owned b (inl e) = ap (λ x. slice_get adopted.states x) e
+is_owned b (inr (inl e)) = ap (λ x. slice_get adopted.states x) e
 is_owned b (inr (inr none)) = absurd none
 
 abbrev top : ℕ × Root

@@ -25,16 +25,12 @@ use Rattle.pk_compact.{proofs.NextRoot.programs_whole, proofs.TakingOne.all_more
 one_fewer : (next next' : Next) (u : ℕ) → programs_next next' ≡ true → erases_next next ≡ true
     → Lowers (steps_of (freeze_rest 2 (install_steps next))) u (steps_of (freeze_rest 2 (install_steps next'))) u
 one_fewer (Erase beside) (Program page) u e f = record { none_ready = omega arith; less = omega arith }
-one_fewer (Erase beside) (Erase other) u e f = absurd (let x : ⊥ = cc in x)
-one_fewer (Erase beside) (Again page) u e f = absurd (let x : ⊥ = cc in x)
-one_fewer (Program page) next' u e f = absurd (let x : ⊥ = cc in x)
-one_fewer (Again page) next' u e f = absurd (let x : ⊥ = cc in x)
+one_fewer _ _ u e f = absurd (cc)
 
 -- the first program leaves the second one
 last_lowers : (next : Next) (u : ℕ) → repeats_next next ≡ false → Lowers (steps_of (freeze_rest 2 (install_steps next))) u 1 u
-last_lowers (Erase beside) u whole = record { none_ready = omega arith; less = omega arith }
-last_lowers (Program page) u whole = record { none_ready = omega arith; less = omega arith }
-last_lowers (Again page) u whole = absurd (let x : ⊥ = cc in x)
+last_lowers (Again page) u whole = absurd (cc)
+last_lowers _ u whole = record { none_ready = omega arith; less = omega arith }
 
 module _ (pool : Blocks) (root : Held) (next : Next) (first second : ℕ) (has_entries : Bool) (old : BoardState) (shared : IsShared pool.shape pool.states) (ready : IsReady old root.shape)
     (top : ℕ × Root) (found : Found) (m : Map) (is : IsFreezing pool root next (HasTwo first second) old.pages has_entries top found m) where
@@ -137,37 +133,30 @@ module _ (pool : Blocks) (root : Held) (next : Next) (first second : ℕ) (has_e
   in_runs : (b : ℕ) → In b (concat root.root.runs) → In b (named root.root)
   in_runs b among = any_behind (λ c. b ≡ c) (root.root.newest ++ root.root.older) (concat root.root.runs) among
 
-  not_one : (b : ℕ) → IsSpare pool b → b ≢ first
-  not_one b spare e = owned_not_spare pool first one.owned (let P : ℕ → Type 0 = λ x. IsSpare pool x in subst P e spare)
-
-  not_other : (b : ℕ) → IsSpare pool b → b ≢ second
-  not_other b spare e = owned_not_spare pool second other.owned (let P : ℕ → Type 0 = λ x. IsSpare pool x in subst P e spare)
-
-  former_not_one : (b : ℕ) → In b root.root.newest → b ≢ first
-  former_not_one b among e = one.unnamed (in_newest first (let P : ℕ → Type 0 = λ x. In x root.root.newest in subst P e among))
-
-  former_not_other : (b : ℕ) → In b root.root.newest → b ≢ second
-  former_not_other b among e = other.unnamed (in_newest second (let P : ℕ → Type 0 = λ x. In x root.root.newest in subst P e among))
+  -- no block that was taken is spare, or of the former epoch
+  taken_not : (b x : ℕ) → IsTaken shape pool old.pages root.root x → IsSpare pool b ⊎ In b root.root.newest → b ≢ x
+  taken_not b x taken (inl spare) e = owned_not_spare pool x taken.owned (let P : ℕ → Type 0 = λ y. IsSpare pool y in subst P e spare)
+  taken_not b x taken (inr among) e = taken.unnamed (in_newest x (let P : ℕ → Type 0 = λ y. In y root.root.newest in subst P e among))
 
   former_not_run : (b : ℕ) → In b root.root.newest → In b (concat root.root.runs) → ⊥
   former_not_run b among run = apart b (root.root.newest ++ root.root.older) (concat root.root.runs) all_different (any_front (λ c. b ≡ c) root.root.newest root.root.older among) run
 
   unnamed_after : (h : Bool) (b : ℕ) → IsSpare (given_back pool (if h then [] else root.root.newest)) b → In b (named (next_root root.root blocks h)) → ⊥
-  unnamed_after true b spare (inl e) = not_one b spare e
-  unnamed_after true b spare (inr (inl e)) = not_other b spare e
+  unnamed_after true b spare (inl e) = taken_not b first one (inl spare) e
+  unnamed_after true b spare (inr (inl e)) = taken_not b second other (inl spare) e
   unnamed_after true b spare (inr (inr rest)) = elim (in_append b root.root.newest (concat root.root.runs) rest) [
     | inl newest ↦ owned_not_spare pool b (is.owned b newest) spare
     | inr run ↦ is.apart.unnamed b spare (in_runs b run)
   ]
   unnamed_after false b spare among = elim (spare_back root.root.newest pool b spare) [
     | inl former ↦ elim among [
-      | inl e ↦ former_not_one b former e
-      | inr (inl e) ↦ former_not_other b former e
+      | inl e ↦ taken_not b first one (inr former) e
+      | inr (inl e) ↦ taken_not b second other (inr former) e
       | inr (inr run) ↦ former_not_run b former run
     ]
     | inr still ↦ elim among [
-      | inl e ↦ not_one b still e
-      | inr (inl e) ↦ not_other b still e
+      | inl e ↦ taken_not b first one (inl still) e
+      | inr (inl e) ↦ taken_not b second other (inl still) e
       | inr (inr run) ↦ is.apart.unnamed b still (in_runs b run)
     ]
   ]
@@ -231,23 +220,11 @@ module _ (pool : Blocks) (root : Held) (next : Next) (first second : ℕ) (has_e
   pub erase_goes_on : (next' : Next) (new : BoardState) → erases_next next ≡ true → IsPrepared shape old top found m next' new
       → FreezeGoesOn pool root next (HasTwo first second) old has_entries top found m pool root next' (HasTwo first second) new
   erase_goes_on next' new erases p = record {
-    still = record {
-      pool_shape = is.pool_shape;
-      pool_fits = pool_behind new.pages p.behind;
-      installs = p.installs;
-      whole = programs_whole next' p.programs;
-      top_is = is.top_is;
-      under = p.under;
-      none_older = is.none_older;
-      none_named = is.none_named;
-      told = is.told;
-      number = is.number;
-      room = is.room;
-      owned = is.owned;
-      apart = is.apart;
-      taken = all_more (IsTaken shape pool old.pages root.root) (IsTaken shape pool new.pages root.root) (first ∷ second ∷ []) (taken_behind new.pages p.behind) is.taken;
-      different = is.different;
-    };
+    still =
+        (let fits = pool_behind new.pages p.behind in
+        let whole = programs_whole next' p.programs in
+        let taken = all_more (IsTaken shape pool old.pages root.root) (IsTaken shape pool new.pages root.root) (first ∷ second ∷ []) (taken_behind new.pages p.behind) is.taken in
+        assumption (p, is, fits, whole, taken));
     same_root = refl;
     lowers = one_fewer next next' (unready pool.states) p.programs erases;
     takes = inl (refl, refl);

@@ -1,20 +1,21 @@
 -- A step of a freeze, by how far it is.
-use Rattle.std.proofs.Common.{◌≡◌, ℕ, ◌+◌, ◌<◌, ◌≤◌, [], ◌∷◌, ◌++◌, Bool, true, false, length, refl, sym, ap, subst, arith, Ok, Err, Result}
+use Rattle.std.proofs.Common.{◌≡◌, ℕ, ◌+◌, ◌<◌, ◌≤◌, [], ◌∷◌, ◌++◌, Bool, true, false, length, sym, ap, subst, Ok, Err, Result}
 use Rattle.pk_base.{specs.Shape.Shape, specs.Map.Map}
 use Rattle.pk_plan.specs.declared.owner.Owner.TheVariants.{Journal}
 use Rattle.pk_nand.{specs.declared.types.Fault.Fault, specs.declared.types.Fault.TheVariants.Stopped, specs.BoardState.BoardState, specs.Calls.IsReady, specs.Operations.IsErasedBlock}
 use Rattle.pk_nand.proofs.Effects.{stops_erase}
 use Rattle.pk_rootfmt.{specs.Root.Root, specs.Held.Held}
-use Rattle.pk_model.{specs.Found.Found, specs.Growth.Goes, specs.Crashes.CrashFinds, specs.Crashes.background, specs.Steps.Step, proofs.Steps.RootsUpTo-same, proofs.Steps.Step-broken}
+use Rattle.pk_model.{specs.Found.Found, specs.Growth.Goes, specs.Growth.Grows, specs.Crashes.CrashFinds, specs.Crashes.background, proofs.Steps.RootsUpTo-same}
 use Rattle.pk_pool.{specs.declared.state.BlockState.TheVariants.Owned, specs.Taking.FailsToErase}
 use Rattle.pk_pool.specs.Blocks.{Blocks, IsShared, IsSpare, PoolOnFlash, used_by, with_state}
 use Rattle.pk_root.{specs.declared.next.Next.Next, specs.Installing.erases_next}
 use Rattle.pk_law_steps.specs.Roots.{frozen}
-use Rattle.pk_compact.{specs.Steps.AtMostErases, specs.Steps.next_root, specs.declared.freezing.FreezeJob.FreezeJob, proofs.Taking.works_at_most, proofs.NextRoot.roots_same}
-use Rattle.pk_compact.specs.declared.freezing.FreezeJob.TheVariants.{Idle, HasOne, HasTwo}
+use Rattle.pk_compact.{specs.Steps.AtMostErases, specs.Steps.StepByCall, specs.Steps.next_root, specs.declared.freezing.FreezeJob.FreezeJob, proofs.Taking.works_at_most, proofs.NextRoot.roots_same}
+use Rattle.pk_compact.specs.declared.freezing.FreezeJob.TheVariants.{Idle, HasTwo}
 use Rattle.pk_compact.specs.Installing.{CanPrepare, Prepares, PrepareBreaks, CanInstall, InstallsRoot, InstallBreaks}
 use Rattle.pk_compact.specs.FreezeSteps.{IsFreezing, FreezeGoesOn, FreezeInstalled, FreezeSteps, FreezeStepBreaks, taken_by}
-use Rattle.pk_compact.proofs.TakingOne.{take_goes_on, take_goes, took_number, take_failed_number}
+use Rattle.pk_compact.proofs.Growing.{made_by, failed_by, took_calls, took_grows, erase_failed_calls}
+use Rattle.pk_compact.proofs.TakingOne.{is_shape, take_goes_on, take_goes, took_number, take_failed_number}
 use Rattle.pk_compact.proofs.FreezeRoot.{can_prepare, erase_goes_on, held_can, froze, epoch_few, two_newest}
 
 -- what the pool says of a block that was taken
@@ -43,52 +44,20 @@ module _ {pool : Blocks} {root : Held} {next : Next} {job : FreezeJob} {has_entr
         subst P (sym taken.0) (take_goes_on pool root next job has_entries old shared ready top found m is few b new taken.1 spare.0
         (spare.1, spare.2) spare.3 job' job_is (subst Q taken.0 fits) (subst R taken.0 counted))
 
-    took_step : (job' : FreezeJob) → taken_by job' ≡ taken_by job ++ b ∷ []
-        → Step (λ done. FreezeSteps pool root next job old has_entries done pool' root next job' new) (FreezeStepBreaks pool root next job has_entries old new) root.shape 1 old new (Ok false)
+    pub took_step : (job' : FreezeJob) → taken_by job' ≡ taken_by job ++ b ∷ []
+        → StepByCall (λ done. FreezeSteps pool root next job old has_entries done pool' root next job' new) (FreezeStepBreaks pool root next job has_entries old new) root.shape 1 old new (Ok false)
     took_step job' job_is =
         let number = took_number pool root next job has_entries old shared ready may.0 may.1 may.2 may.3 few b new taken.1 spare.0 (spare.1, spare.2) spare.3 in
-        record {
-          ended = goes_on job' job_is;
-          broken = tt;
-          works = works_at_most b old new taken.1;
-          stops = tt;
-          stopped = tt;
-          roots_few = RootsUpTo-same 1 old new (roots_same root.shape old new ready (ready_by_root new then_ready) number);
-          ready = ready_by_root new then_ready;
-        }
-
-  -- the first one
-  pub first_step : job ≡ Idle → (b : ℕ) (pool' : Blocks) (new : BoardState) → Took pool old b pool' new → WasSpare pool b new → used_by Journal pool'.states ≡ used_by Journal pool.states + 1
-      → PoolOnFlash pool' new.pages → IsReady new pool.shape
-      → Step (λ done. FreezeSteps pool root next job old has_entries done pool' root next (HasOne b) new) (FreezeStepBreaks pool root next job has_entries old new) root.shape 1 old new (Ok false)
-  first_step was b pool' new taken spare counted fits then_ready =
-      let P : FreezeJob → Type 0 = λ j. length (taken_by j) < 2 in
-      let Q : FreezeJob → Type 0 = λ j. b ∷ [] ≡ taken_by j ++ b ∷ [] in
-      took_step (subst P (sym was) (omega arith)) b pool' new taken spare counted fits then_ready (HasOne b) (subst Q (sym was) refl)
-
-  -- the second one
-  pub second_step : (a : ℕ) → job ≡ HasOne a → (b : ℕ) (pool' : Blocks) (new : BoardState)
-      → Took pool old b pool' new → WasSpare pool b new → used_by Journal pool'.states ≡ used_by Journal pool.states + 1
-      → PoolOnFlash pool' new.pages → IsReady new pool.shape
-      → Step (λ done. FreezeSteps pool root next job old has_entries done pool' root next (HasTwo a b) new) (FreezeStepBreaks pool root next job has_entries old new) root.shape 1 old new (Ok false)
-  second_step a was b pool' new taken spare counted fits then_ready =
-      let P : FreezeJob → Type 0 = λ j. length (taken_by j) < 2 in
-      let Q : FreezeJob → Type 0 = λ j. a ∷ b ∷ [] ≡ taken_by j ++ b ∷ [] in
-      took_step (subst P (sym was) (omega arith)) b pool' new taken spare counted fits then_ready (HasTwo a b) (subst Q (sym was) refl)
+        made_by (goes_on job' job_is) (works_at_most b old new taken.1) (RootsUpTo-same 1 old new (roots_same root.shape old new ready (ready_by_root new then_ready) number)) (ready_by_root new then_ready)
+        (took_calls b old new taken.1) (took_grows root.shape (is_shape pool root next job has_entries old shared ready may.0 may.1 may.2 may.3) b old new taken.1 ready spare.1)
 
   -- the erase of a block failed
   pub take_broken : (pool' : Blocks) (root' : Held) (next' : Next) (job' : FreezeJob) (new : BoardState) (fault : Fault) → fault ≡ Stopped → FailsToErase pool old new → IsReady new pool.shape
-      → Step (λ done. FreezeSteps pool root next job old has_entries done pool' root' next' job' new) (FreezeStepBreaks pool root next job has_entries old new) root.shape 1 old new (Err fault)
-  take_broken pool' root' next' job' new fault stopped f then_ready = record {
-    ended = tt;
-    broken = λ top found m is. take_goes pool root next job has_entries old shared ready top found m is new f;
-    works = tt;
-    stops = stops_erase old new f.block f.failed;
-    stopped = stopped;
-    roots_few = RootsUpTo-same 1 old new
-        (roots_same root.shape old new ready (ready_by_root new then_ready) (take_failed_number pool root next job has_entries old shared ready may.0 may.1 may.2 may.3 new f));
-    ready = ready_by_root new then_ready;
-  }
+      → StepByCall (λ done. FreezeSteps pool root next job old has_entries done pool' root' next' job' new) (FreezeStepBreaks pool root next job has_entries old new) root.shape 1 old new (Err fault)
+  take_broken pool' root' next' job' new fault stopped f then_ready =
+      let number = take_failed_number pool root next job has_entries old shared ready may.0 may.1 may.2 may.3 new f in
+      failed_by (λ top found m is. take_goes pool root next job has_entries old shared ready top found m is new f) (stops_erase old new f.block f.failed) stopped
+      (RootsUpTo-same 1 old new (roots_same root.shape old new ready (ready_by_root new then_ready) number)) (ready_by_root new then_ready) (erase_failed_calls old new f.block f.failed)
 
   -- ---- the root
 
@@ -113,31 +82,24 @@ module _ {pool : Blocks} {root : Held} {next : Next} {job : FreezeJob} {has_entr
       can_prepare_at = (may.0, may.1, may.2, can_at may.0 may.1 may.2 may.3)
 
       abbrev Prepare : Shape → Next → BoardState → Result Unit Fault → Type 0
-      Prepare t next' new result = Step (λ u. Prepares t next old next' new) (PrepareBreaks t next old new) t 0 old new result
+      Prepare t next' new result = StepByCall (λ u. Prepares t next old next' new) (PrepareBreaks t next old new) t 0 old new result
 
       pub erase_step : (next' : Next) (new : BoardState) → erases_next next ≡ true → Prepare s next' new (Ok tt)
-          → Step (λ done. FreezeSteps pool root next job old has_entries done pool root next' job new) (FreezeStepBreaks pool root next job has_entries old new) root.shape 1 old new (Ok false)
+          → StepByCall (λ done. FreezeSteps pool root next job old has_entries done pool root next' job new) (FreezeStepBreaks pool root next job has_entries old new) root.shape 1 old new (Ok false)
       erase_step next' new erases step =
           let by_root : Prepare root.shape next' new (Ok tt) = let P : Shape → Type 0 = λ t. Prepare t next' new (Ok tt) in subst P told step in
           let Q : FreezeJob → Type 0 = λ j. (top : ℕ × Root) (found : Found) (m : Map)
           → IsFreezing pool root next j old.pages has_entries top found m → FreezeGoesOn pool root next j old has_entries top found m pool root next' j new in
-          record {
-            ended = subst Q (sym was) (λ top found m is. erase_goes_on pool root next first second has_entries old shared ready top found m is next' new erases
-                (by_root.ended top found m (can_prepare pool root next first second has_entries old shared ready top found m is)));
-            broken = tt;
-            works = by_root.works;
-            stops = tt;
-            stopped = tt;
-            roots_few = RootsUpTo-same 1 old new by_root.roots_few;
-            ready = by_root.ready;
-          }
+          made_by (subst Q (sym was) (λ top found m is. erase_goes_on pool root next first second has_entries old shared ready top found m is next' new erases
+          (by_root.step.ended top found m (can_prepare pool root next first second has_entries old shared ready top found m is))))
+          by_root.step.works (RootsUpTo-same 1 old new by_root.step.roots_few) by_root.step.ready by_root.calls by_root.grows
 
       pub erase_broken : (pool' : Blocks) (root' : Held) (next' : Next) (job' : FreezeJob) (new : BoardState) (fault : Fault) → Prepare s next' new (Err fault)
-          → Step (λ done. FreezeSteps pool root next job old has_entries done pool' root' next' job' new) (FreezeStepBreaks pool root next job has_entries old new) root.shape 1 old new (Err fault)
+          → StepByCall (λ done. FreezeSteps pool root next job old has_entries done pool' root' next' job' new) (FreezeStepBreaks pool root next job has_entries old new) root.shape 1 old new (Err fault)
       erase_broken pool' root' next' job' new fault step =
           let by_root : Prepare root.shape next' new (Err fault) = let P : Shape → Type 0 = λ t. Prepare t next' new (Err fault) in subst P told step in
-          Step-broken fault _ _ _ _ root.shape 0 1 old new (omega arith)
-          (λ broken top found m is. broken top found m (can_prepare pool root next first second has_entries old shared ready top found m (at_two top found m is))) by_root
+          failed_by (λ top found m is. by_root.step.broken top found m (can_prepare pool root next first second has_entries old shared ready top found m (at_two top found m is)))
+          by_root.step.stops by_root.step.stopped (RootsUpTo-same 1 old new by_root.step.roots_few) by_root.step.ready by_root.calls
 
     -- its program
     module _ (held : Held) (followed : held ≡ record root { root = next_root root.root (first ∷ second ∷ []) has_entries }) where
@@ -152,32 +114,19 @@ module _ {pool : Blocks} {root : Held} {next : Next} {job : FreezeJob} {has_entr
       same_shape = ap (λ h. h.shape) followed
 
       abbrev Install : Next → BoardState → Result Unit Fault → Type 0
-      Install next' new result = Step (λ u. InstallsRoot held.shape held.root next old next' new) (InstallBreaks held.shape held.root next old new) held.shape 1 old new result
+      Install next' new result = StepByCall (λ u. InstallsRoot held.shape held.root next old next' new) (InstallBreaks held.shape held.root next old new) held.shape 1 old new result
 
       pub root_step : (next' : Next) (new : BoardState) → Install next' new (Ok tt)
-          → Step (λ done. FreezeSteps pool root next job old has_entries done pool held next' Idle new) (FreezeStepBreaks pool root next job has_entries old new) root.shape 1 old new (Ok true)
+          → StepByCall (λ done. FreezeSteps pool root next job old has_entries done pool held next' Idle new) (FreezeStepBreaks pool root next job has_entries old new) root.shape 1 old new (Ok true)
       root_step next' new step =
           let P : FreezeJob → Type 0 = λ j. (top : ℕ × Root) (found : Found) (m : Map) → IsFreezing pool root next j old.pages has_entries top found m
           → FreezeInstalled pool root next j old has_entries top found m pool held.root next' Idle new in
-          record {
-            ended = subst P (sym was) (λ top found m is. froze pool root next first second has_entries old shared ready top found m is held followed next' new
-                (step.ended top found (frozen found) m (held_can pool root next first second has_entries old shared ready top found m is held followed)));
-            broken = tt;
-            works = step.works;
-            stops = tt;
-            stopped = tt;
-            roots_few = step.roots_few;
-            ready = let R : Shape → Type 0 = λ s. IsReady new s in subst R same_shape step.ready;
-          }
+          made_by (subst P (sym was) (λ top found m is. froze pool root next first second has_entries old shared ready top found m is held followed next' new
+          (step.step.ended top found (frozen found) m (held_can pool root next first second has_entries old shared ready top found m is held followed))))
+          step.step.works step.step.roots_few (subst (λ (s : Shape). IsReady new s) same_shape step.step.ready) step.calls (subst (λ (s : Shape). Grows s old.pages new.pages) same_shape step.grows)
 
       pub root_broken : (pool' : Blocks) (root' : Held) (next' : Next) (job' : FreezeJob) (new : BoardState) (fault : Fault) → Install next' new (Err fault)
-          → Step (λ done. FreezeSteps pool root next job old has_entries done pool' root' next' job' new) (FreezeStepBreaks pool root next job has_entries old new) root.shape 1 old new (Err fault)
-      root_broken pool' root' next' job' new fault step = record {
-        ended = tt;
-        broken = λ top found m is. subst (λ (s : Shape). Goes s old new (CrashFinds s background old.pages m)) same_shape (step.broken top found (frozen found) m (install_can top found m is));
-        works = tt;
-        stops = step.stops;
-        stopped = step.stopped;
-        roots_few = step.roots_few;
-        ready = let R : Shape → Type 0 = λ s. IsReady new s in subst R same_shape step.ready;
-      }
+          → StepByCall (λ done. FreezeSteps pool root next job old has_entries done pool' root' next' job' new) (FreezeStepBreaks pool root next job has_entries old new) root.shape 1 old new (Err fault)
+      root_broken pool' root' next' job' new fault step =
+          failed_by (λ top found m is. subst (λ (s : Shape). Goes s old new (CrashFinds s background old.pages m)) same_shape (step.step.broken top found (frozen found) m (install_can top found m is)))
+          step.step.stops step.step.stopped step.step.roots_few (subst (λ (s : Shape). IsReady new s) same_shape step.step.ready) step.calls

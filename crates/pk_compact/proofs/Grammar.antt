@@ -12,25 +12,11 @@ use Rattle.pk_compact.{specs.Freezing.AreTwo, specs.Steps.next_root}
 
 parts : (a b c d e f g h : Bool) → T (a && b && c && d && e && f && g && h) → T a × T b × T c × T d × T e × T f × T g × T h
 parts true true true true true true true true is = (tt, tt, tt, tt, tt, tt, tt, tt)
-parts false b c d e f g h is = absurd is
-parts true false c d e f g h is = absurd is
-parts true true false d e f g h is = absurd is
-parts true true true false e f g h is = absurd is
-parts true true true true false f g h is = absurd is
-parts true true true true true false g h is = absurd is
-parts true true true true true true false h is = absurd is
-parts true true true true true true true false is = absurd is
+parts _ _ _ _ _ _ _ _ is = absurd is
 
 all_parts : (a b c d e f g h : Bool) → T a → T b → T c → T d → T e → T f → T g → T h → T (a && b && c && d && e && f && g && h)
 all_parts true true true true true true true true x1 x2 x3 x4 x5 x6 x7 x8 = tt
-all_parts false b c d e f g h x1 x2 x3 x4 x5 x6 x7 x8 = absurd x1
-all_parts true false c d e f g h x1 x2 x3 x4 x5 x6 x7 x8 = absurd x2
-all_parts true true false d e f g h x1 x2 x3 x4 x5 x6 x7 x8 = absurd x3
-all_parts true true true false e f g h x1 x2 x3 x4 x5 x6 x7 x8 = absurd x4
-all_parts true true true true false f g h x1 x2 x3 x4 x5 x6 x7 x8 = absurd x5
-all_parts true true true true true false g h x1 x2 x3 x4 x5 x6 x7 x8 = absurd x6
-all_parts true true true true true true false h x1 x2 x3 x4 x5 x6 x7 x8 = absurd x7
-all_parts true true true true true true true false x1 x2 x3 x4 x5 x6 x7 x8 = absurd x8
+all_parts _ _ _ _ _ _ _ _ x1 x2 x3 x4 x5 x6 x7 x8 = search
 
 less : (a b : ℕ) → a < b → T (nat_lt a b)
 less a b h = le→leb _ _ h

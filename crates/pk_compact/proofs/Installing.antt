@@ -1,16 +1,17 @@
 -- The erase of the other root block, and what is unchanged of others.
-use Rattle.std.proofs.Common.{◌≡◌, inl, ℕ, zero, suc, ◌+◌, ◌*◌, ◌/◌, ◌%◌, ◌<◌, ◌≤◌, [], ◌∷◌, slice_index, Some, refl, sym, subst, ◌∙◌, arith, mod-lt, div-lt_iff_lt-mul, mul-le-mul_right}
+use Rattle.std.proofs.Common.{◌≡◌, inl, ℕ, zero, suc, ◌+◌, ◌*◌, ◌/◌, ◌%◌, ◌<◌, ◌≤◌, [], ◌∷◌, slice_index, Some, refl, sym, ap, subst, ◌∙◌, arith, mod-lt, div-lt_iff_lt-mul, mul-le-mul_right}
 use Rattle.pk_base.{specs.Shape.Shape, specs.Shape.IsShape, specs.Shape.epoch_pages, specs.Page.Flash, specs.Page.page_at, specs.Page.page_in, specs.Page.erased, specs.Page.SameBehind, specs.Map.Map}
 use Rattle.pk_base.{specs.EntryChecks.IsEntry, specs.Firsts.firsts, specs.Mark.erase, specs.Mark.after, proofs.ShapeLemmas.block_pages_positive}
 use Rattle.pk_nand.{specs.BoardState.BoardState, specs.Cut.Interrupted, specs.Calls.IsReady, specs.Operations.after_erase, specs.Operations.EraseFailed, specs.Operations.IsErasedBlock}
 use Rattle.pk_nand.{proofs.Leaving.interrupted_done, proofs.Writing.shape_is}
 use Rattle.pk_rootfmt.{specs.Root.Root, specs.Newest.newest_root}
 use Rattle.pk_model.{specs.Found.Found, specs.Found.entries_in_order, proofs.Roots.newest_sound, proofs.Roots.root_erase, proofs.RootAlone.found_alone, proofs.RootAlone.values_behind}
-use Rattle.pk_model.{proofs.SamePages.map_under_same, proofs.Commits.root_valid, proofs.Entries.counting_all, proofs.Entries.journal_are, proofs.Entries.meta_are, specs.Spaces.limits_at}
-use Rattle.pk_model.{specs.Growth.Grows, specs.Growth.Reaches, specs.Growth.Goes, specs.Crashes.CrashFinds, specs.Crashes.background, proofs.Growing.top_limits}
+use Rattle.pk_model.{proofs.SamePages.map_under_same, proofs.Commits.root_valid, proofs.Entries.counting_all, proofs.Entries.journal_are, proofs.Entries.meta_are}
+use Rattle.pk_model.{specs.Growth.Reaches, specs.Growth.Goes, specs.Crashes.CrashFinds, specs.Crashes.background}
 use Rattle.pk_model.proofs.Running.{Reaches-erase, Goes-erase}
 use Rattle.pk_root.{specs.declared.next.Next.TheVariants.Erase, specs.Installing.other_block, specs.Installing.InstallerOnFlash, proofs.Installs.behind_block}
-use Rattle.pk_law_steps.{specs.Under.IsUnder, proofs.Untouched.under_reads}
+use Rattle.pk_law_steps.specs.Under.{IsUnder}
+use Rattle.pk_compact.proofs.Taking.{IsBesideRead, beside_read}
 
 -- if the newest root is the same, in whatever page, and nothing after the root blocks differs
 pub under_at : (shape : Shape) (flash cut : Flash) (top : ℕ × Root) (page : ℕ) (found : Found) (m : Map) → IsShape shape → IsUnder shape flash [] top found m
@@ -42,35 +43,23 @@ module _ (shape : Shape) (is_shape : IsShape shape) (top : ℕ × Root) (found :
   still_under : (f : Flash) → Interrupted shape (erase other) old.pages f [] → IsUnder shape f [] top found m
   still_under f cut = under_behind shape old.pages f top found m is_shape under (root_erase shape old.pages top other f [] fits.newest fits.possible.elsewhere (inl cut)) (nothing_behind f cut)
 
-  holds : (f : Flash) → Interrupted shape (erase other) old.pages f [] → CrashFinds shape background old.pages m f []
-  holds f cut = (refl, under_reads shape f [] top found m (still_under f cut))
-
-  finished : Interrupted shape (erase other) old.pages (after shape (erase other) old.pages) []
-  finished = interrupted_done shape (erase other) old.pages
-
-  grows : Grows shape old.pages (after shape (erase other) old.pages)
-  grows = inl ((still_under (after shape (erase other) old.pages) finished).is_top ∙ sym under.is_top)
-
-  limited : (f : Flash) → Interrupted shape (erase other) old.pages f [] → limits_at shape f ≡ limits_at shape old.pages
-  limited f cut = top_limits shape f old.pages ((still_under f cut).is_top ∙ sym under.is_top)
+  its : IsBesideRead shape (erase other) old top found m
+  its = beside_read shape (erase other) old top found m ready under still_under
 
   pub other_reaches : (new : BoardState) → new ≡ after_erase old other → Reaches shape old new (CrashFinds shape background old.pages m)
-  other_reaches new made = Reaches-erase shape old (CrashFinds shape background old.pages m) ready.shape_is other holds grows limited new made
+  other_reaches new made = Reaches-erase shape old (CrashFinds shape background old.pages m) ready.shape_is other its.holds its.grows its.limited new made
 
   pub other_goes : (new : BoardState) → EraseFailed old new other → Goes shape old new (CrashFinds shape background old.pages m)
-  other_goes new failed = Goes-erase shape old (CrashFinds shape background old.pages m) ready.shape_is other holds grows limited new failed
+  other_goes new failed = Goes-erase shape old (CrashFinds shape background old.pages m) ready.shape_is other its.holds its.grows its.limited new failed
 
   pub other_under : (new : BoardState) → new ≡ after_erase old other → IsUnder shape new.pages [] top found m
-  other_under new made =
-      let T : BoardState → Type 0 = λ s. IsUnder shape s.pages [] top found m in
-      let S : Shape → Type 0 = λ s. IsUnder shape (after s (erase other) old.pages) [] top found m in
-      subst T (sym made) (subst S (sym (shape_is old shape ready)) (still_under (after shape (erase other) old.pages) finished))
+  other_under new made = its.under_after new (ap (λ (s : BoardState). s.pages) made)
 
   pub other_behind : (new : BoardState) → new ≡ after_erase old other → SameBehind shape old.pages new.pages
   other_behind new made =
       let T : BoardState → Type 0 = λ s. SameBehind shape old.pages s.pages in
       let S : Shape → Type 0 = λ s. SameBehind shape old.pages (after s (erase other) old.pages) in
-      subst T (sym made) (subst S (sym (shape_is old shape ready)) (nothing_behind (after shape (erase other) old.pages) finished))
+      subst T (sym made) (subst S (sym (shape_is old shape ready)) (nothing_behind (after shape (erase other) old.pages) (interrupted_done shape (erase other) old.pages)))
 
 -- ---- erased blocks
 

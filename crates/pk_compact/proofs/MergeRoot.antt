@@ -9,7 +9,7 @@ use Rattle.pk_root.specs.declared.next.Next.{Next}
 use Rattle.pk_law_steps.{specs.Next.IsNext, specs.Merging.merged_root, specs.Merging.merged_found, proofs.FourRuns.IsLevel, proofs.FourRuns.next_is_level, proofs.Following.merged_next}
 use Rattle.pk_law_steps.proofs.Amounts.{quota}
 use Rattle.pk_compact.{specs.Installing.CanInstall, specs.Installing.IsInstalled, specs.Installing.InstallsRoot, specs.Installing.InstallBreaks, specs.Steps.StepByCall}
-use Rattle.pk_compact.specs.Merging.{CanMerge, HasMerged, MergesRoot, MergeBreaks}
+use Rattle.pk_compact.{specs.Merging.CanMerge, specs.Merging.HasMerged, specs.Merging.MergesRoot, specs.Merging.MergeBreaks, proofs.Growing.made_by, proofs.Growing.failed_by}
 
 -- a run that is set adds at most its own blocks
 pub length_set : (i : ℕ) (new : List ℕ) (runs : List (List ℕ)) → length (concat (slice_set runs i new)) ≤ length (concat runs) + length new
@@ -86,37 +86,13 @@ module _ (root : Held) (next : Next) (level count : ℕ) (taken : List ℕ) (old
       ready_by_root : IsReady new held.shape → IsReady new root.shape
       ready_by_root is = let P : Shape → Type 0 = λ s. IsReady new s in subst P same_shape is
 
-      grows_by_root : Grows held.shape old.pages new.pages → Grows root.shape old.pages new.pages
-      grows_by_root is = let P : Shape → Type 0 = λ s. Grows s old.pages new.pages in subst P same_shape is
-
       pub merge_step : (result : Result Unit Fault) → Install next' new result → Merge next' new result
-      merge_step (Ok u) is = record {
-        step = record {
-          ended = λ top found m may. has_merged top found m may next' new (is.step.ended top found (merged_found level found) m (held_can top found m may));
-          broken = tt;
-          works = is.step.works;
-          stops = tt;
-          stopped = tt;
-          roots_few = is.step.roots_few;
-          ready = ready_by_root is.step.ready;
-        };
-        calls = is.calls;
-        grows = grows_by_root is.grows;
-      }
-      merge_step (Err fault) is = record {
-        step = record {
-          ended = tt;
-          broken = λ top found m may. subst (λ (s : Shape). Goes s old new (CrashFinds s background old.pages m)) same_shape
-              (is.step.broken top found (merged_found level found) m (held_can top found m may));
-          works = tt;
-          stops = is.step.stops;
-          stopped = is.step.stopped;
-          roots_few = is.step.roots_few;
-          ready = ready_by_root is.step.ready;
-        };
-        calls = is.calls;
-        grows = tt;
-      }
+      merge_step (Ok u) is =
+          made_by (λ top found m may. has_merged top found m may next' new (is.step.ended top found (merged_found level found) m (held_can top found m may)))
+          is.step.works is.step.roots_few (ready_by_root is.step.ready) is.calls (subst (λ (s : Shape). Grows s old.pages new.pages) same_shape is.grows)
+      merge_step (Err fault) is =
+          failed_by (λ top found m may. subst (λ (s : Shape). Goes s old new (CrashFinds s background old.pages m)) same_shape
+          (is.step.broken top found (merged_found level found) m (held_can top found m may))) is.step.stops is.step.stopped is.step.roots_few (ready_by_root is.step.ready) is.calls
 
 -- ---- the root that follows has room
 

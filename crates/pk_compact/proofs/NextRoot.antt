@@ -1,16 +1,16 @@
 -- The install of a root that may follow: the erase before it, and its first program.
-use Rattle.std.proofs.Common.{◌≡◌, ◌⊎◌, inl, inr, ℕ, ◌+◌, ◌*◌, ◌<◌, ◌≤◌, List, [], Some, false, refl, sym, ap, subst, ◌∙◌, arith, le_refl, true}
+use Rattle.std.proofs.Common.{◌≡◌, inl, inr, ℕ, ◌+◌, ◌<◌, ◌≤◌, List, [], Some, false, refl, sym, ap, subst, ◌∙◌, arith, true}
 use Rattle.pk_base.{specs.Shape.Shape, specs.Shape.IsShape, specs.Page.Flash, specs.Page.page_at, specs.Page.whole, specs.Page.SameBehind, specs.Map.Map}
 use Rattle.pk_base.specs.Mark.{program, after, all_posted}
-use Rattle.pk_nand.{specs.BoardState.BoardState, specs.Cut.Interrupted, specs.Calls.IsReady, specs.Calls.after_program, specs.Calls.ProgramFailed, specs.Effects.Works, specs.Effects.Stops}
-use Rattle.pk_nand.{proofs.Effects.works_erase, proofs.Effects.works_program, proofs.Effects.stops_erase, proofs.Effects.stops_program, specs.Pairs.IsPairCut, proofs.Writing.shape_is}
+use Rattle.pk_nand.{specs.BoardState.BoardState, specs.Cut.Interrupted, specs.Calls.IsReady, specs.Calls.after_program, specs.Calls.ProgramFailed}
+use Rattle.pk_nand.{specs.Pairs.IsPairCut, proofs.Writing.shape_is}
 use Rattle.pk_nand.proofs.Pairing.{IsPairCut-start, IsPairCut-cut, IsPairCut-done}
 use Rattle.pk_rootfmt.{specs.Root.Root, specs.Root.root_bytes, specs.Newest.newest_root, proofs.AgainLemmas.reads_back}
 use Rattle.pk_model.{specs.Found.Found, specs.Laws.IsInstall, specs.Spaces.limits_at, specs.RootLimits.root_limits, specs.Tree.Follows, specs.Growth.Reaches, specs.Growth.Goes}
 use Rattle.pk_model.{specs.Crashes.CrashFinds, specs.Crashes.background, specs.Wear.root_number, specs.Wear.roots, proofs.Growing.at_end, proofs.Growing.top_limits}
 use Rattle.pk_model.{proofs.RootLimits.limits_under, proofs.RootLimits.limits_alike, proofs.Roots.root_pair, proofs.Roots.root_installed, proofs.Running.Reaches-program, proofs.Running.Goes-program}
-use Rattle.pk_root.{specs.declared.next.Next.Next, specs.declared.next.Next.TheVariants.Erase, specs.declared.next.Next.TheVariants.Program, specs.declared.next.Next.TheVariants.Again}
-use Rattle.pk_root.specs.Installing.{other_block, erases_next, programs_next, repeats_next, before_pair, InstallerOnFlash, KeepsRoot, Installs, ErasesOther, FailsToInstall, FailsToErase}
+use Rattle.pk_root.{specs.declared.next.Next.Next, specs.declared.next.Next.TheVariants.Erase, specs.declared.next.Next.TheVariants.Program}
+use Rattle.pk_root.specs.Installing.{erases_next, programs_next, repeats_next, before_pair, InstallerOnFlash, KeepsRoot, Installs, ErasesOther, FailsToInstall, FailsToErase}
 use Rattle.pk_root.{proofs.Installs.install, proofs.Places.set_back}
 use Rattle.pk_law_steps.{specs.Under.IsUnder, specs.Next.IsNext, proofs.Untouched.under_reads, proofs.Standing.installed}
 use Rattle.pk_compact.{specs.Installing.CanPrepare, specs.Installing.Prepares, specs.Installing.PrepareBreaks, specs.Installing.CanInstall, specs.Installing.IsInstalled, proofs.Numbering.same_newest}
@@ -49,12 +49,6 @@ module _ (shape : Shape) (is_shape : IsShape shape) (next : Next) (old : BoardSt
 
   pub prepare_breaks : (new : BoardState) → FailsToErase shape next old new → PrepareBreaks shape next old new
   prepare_breaks new f top found m can = other_goes shape is_shape top found m f.beside old ready (known top found m can f.beside f.was) can.under new f.failed
-
-pub prepare_works : (shape : Shape) (next next' : Next) (old new : BoardState) → ErasesOther shape next old next' new → Works old new
-prepare_works shape next next' old new e = works_erase old new (other_block shape e.beside) e.erase
-
-pub prepare_stops : (shape : Shape) (next : Next) (old new : BoardState) → FailsToErase shape next old new → Stops old new
-prepare_stops shape next old new f = stops_erase old new (other_block shape f.beside) f.failed
 
 -- the number of the newest root is the former's
 pub roots_same : (shape : Shape) (old new : BoardState) → IsReady old shape → IsReady new shape → root_number shape new.pages ≡ root_number shape old.pages → roots new ≡ roots old
@@ -165,21 +159,13 @@ module _ (shape : Shape) (is_shape : IsShape shape) (root : Root) (next : Next) 
   pub install_breaks : (new : BoardState) → FailsToInstall shape root next old new → Goes shape old new (CrashFinds shape background old.pages m)
   install_breaks new f = root_goes f.page f.was new f.failed
 
-pub install_works : (shape : Shape) (root : Root) (next next' : Next) (old new : BoardState) → Installs shape root next old next' new → Works old new
-install_works shape root next next' old new i = works_program old new i.page (root_bytes shape root) i.program
-
-pub install_stops : (shape : Shape) (root : Root) (next : Next) (old new : BoardState) → FailsToInstall shape root next old new → Stops old new
-install_stops shape root next old new f = stops_program old new f.page (root_bytes shape root) f.failed
-
 -- ---- what is next
 
 -- an erase, or the first program of a root, if no pair is half made
 pub programs_then : (next : Next) → repeats_next next ≡ false → erases_next next ≡ false → programs_next next ≡ true
-programs_then (Erase beside) is_whole no_erase = cc
 programs_then (Program page) is_whole no_erase = refl
-programs_then (Again page) is_whole no_erase = cc
+programs_then _ is_whole no_erase = cc
 
 pub programs_whole : (next : Next) → programs_next next ≡ true → repeats_next next ≡ false
-programs_whole (Erase beside) programs = cc
 programs_whole (Program page) programs = refl
-programs_whole (Again page) programs = cc
+programs_whole _ programs = cc

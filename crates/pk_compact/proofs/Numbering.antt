@@ -1,5 +1,5 @@
 -- The number of the newest root, if a freeze failed.
-use Rattle.std.proofs.Common.{◌≡◌, ◌⊎◌, inl, inr, ℕ, ◌+◌, ◌/◌, ◌≤◌, refl, ap, subst, arith, Some}
+use Rattle.std.proofs.Common.{◌≡◌, inl, inr, ℕ, ◌+◌, ◌/◌, ◌≤◌, refl, ap, subst, arith, Some}
 use Rattle.pk_base.{specs.Shape.Shape, specs.Shape.IsShape, specs.Page.Flash, specs.Page.page_at, specs.Mark.erase, specs.Mark.all_posted}
 use Rattle.pk_nand.{specs.BoardState.BoardState, specs.BoardState.shape_of, specs.Calls.IsReady, specs.Operations.EraseFailed, proofs.Touching.untouched, proofs.Writing.shape_is}
 use Rattle.pk_rootfmt.{specs.Root.Root, specs.Newest.newest_root}

@@ -1,7 +1,7 @@
 -- A block that is taken from the pool.
 use Rattle.std.proofs.Common.{◌≡◌, ◌≢◌, ◌⊎◌, inl, inr, ℕ, ◌*◌, ◌/◌, ◌<◌, ◌≤◌, List, [], Some, refl, sym, ap, subst, ◌∙◌, arith, zero-add, div-lt_iff_lt-mul}
 use Rattle.std.{specs.Prelude.slice_get, proofs.Math.ListN.set}
-use Rattle.pk_base.{specs.Shape.Shape, specs.Shape.IsShape, specs.Page.Flash, specs.Page.page_at, specs.Map.Map, specs.Mark.erase, specs.Mark.after, proofs.ShapeLemmas.block_pages_positive}
+use Rattle.pk_base.{specs.Shape.Shape, specs.Shape.IsShape, specs.Page.Flash, specs.Page.page_at, specs.Map.Map, specs.Mark.Mark, specs.Mark.erase, specs.Mark.after, proofs.ShapeLemmas.block_pages_positive}
 use Rattle.pk_plan.specs.declared.owner.Owner.TheVariants.{Journal}
 use Rattle.pk_nand.{specs.BoardState.BoardState, specs.BoardState.shape_of, specs.Cut.Interrupted, specs.Calls.IsReady, specs.Operations.EraseFailed, specs.Operations.IsErasedBlock}
 use Rattle.pk_nand.{proofs.Leaving.erased_leaves, proofs.Leaving.page_at-erased_from, proofs.Leaving.interrupted_done, proofs.Touching.untouched, proofs.Writing.shape_is, specs.Effects.Works}
@@ -59,6 +59,27 @@ module _ (shape : Shape) (block : ℕ) (old new : BoardState) (taken : AtMostEra
 pub not_behind : (shape : Shape) (block k : ℕ) → IsShape shape → 2 ≤ block → k < 2 * shape.block_pages → k / shape.block_pages ≢ block
 not_behind shape block k is_shape behind low e = let small : k / shape.block_pages < 2 = (div-lt_iff_lt-mul (block_pages_positive shape is_shape)).1 low in omega (arith, small, e, behind)
 
+-- ---- a call that changes nothing that is read
+
+-- whether it is done or interrupted, the map is as before
+pub record IsBesideRead (shape : Shape) (mark : Mark) (old : BoardState) (top : ℕ × Root) (found : Found) (m : Map) : Type 0 where
+  pub holds : (f : Flash) → Interrupted shape mark old.pages f [] → CrashFinds shape background old.pages m f []
+  pub grows : Grows shape old.pages (after shape mark old.pages)
+  pub limited : (f : Flash) → Interrupted shape mark old.pages f [] → limits_at shape f ≡ limits_at shape old.pages
+  pub under_after : (new : BoardState) → new.pages ≡ after (shape_of old) mark old.pages → IsUnder shape new.pages [] top found m
+
+pub beside_read : (shape : Shape) (mark : Mark) (old : BoardState) (top : ℕ × Root) (found : Found) (m : Map) → IsReady old shape → IsUnder shape old.pages [] top found m
+    → ((f : Flash) → Interrupted shape mark old.pages f [] → IsUnder shape f [] top found m) → IsBesideRead shape mark old top found m
+beside_read shape mark old top found m ready under still =
+    let done : IsUnder shape (after shape mark old.pages) [] top found m = still (after shape mark old.pages) (interrupted_done shape mark old.pages) in
+    record {
+      holds = λ f cut. (refl, under_reads shape f [] top found m (still f cut));
+      grows = inl (done.is_top ∙ sym under.is_top);
+      limited = λ f cut. top_limits shape f old.pages ((still f cut).is_top ∙ sym under.is_top);
+      under_after = λ new made. subst (λ (f : Flash). IsUnder shape f [] top found m) (sym made)
+          (subst (λ (s : Shape). IsUnder shape (after s mark old.pages) [] top found m) (sym (shape_is old shape ready)) done);
+    }
+
 module _ (shape : Shape) (is_shape : IsShape shape) (top : ℕ × Root) (found : Found) (m : Map) (block : ℕ) (behind : 2 ≤ block) (unnamed : AnyByRecursion (λ c. block ≡ c) (named top.1) → ⊥)
     (no_value : (k : ℕ) → k / shape.block_pages ≡ block → IsValuePage shape (places found []) k → ⊥)
     (old : BoardState) (ready : IsReady old shape) (under : IsUnder shape old.pages [] top found m) where
@@ -66,28 +87,16 @@ module _ (shape : Shape) (is_shape : IsShape shape) (top : ℕ × Root) (found :
   still_under : (f : Flash) → Interrupted shape (erase block) old.pages f [] → IsUnder shape f [] top found m
   still_under f cut = erases shape old.pages f [] top found m block is_shape under behind unnamed no_value (λ k other. untouched shape (erase block) k _ _ other (cut.pages k))
 
-  holds : (f : Flash) → Interrupted shape (erase block) old.pages f [] → CrashFinds shape background old.pages m f []
-  holds f cut = (refl, under_reads shape f [] top found m (still_under f cut))
-
-  under_after : IsUnder shape (after shape (erase block) old.pages) [] top found m
-  under_after = still_under (after shape (erase block) old.pages) (interrupted_done shape (erase block) old.pages)
-
-  grows : Grows shape old.pages (after shape (erase block) old.pages)
-  grows = inl (under_after.is_top ∙ sym under.is_top)
-
-  limited : (f : Flash) → Interrupted shape (erase block) old.pages f [] → limits_at shape f ≡ limits_at shape old.pages
-  limited f cut = top_limits shape f old.pages ((still_under f cut).is_top ∙ sym under.is_top)
+  its : IsBesideRead shape (erase block) old top found m
+  its = beside_read shape (erase block) old top found m ready under still_under
 
   pub take_reaches : (new : BoardState) → AtMostErases block old new → Reaches shape old new (CrashFinds shape background old.pages m)
   take_reaches new (inl same) = Reaches-none shape old (CrashFinds shape background old.pages m) ready.shape_is new same (refl, under_reads shape old.pages [] top found m under)
-  take_reaches new (inr made) = Reaches-erase shape old (CrashFinds shape background old.pages m) ready.shape_is block holds grows limited new made
+  take_reaches new (inr made) = Reaches-erase shape old (CrashFinds shape background old.pages m) ready.shape_is block its.holds its.grows its.limited new made
 
   pub take_under : (new : BoardState) → AtMostErases block old new → IsUnder shape new.pages [] top found m
   take_under new (inl same) = let T : BoardState → Type 0 = λ s. IsUnder shape s.pages [] top found m in subst T (sym same) under
-  take_under new (inr made) =
-      let T : BoardState → Type 0 = λ s. IsUnder shape s.pages [] top found m in
-      let S : Shape → Type 0 = λ s. IsUnder shape (after s (erase block) old.pages) [] top found m in
-      subst T (sym made) (subst S (sym (shape_is old shape ready)) under_after)
+  take_under new (inr made) = its.under_after new (ap (λ (s : BoardState). s.pages) made)
 
   pub take_goes : (new : BoardState) → EraseFailed old new block → Goes shape old new (CrashFinds shape background old.pages m)
-  take_goes new failed = Goes-erase shape old (CrashFinds shape background old.pages m) ready.shape_is block holds grows limited new failed
+  take_goes new failed = Goes-erase shape old (CrashFinds shape background old.pages m) ready.shape_is block its.holds its.grows its.limited new failed

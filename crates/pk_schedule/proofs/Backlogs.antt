@@ -1,10 +1,10 @@
 -- The remaining work is within its bounds: buffers and runs by the lists under the root, and no job has more left than the whole of it.
-use Rattle.std.proofs.Common.{◌≡◌, inl, inr, ℕ, zero, suc, ◌+◌, ◌-◌, ◌*◌, ◌<◌, ◌≤◌, refl, sym, ap, subst, ◌∙◌, arith, Bool, true, false, T, ◌==◌, ◌||◌, if◌then◌else◌, List, [], ◌∷◌, length, map}
-use Rattle.std.proofs.Common.{Option, Some, None}
-use Rattle.std.{specs.Prelude.slice_index, specs.Prelude.slice_index_or, specs.Prelude.unwrap_or, specs.Prelude.IfSome, specs.Prelude.not, specs.Prelude.nat_le, specs.Prelude.zip, specs.List.list_all}
+use Rattle.std.proofs.Common.{◌≡◌, inl, inr, ℕ, zero, suc, ◌+◌, ◌-◌, ◌*◌, ◌<◌, ◌≤◌, refl, sym, ap, subst, ◌∙◌, arith, Bool, true, false, T, ◌==◌, if◌then◌else◌, List, [], ◌∷◌, length, map, Option}
+use Rattle.std.proofs.Common.{Some, None}
 use Rattle.std.proofs.lemmas.List.Sums.{count_by-le-length}
+use Rattle.std.{specs.Prelude.slice_index, specs.Prelude.slice_index_or, specs.Prelude.unwrap_or, specs.Prelude.IfSome, specs.Prelude.not, specs.Prelude.nat_le, specs.Prelude.zip, specs.List.list_all}
 use Rattle.pk_base.{specs.Shape.Shape, specs.Shape.IsShape, specs.Shape.page_entries, specs.Shape.buffer, specs.Shape.cap, specs.Shape.caps, specs.Shape.run_pages, specs.Entry.Entry}
-use Rattle.pk_base.{specs.Page.Flash, specs.Page.page_at, specs.Page.page_in, specs.Firsts.firsts, specs.Merge.room, specs.Merge.next_merge, specs.Refusal.ensure, proofs.Logic.ok_same}
+use Rattle.pk_base.{specs.Page.Flash, specs.Page.page_at, specs.Firsts.firsts, specs.Merge.room, specs.Merge.next_merge}
 use Rattle.pk_law_work.{specs.Rest.whole_merge, specs.Rest.whole_freeze, specs.Backlog.IsBacklog, specs.Backlog.due_level, proofs.Paging.few_pages}
 use Rattle.pk_buf.specs.Table.{Table}
 use Rattle.pk_jrn.proofs.Puts.{firsts-reverse}
@@ -14,7 +14,7 @@ use Rattle.pk_pool.specs.Blocks.{is_ready}
 use Rattle.pk_root.{specs.declared.next.Next.Next, specs.declared.next.Next.TheVariants.Erase, specs.declared.next.Next.TheVariants.Program, specs.declared.next.Next.TheVariants.Again}
 use Rattle.pk_run.specs.Kept.{Kept, empty, most_pages, most_blocks}
 use Rattle.pk_level.specs.Levels.{RunsOnFlash, HaveBlocks, run_of}
-use Rattle.pk_model.{specs.Found.Found, proofs.StrangePages.bind_ok, specs.RootLimits.root_spaces}
+use Rattle.pk_model.{specs.Found.Found, specs.RootLimits.root_spaces}
 use Rattle.pk_law_steps.{proofs.NewestBlocks.valid_root, proofs.Amounts.run_most, proofs.Amounts.epoch_most, proofs.Amounts.WithinCaps, proofs.Amounts.within_caps, proofs.Amounts.counted_of}
 use Rattle.pk_law_steps.proofs.FourRuns.{Runs, Pieces, IsLevel, four_of_root, four_runs, pieces_of, next_is_level}
 use Rattle.pk_merge.{specs.Sources.pages_in, specs.Remaining.steps_left, proofs.Counting.within}
@@ -22,31 +22,23 @@ use Rattle.pk_compact.{specs.declared.freezing.FreezeJob.FreezeJob, specs.Freeze
 use Rattle.pk_schedule.{specs.declared.phase.Phase.Phase, specs.declared.phase.Phase.TheVariants.Idle, specs.declared.phase.Phase.TheVariants.Running, specs.declared.phase.Phase.TheVariants.Ready}
 use Rattle.pk_schedule.specs.Index.{Index, IndexOnFlash, MergeStands, MergesInto, output, source_at}
 use Rattle.pk_schedule.specs.Steps.{backlog_of, is_between, merge_left, freeze_rest_of}
+use Rattle.pk_schedule.{proofs.Entries.counts_same, proofs.Settled.older_read}
 
 -- ---- the runs
 
--- each run has as many entries as it counts
-pub sizes_are : (flash : Flash) (arena : Frames) (rs : List Kept) (ess : List (List Entry)) → RunsOnFlash flash arena rs ess → map (λ (r : Kept). r.count) rs ≡ map length ess
-sizes_are flash arena [] [] h = refl
-sizes_are flash arena [] (es ∷ ess) h = absurd h
-sizes_are flash arena (r ∷ rs) [] h = absurd h
-sizes_are flash arena (r ∷ rs) (es ∷ ess) h = λ i. sym h.0.many i ∷ sizes_are flash arena rs ess h.1 i
-
--- and the pages of that many
+-- each run has the pages of as many entries as it counts
 pages_are : (shape : Shape) (flash : Flash) (arena : Frames) (rs : List Kept) (bss : List (List ℕ)) (ess : List (List Entry)) (d : Kept) (i : ℕ)
     → i < length rs → HaveBlocks shape rs bss → RunsOnFlash flash arena rs ess
     → length (slice_index_or rs i d).firsts ≡ run_pages shape (slice_index (map (λ (r : Kept). r.count) rs) i)
 pages_are shape flash arena [] bss ess d i less have h = absurd (omega (arith, less))
-pages_are shape flash arena (r ∷ rs) [] ess d i less have h = absurd have
-pages_are shape flash arena (r ∷ rs) (bs ∷ bss) [] d i less have h = absurd h
 pages_are shape flash arena (r ∷ rs) (bs ∷ bss) (es ∷ ess) d zero less have h = h.0.pages ∙ ap (λ (s : Shape). run_pages s r.count) have.0
 pages_are shape flash arena (r ∷ rs) (bs ∷ bss) (es ∷ ess) d (suc i) less have h = pages_are shape flash arena rs bss ess d i (omega (arith, less)) have.2 h.1
+pages_are shape flash arena _ _ _ d i less have h = search
 
 same_length : (shape : Shape) (rs : List Kept) (bss : List (List ℕ)) → HaveBlocks shape rs bss → length rs ≡ length bss
 same_length shape [] [] h = refl
-same_length shape [] (bs ∷ bss) h = absurd h
-same_length shape (r ∷ rs) [] h = absurd h
 same_length shape (r ∷ rs) (bs ∷ bss) h = ap suc (same_length shape rs bss h.2)
+same_length shape _ _ h = absurd h
 
 four_most : (shape : Shape) (a b c d : ℕ) → a ≤ room shape 1 → b ≤ room shape 2 → c ≤ room shape 3 → d ≤ room shape 4 → (i : ℕ) → i < 4 → slice_index (a ∷ b ∷ c ∷ d ∷ []) i ≤ room shape (i + 1)
 four_most shape a b c d one two three four zero less = one
@@ -98,16 +90,14 @@ module _ (x : Index) (frames : ℕ) (flash : Flash) (top : ℕ × Root) (found :
 
   frozen_most : length x.log.frozen.entries ≤ buffer x.log.shape
   frozen_most =
-      let read = bind_ok _ _ found.older pieces.older in
-      let tested = bind_ok (ensure (length top.1.older == 0 || nat_le 1 (length read.0)) (page_in x.log.shape top.1.older 0)) _ found.older read.2 in
-      let few : length (firsts found.older) ≤ buffer x.log.shape = subst (λ (es : List Entry). length (firsts es) ≤ buffer x.log.shape)
-      (ok_same read.0 found.older tested.2) (epoch_most x.log.shape (root_spaces x.log.shape top.1) (page_at flash) (top.1.epoch - 1) top.1.older read.0 read.1) in
+      let few : length (firsts found.older) ≤ buffer x.log.shape = epoch_most x.log.shape (root_spaces x.log.shape top.1) (page_at flash) (top.1.epoch - 1) top.1.older found.older
+      (older_read x.log.shape (page_at flash) top.1 found stands.logs.is_found) in
       let same = frozen_is in
       omega (arith, few, same)
 
   -- the entries of the runs
   pub entries_are : map (λ (r : Kept). r.count) x.levels.runs ≡ map length found.runs
-  entries_are = sizes_are flash x.arena x.levels.runs found.runs stands.stand
+  entries_are = counts_same flash x.arena x.levels.runs found.runs stands.stand
 
   pub four : length x.levels.runs ≡ 4
   four = same_length x.log.shape x.levels.runs top.1.runs stands.run_blocks ∙ (four_of_root x.log.shape top.1 valid).runs
@@ -137,10 +127,7 @@ module _ (x : Index) (frames : ℕ) (flash : Flash) (top : ℕ × Root) (found :
       subst (λ (n : ℕ). n ≤ cap x.log.shape level) (sym counted) few
 
   level_pages : (level : ℕ) → IsLevel level → length (run_of x.levels level).firsts ≤ cap x.log.shape level
-  level_pages level (inl e) = subst (λ (l : ℕ). length (run_of x.levels l).firsts ≤ cap x.log.shape l) (sym e) (pages_most 1 (omega arith) refl)
-  level_pages level (inr (inl e)) = subst (λ (l : ℕ). length (run_of x.levels l).firsts ≤ cap x.log.shape l) (sym e) (pages_most 2 (omega arith) refl)
-  level_pages level (inr (inr (inl e))) = subst (λ (l : ℕ). length (run_of x.levels l).firsts ≤ cap x.log.shape l) (sym e) (pages_most 3 (omega arith) refl)
-  level_pages level (inr (inr (inr e))) = subst (λ (l : ℕ). length (run_of x.levels l).firsts ≤ cap x.log.shape l) (sym e) (pages_most 4 (omega arith) refl)
+  level_pages level is = pages_most level (omega arith) (omega arith)
 
   -- so has the source of a merge
   source_pages : (level : ℕ) → IsLevel level → pages_in (source_at x level) ≤ cap x.log.shape (level - 1)
@@ -185,12 +172,8 @@ module _ (x : Index) (frames : ℕ) (flash : Flash) (top : ℕ × Root) (found :
   level_due : (level : ℕ) → MergesInto x top.1 found level → 1 ≤ due_level x.log.shape (backlog_of x)
   level_due level m =
       let is = due_is level m in
-      elim (next_is_level x.log.shape (length (firsts found.older)) (map length found.runs) level m.due) [
-        | inl e ↦ omega (arith, is, e)
-        | inr (inl e) ↦ omega (arith, is, e)
-        | inr (inr (inl e)) ↦ omega (arith, is, e)
-        | inr (inr (inr e)) ↦ omega (arith, is, e)
-      ]
+      let which = next_is_level x.log.shape (length (firsts found.older)) (map length found.runs) level m.due in
+      omega (arith, is, which)
 
   phase_due : (phase : Phase) → MergeStands phase x flash top.1 found → is_between phase ≡ false → 1 ≤ due_level x.log.shape (backlog_of x)
   phase_due Idle m runs = absurd (let z : ⊥ = cc in z)

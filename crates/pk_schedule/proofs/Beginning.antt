@@ -1,7 +1,7 @@
 -- The next merge begins: it can be, its source has an entry, and the index is as before with it.
-use Rattle.std.proofs.Common.{◌≡◌, ◌⊎◌, inl, inr, ℕ, zero, suc, ◌+◌, ◌-◌, ◌<◌, ◌≤◌, Bool, true, false, T, ◌==◌, if◌then◌else◌, List, [], length, map, nat_le, Option, Some, None, refl, sym, ap, subst}
-use Rattle.std.proofs.Common.{◌∙◌, arith, leb-false, le_trans}
-use Rattle.std.{specs.Prelude.slice_index, specs.Prelude.slice_index_or, specs.Prelude.unwrap_or, specs.List.AllByRecursion, specs.FinMap.Entries.is_sorted}
+use Rattle.std.proofs.Common.{◌≡◌, ◌⊎◌, inl, inr, ℕ, ◌+◌, ◌-◌, ◌<◌, ◌≤◌, Bool, true, false, T, ◌==◌, if◌then◌else◌, List, [], length, map, nat_le, Option, Some, None, refl, sym, ap, subst, ◌∙◌, arith}
+use Rattle.std.proofs.Common.{leb-false, le_trans}
+use Rattle.std.{proofs.lemmas.Bool.Decides.nat_tests, specs.Prelude.slice_index, specs.Prelude.slice_index_or, specs.Prelude.unwrap_or, specs.List.AllByRecursion, specs.FinMap.Entries.is_sorted}
 use Rattle.pk_base.{specs.Key.key_cmp, specs.Shape.Shape, specs.Shape.IsShape, specs.Shape.cap, specs.Shape.run_pages, specs.Shape.run_blocks, specs.Shape.buffer, specs.Entry.Entry, specs.Map.Map}
 use Rattle.pk_base.{specs.EntryChecks.IsEntry, specs.Page.Flash, specs.Page.page_at, specs.Merge.next_merge, specs.Merge.room, proofs.Logic.is_true}
 use Rattle.pk_buf.specs.Table.{Table}
@@ -22,10 +22,10 @@ use Rattle.pk_merge.specs.Jobs.{Job, JobRuns, IsIdle, begun, pins, output_of, wi
 use Rattle.pk_compact.specs.FreezeSteps.{install_steps}
 use Rattle.pk_schedule.{specs.declared.phase.Phase.Phase, specs.declared.phase.Phase.TheVariants.Idle, specs.declared.phase.Phase.TheVariants.Running, specs.Sources.ShowsSame, proofs.Grown.got_in}
 use Rattle.pk_schedule.specs.Index.{Index, IndexOnFlash, IsDue, MergesInto, MergeRuns, MergeStands, referred, output, source_at, entries_at, IsSettled}
-use Rattle.pk_schedule.{specs.Steps.MayWork, specs.Steps.IndexMoves, specs.Steps.LessIsLeft, specs.Steps.merge_left, specs.Steps.backlog_of, proofs.Backlogs.installs_most}
-use Rattle.pk_schedule.{proofs.Carried.Shown, proofs.Carried.shown, proofs.Carried.job_carried, proofs.Carried.left_same, proofs.Settled.stands_settled, proofs.Settled.values_settled}
 use Rattle.pk_schedule.proofs.Entries.{output_same, frozen_many, frozen_rising, counts_same, run_stands, count_at, frozen_are, run_are}
 use Rattle.pk_schedule.proofs.Leveled.{Fit, run_fits, run_blocks_in, frames_left}
+use Rattle.pk_schedule.{specs.Steps.MayWork, specs.Steps.IndexMoves, specs.Steps.LessIsLeft, specs.Steps.merge_left, specs.Steps.backlog_of, proofs.Backlogs.installs_most}
+use Rattle.pk_schedule.{proofs.Carried.Shown, proofs.Carried.shown, proofs.Carried.job_carried, proofs.Carried.left_same, proofs.Settled.whole_moves}
 
 -- the source, for a buffer and runs in any memory
 abbrev pub source_in : (X : Type 0) → Index → ℕ → Source X
@@ -52,8 +52,10 @@ chosen false false false true level e = record { some = refl; which = inr (inr (
 chosen false false false false level e = record { some = refl; which = inr (inr (inr (same_level 4 level e, refl))) }
 
 not_zero : (n : ℕ) → (n == 0) ≡ false → 1 ≤ n
-not_zero zero e = absurd (let x : ⊥ = cc in x)
-not_zero (suc n) e = omega arith
+not_zero n e = grind (arith, nat_tests)
+
+deeper : (n : ℕ) → 1 ≤ n → (n == 1) ≡ false → 1 ≤ n - 1
+deeper n some e = grind (arith, nat_tests)
 
 module _ (x : Index) (frames : ℕ) (old : BoardState) (top : ℕ × Root) (found : Found) (m : Map) (may : MayWork x frames old.pages top found m)
     (levels_are : IsLevels x.levels) (kept : AllByRecursion IsKept x.levels.runs) (frozen_few : length x.log.frozen.entries ≤ x.log.frozen.capacity)
@@ -81,10 +83,10 @@ module _ (x : Index) (frames : ℕ) (old : BoardState) (top : ℕ × Root) (foun
   is_level = next_is_level x.log.shape (length x.log.frozen.entries) (map (λ r. r.count) x.levels.runs) level next_now
 
   low : 1 ≤ level
-  low = elim is_level [ inl e ↦ omega (arith, e) | inr (inl e) ↦ omega (arith, e) | inr (inr (inl e)) ↦ omega (arith, e) | inr (inr (inr e)) ↦ omega (arith, e) ]
+  low = omega (arith, is_level)
 
   high : level ≤ 4
-  high = elim is_level [ inl e ↦ omega (arith, e) | inr (inl e) ↦ omega (arith, e) | inr (inr (inl e)) ↦ omega (arith, e) | inr (inr (inr e)) ↦ omega (arith, e) ]
+  high = omega (arith, is_level)
 
   four : length x.levels.runs ≡ 4
   four = levels_are.four
@@ -177,54 +179,40 @@ module _ (x : Index) (frames : ℕ) (old : BoardState) (top : ℕ × Root) (foun
       (subst (λ (n : ℕ). nat_le level n ≡ true) stands.pins_are pins) in
       le_trans (few_pages x.log.shape level (length (merged level es fs)) is_shape output_few) free
 
-  rising_of : (b : Bool) (f : Table) (gs : List Entry) → T (is_sorted key_cmp f.entries) → T (is_sorted key_cmp gs) → T (is_sorted key_cmp (if b then f.entries else gs))
-  rising_of true f gs one two = one
-  rising_of false f gs one two = two
-
-  each_of : (b : Bool) (f : Table) (gs : List Entry) → AllByRecursion (IsEntry x.log.shape) f.entries
-      → AllByRecursion (IsEntry x.log.shape) gs → AllByRecursion (IsEntry x.log.shape) (if b then f.entries else gs)
-  each_of true f gs one two = one
-  each_of false f gs one two = two
-
   above_shape : (level == 1) ≡ false → (run_of x.levels (level - 1)).shape ≡ x.log.shape
-  above_shape e = (fit (level - 1) (more level low e) (let h = high in omega (arith, h))).same_shape
-    where
-      more : (l : ℕ) → 1 ≤ l → (l == 1) ≡ false → 1 ≤ l - 1
-      more zero h e = absurd (omega (arith, h))
-      more (suc zero) h e = absurd (let z : ⊥ = cc in z)
-      more (suc (suc l)) h e = omega arith
+  above_shape e = (fit (level - 1) (deeper level low e) (let h = high in omega (arith, h))).same_shape
 
   module _ (X : Type 0) where
-    has_of : (b : Bool) (f : Table) (r : Kept) (gs : List Entry) → RunOnFlash r old.pages x.arena gs
-        → Has {X = X} (if b then Frozen (referred f) else Run (referred r)) old.pages x.arena (if b then f.entries else gs)
-    has_of true f r gs s = refl
-    has_of false f r gs s = s
+    -- by whether it is the frozen buffer
+    abbrev source_by : Bool → Source X
+    source_by b = if b then Frozen (referred x.log.frozen) else Run (referred (run_of x.levels (level - 1)))
 
-    of_of : (b : Bool) (f : Table) (r : Kept) → (b ≡ false → r.shape ≡ x.log.shape) → IsOf {X = X} x.log.shape (if b then Frozen (referred f) else Run (referred r))
-    of_of true f r e = tt
-    of_of false f r e = e refl
+    abbrev entries_by : Bool → List Entry
+    entries_by b = if b then x.log.frozen.entries else run_at found.runs (level - 1)
 
-    meta_of : (b : Bool) (f : Table) (r : Kept) → AreMeta x.pool r.blocks → AreMeta x.pool (blocks_in {X = X} (if b then Frozen (referred f) else Run (referred r)))
-    meta_of true f r all = λ i y got. absurd (let z : ⊥ = cc in z)
-    meta_of false f r all = all
+    of_of : (b : Bool) → (b ≡ false → (run_of x.levels (level - 1)).shape ≡ x.log.shape) → IsOf {X = X} x.log.shape (source_by b)
+    of_of true e = tt
+    of_of false e = e refl
 
     pub can_begin : CanBegin (source_in X x level) (run_of x.levels level) (nat_le level x.schedule.job.pinned) x.log.shape level x.pool old.pages x.arena es fs
     can_begin = record {
-      has = has_of (level == 1) x.log.frozen (run_of x.levels (level - 1)) (run_at found.runs (level - 1)) above_is;
+      has = elim (level == 1) as (λ b. Has {X = X} (source_by b) old.pages x.arena (entries_by b)) [ true ↦ refl | false ↦ above_is ];
       stands = run_is level low high;
-      rising = rising_of (level == 1) x.log.frozen (run_at found.runs (level - 1)) (frozen_rising x.log.shape x.log.frozen found.older stands.logs.frozen_is) above_is.rising;
+      rising = elim (level == 1) as (λ b. T (is_sorted key_cmp (entries_by b))) [ true ↦ frozen_rising x.log.shape x.log.frozen found.older stands.logs.frozen_is | false ↦ above_is.rising ];
       lists = record {
-        each_source = each_of (level == 1) x.log.frozen (run_at found.runs (level - 1))
-            (frozen_are x.log.shape old.pages top.1 found may.under.is_found x.log.frozen stands.logs.frozen_is) (run_are x.log.shape old.pages top.1 found may.under.is_found (level - 1));
+        each_source = elim (level == 1) as (λ b. AllByRecursion (IsEntry x.log.shape) (entries_by b)) [
+          | true ↦ frozen_are x.log.shape old.pages top.1 found may.under.is_found x.log.frozen stands.logs.frozen_is
+          | false ↦ run_are x.log.shape old.pages top.1 found may.under.is_found (level - 1)
+        ];
         each_target = run_are x.log.shape old.pages top.1 found may.under.is_found level;
         few = output_few;
       };
-      of_source = of_of (level == 1) x.log.frozen (run_of x.levels (level - 1)) above_shape;
+      of_source = of_of (level == 1) above_shape;
       of_target = (fit level low high).same_shape;
       of_pool = stands.pool_shape;
       of_frames = stands.arena_is.leases.page_bytes_is;
       fits = stands.pool_fits;
-      source_owned = meta_of (level == 1) x.log.frozen (run_of x.levels (level - 1)) above_blocks;
+      source_owned = elim (level == 1) as (λ b. AreMeta x.pool (blocks_in (source_by b))) [ true ↦ λ i y got. absurd (cc) | false ↦ above_blocks ];
       target_owned = target_blocks;
       room = quota;
       frames = pin;
@@ -261,12 +249,7 @@ module _ (x : Index) (frames : ℕ) (old : BoardState) (top : ℕ × Root) (foun
     where
       of_pages : (b : Bool) → (level == 1) ≡ b → pages_in {X = Unit {0}} (if b then Frozen (referred x.log.frozen) else Run (referred (run_of x.levels (level - 1)))) ≤ cap x.log.shape (level - 1)
       of_pages true e = omega arith
-      of_pages false e = (fit (level - 1) (more level low e) (let h = high in omega (arith, h))).pages
-        where
-          more : (l : ℕ) → 1 ≤ l → (l == 1) ≡ false → 1 ≤ l - 1
-          more zero h e = absurd (omega (arith, h))
-          more (suc zero) h e = absurd (let z : ⊥ = cc in z)
-          more (suc (suc l)) h e = omega arith
+      of_pages false e = (fit (level - 1) (deeper level low e) (let h = high in omega (arith, h))).pages
 
   module _ (X : Type 0)
       (begins : CanBegin (source_in X x level) (run_of x.levels level) (pins job) x.schedule.job.merger.shape level x.pool old.pages x.arena es fs
@@ -304,21 +287,10 @@ module _ (x : Index) (frames : ℕ) (old : BoardState) (top : ℕ × Root) (foun
     settles : IsSettled begun_index
     settles = record { whole = may.settles.whole; none_leaves = may.settles.none_leaves }
 
-    pub begin_moves : IndexMoves x frames old found m begun_index old
-    begin_moves = record {
-      then_top = top;
-      then_found = found;
-      stands = stands_settled begun_index frames old.pages top found settles index_then;
-      ends = inl settles;
-      same_shape = refl;
-      none_pending = may.none_pending;
-      under = may.under;
-      same_places = refl;
-      values = values_settled begun_index x.log.shape x.pool old.pages old.pages settles (record { size = refl; owned = λ b is. is; no_more = λ b is. is; as_many = refl; pages = λ k is. refl });
-      numbers = omega arith;
-      grows = inl refl;
-      cuts = Reaches-none x.log.shape old (CrashFinds x.log.shape background old.pages m) ready.shape_is old refl (refl, under_reads x.log.shape old.pages [] top found m may.under);
-    }
+    begin_moves : IndexMoves x frames old found m begun_index old
+    begin_moves = whole_moves x frames old top found m may begun_index old settles index_then refl refl may.none_pending may.under
+        (record { size = refl; owned = λ b is. is; no_more = λ b is. is; as_many = refl; pages = λ k is. refl })
+        (Reaches-none x.log.shape old (CrashFinds x.log.shape background old.pages m) ready.shape_is old refl (refl, under_reads x.log.shape old.pages [] top found m may.under))
 
     -- ---- what remains
 
@@ -339,7 +311,7 @@ module _ (x : Index) (frames : ℕ) (old : BoardState) (top : ℕ × Root) (foun
     not_begun : left_of (whole_merge x.log.shape level) (merge_left x.schedule.phase x) ≡ whole_merge x.log.shape level
     not_begun = ap (λ (p : Phase). left_of (whole_merge x.log.shape level) (merge_left p x)) idle
 
-    pub begin_lowers : MovesMerge x.log.shape (backlog_of x) (backlog_of begun_index)
+    begin_lowers : MovesMerge x.log.shape (backlog_of x) (backlog_of begun_index)
     begin_lowers = record {
       level = level;
       left = steps_left (source_at x level) (run_of x.levels level) (output_of job) job.merger (most_pages (output_of job)) (most_blocks (output_of job)) + 1 + install_steps x.log.next;
@@ -348,26 +320,21 @@ module _ (x : Index) (frames : ℕ) (old : BoardState) (top : ℕ × Root) (foun
       lowers = record { none_ready = omega arith; less = (let most = whole in let few = installs_most x.log.next in let e = not_begun in omega (arith, most, few, e)) };
     }
 
-    pub begin_less : LessIsLeft x begun_index
+    begin_less : LessIsLeft x begun_index
     begin_less = let l = merge_moves x.log.shape (backlog_of x) (backlog_of begun_index) begin_lowers in record { work = l.0; merging = l.1; roots = ap (λ n. x.log.root.number + n) l.2 }
 
   -- ---- by the contract of the job
 
-  module _ (X : Type 0) (j : Job) (is : j ≡ job)
-      (begins : (source : Source X) (target_run : Kept) (pool : Blocks) (flash : Flash) (arena : Frames) (gs hs : List Entry)
-      → CanBegin source target_run (pins j) x.schedule.job.merger.shape level pool flash arena gs hs → JobRuns source target_run j pool flash arena gs hs)
-      (within : (source : Source X) (target_run : Kept) → IsWithin source target_run (output_of j) j.merger) (ready : IsReady old x.log.shape) where
-    can : CanBegin (source_in X x level) (run_of x.levels level) (pins job) x.schedule.job.merger.shape level x.pool old.pages x.arena es fs
-        → JobRuns (source_in X x level) (run_of x.levels level) job x.pool old.pages x.arena es fs
-    can = subst (λ (k : Job). CanBegin (source_in X x level) (run_of x.levels level) (pins k) x.schedule.job.merger.shape level x.pool old.pages x.arena es fs
-        → JobRuns (source_in X x level) (run_of x.levels level) k x.pool old.pages x.arena es fs) is
-        (begins (source_in X x level) (run_of x.levels level) x.pool old.pages x.arena es fs)
+  module _ (X : Type 0) (ready : IsReady old x.log.shape) where
+    abbrev Begins : Job → Type 0
+    Begins j = ((source : Source X) (target_run : Kept) (pool : Blocks) (flash : Flash) (arena : Frames) (gs hs : List Entry)
+        → CanBegin source target_run (pins j) x.schedule.job.merger.shape level pool flash arena gs hs → JobRuns source target_run j pool flash arena gs hs)
+        → ((source : Source X) (target_run : Kept) → IsWithin source target_run (output_of j) j.merger)
+        → IndexMoves x frames old found m (record x { schedule = record x.schedule { job = j; phase = Running level } }) old
+        × LessIsLeft x (record x { schedule = record x.schedule { job = j; phase = Running level } })
 
-    few : IsWithin (source_in X x level) (run_of x.levels level) (output_of job) job.merger
-    few = subst (λ (k : Job). IsWithin (source_in X x level) (run_of x.levels level) (output_of k) k.merger) is (within (source_in X x level) (run_of x.levels level))
-
-    pub moves_by : IndexMoves x frames old found m (record x { schedule = record x.schedule { job = j; phase = Running level } }) old
-    moves_by = subst (λ (k : Job). IndexMoves x frames old found m (record x { schedule = record x.schedule { job = k; phase = Running level } }) old) (sym is) (begin_moves X can few ready)
-
-    pub less_by : LessIsLeft x (record x { schedule = record x.schedule { job = j; phase = Running level } })
-    less_by = subst (λ (k : Job). LessIsLeft x (record x { schedule = record x.schedule { job = k; phase = Running level } })) (sym is) (begin_less X can few ready)
+    pub begins_by : (j : Job) → j ≡ job → Begins j
+    begins_by j is = subst Begins (sym is) (λ begins within.
+        let can = begins (source_in X x level) (run_of x.levels level) x.pool old.pages x.arena es fs in
+        let few = within (source_in X x level) (run_of x.levels level) in
+        (begin_moves X can few ready, begin_less X can few ready))

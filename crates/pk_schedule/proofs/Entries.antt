@@ -1,10 +1,9 @@
 -- The entries of a merge's source and target, and those of its output.
-use Rattle.std.proofs.Common.{◌≡◌, ℕ, zero, suc, ◌-◌, ◌<◌, Bool, true, false, ◌||◌, ◌==◌, T, if◌then◌else◌, List, [], ◌∷◌, ◌++◌, length, map, reverse, nat_le, Result, Ok, refl, sym, ap, subst, ◌∙◌}
-use Rattle.std.proofs.Common.{arith}
-use Rattle.std.{specs.Prelude.slice_index, specs.Prelude.slice_index_or, specs.List.AllByRecursion, specs.FinMap.Entries.find, specs.FinMap.Entries.is_sorted, specs.FinMap.Entries.same_entries}
+use Rattle.std.proofs.Common.{◌≡◌, ℕ, zero, suc, ◌-◌, ◌<◌, Bool, true, false, ◌==◌, T, if◌then◌else◌, List, [], ◌∷◌, ◌++◌, length, map, reverse, Ok, refl, sym, ap, subst, ◌∙◌, arith}
 use Rattle.std.proofs.lemmas.List.{reverse-append}
-use Rattle.pk_base.{specs.Key.key_cmp, specs.Shape.Shape, specs.Entry.Entry, specs.EntryChecks.IsEntry, specs.Firsts.firsts, specs.Page.Flash, specs.Page.page_at, specs.Page.page_in}
-use Rattle.pk_base.{specs.Refusal.Refusal, specs.Refusal.ensure, proofs.KeyLemmas.firsts_sorted}
+use Rattle.std.{specs.Prelude.slice_index, specs.Prelude.slice_index_or, specs.List.AllByRecursion, specs.FinMap.Entries.find, specs.FinMap.Entries.is_sorted, specs.FinMap.Entries.same_entries}
+use Rattle.pk_base.{specs.Key.key_cmp, specs.Shape.Shape, specs.Entry.Entry, specs.EntryChecks.IsEntry, specs.Firsts.firsts, specs.Page.Flash, specs.Page.page_at}
+use Rattle.pk_base.{proofs.KeyLemmas.firsts_sorted}
 use Rattle.pk_meta.specs.Over.{over, kept_at}
 use Rattle.pk_buf.specs.Table.{Table}
 use Rattle.pk_jrn.{specs.Replays.buffer_of, proofs.Puts.firsts-reverse}
@@ -12,12 +11,12 @@ use Rattle.pk_rootfmt.specs.Root.{Root}
 use Rattle.pk_pin.specs.Frames.{Frames}
 use Rattle.pk_run.specs.Kept.{Kept, RunOnFlash}
 use Rattle.pk_level.specs.Levels.{RunsOnFlash}
-use Rattle.pk_model.{specs.Found.Found, specs.Found.found_under, specs.Tree.run_at, proofs.MapLemmas.key_total, proofs.MapLemmas.key_antisymm, proofs.Lookups.find-firsts, proofs.StrangePages.bind_ok}
+use Rattle.pk_model.{specs.Found.Found, specs.Found.found_under, specs.Tree.run_at, proofs.MapLemmas.key_total, proofs.MapLemmas.key_antisymm, proofs.Lookups.find-firsts}
 use Rattle.pk_model.{proofs.Merges.first_some, proofs.Merges.find-append_lists, specs.RootLimits.root_spaces}
 use Rattle.pk_model.proofs.Entries.{epoch_all, runs_all, all_put, all_append, journal_are, meta_are}
 use Rattle.pk_law_steps.{specs.Merging.output_of as whole_output, proofs.FourRuns.pieces_of}
 use Rattle.pk_merge.specs.Running.{merged}
-use Rattle.pk_schedule.specs.Index.{Index, entries_at}
+use Rattle.pk_schedule.{specs.Index.Index, specs.Index.entries_at, proofs.Settled.older_read}
 
 -- ---- the output
 
@@ -45,9 +44,8 @@ frozen_rising shape t es is = subst (λ (t : Table). T (is_sorted key_cmp t.entr
 
 pub counts_same : (flash : Flash) (arena : Frames) (rs : List Kept) (ess : List (List Entry)) → RunsOnFlash flash arena rs ess → map (λ r. r.count) rs ≡ map (λ es. length es) ess
 counts_same flash arena [] [] s = refl
-counts_same flash arena [] (es ∷ ess) s = absurd s
-counts_same flash arena (r ∷ rs) [] s = absurd s
 counts_same flash arena (r ∷ rs) (es ∷ ess) s = (λ i. sym s.0.many i ∷ counts_same flash arena rs ess s.1 i)
+counts_same flash arena _ _ s = absurd s
 
 -- ---- the run of a level
 
@@ -78,17 +76,10 @@ module _ (shape : Shape) (flash : Flash) (root : Root) (found : Found) (is : fou
   abbrev Are : List Entry → Type 0
   Are es = AllByRecursion (IsEntry shape) es
 
-  ok_same : (x y : List Entry) → ◌≡◌ {A = Result (List Entry) Refusal} (Ok x) (Ok y) → x ≡ y
-  ok_same x y e = cc
-
   older_are : Are found.older
   older_are =
-      let pieces = pieces_of shape (page_at flash) root found is in
-      let read = bind_ok _ _ found.older pieces.older in
-      let tested = bind_ok (ensure (length root.older == 0 || nat_le 1 (length read.0)) (page_in shape root.older 0)) _ found.older read.2 in
-      subst Are (ok_same read.0 found.older tested.2)
-      (epoch_all (IsEntry shape) shape (root_spaces shape root) (page_at flash) (λ k number index bytes es stands read spaced. journal_are shape number index bytes es read)
-      (λ k level index count bytes es stands read spaced. meta_are shape level index count bytes es read) (root.epoch - 1) root.older read.0 read.1)
+      epoch_all (IsEntry shape) shape (root_spaces shape root) (page_at flash) (λ k number index bytes es stands read spaced. journal_are shape number index bytes es read)
+      (λ k level index count bytes es stands read spaced. meta_are shape level index count bytes es read) (root.epoch - 1) root.older found.older (older_read shape (page_at flash) root found is)
 
   pub frozen_are : (t : Table) → t ≡ buffer_of shape found.older → Are t.entries
   frozen_are t held = subst (λ (t : Table). Are t.entries) (sym held) (all_firsts (IsEntry shape) (reverse found.older) (all_reverse (IsEntry shape) found.older older_are))

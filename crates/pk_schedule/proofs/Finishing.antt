@@ -1,21 +1,21 @@
 -- The second program of a root, over an index.
-use Rattle.std.proofs.Common.{◌≡◌, ◌⊎◌, inl, inr, ℕ, ◌+◌, ◌/◌, true, false, length, map, Some, None, refl, sym, ap, subst, ◌∙◌, arith, Result, Ok, Err}
-use Rattle.std.{specs.Prelude.slice_get, specs.Prelude.OnOk, specs.Prelude.OnErr, specs.List.AllByRecursion}
-use Rattle.pk_base.{specs.Shape.Shape, specs.Page.Flash, specs.Page.page_at, specs.Page.SameBehind, specs.Map.Map, proofs.ShapeLemmas.block_pages_positive}
+use Rattle.std.proofs.Common.{◌≡◌, ◌⊎◌, inl, inr, ℕ, ◌+◌, true, false, length, map, None, refl, sym, ap, subst, ◌∙◌, arith, Result, Ok, Err}
+use Rattle.std.{specs.Prelude.OnOk, specs.Prelude.OnErr}
+use Rattle.pk_base.{specs.Shape.Shape, specs.Page.Flash, specs.Map.Map}
 use Rattle.pk_law_work.{specs.Steps.EndsPair, proofs.Lowering.pair_ends}
-use Rattle.pk_plan.{specs.declared.owner.Owner.Owner, specs.declared.owner.Owner.TheVariants.Meta, specs.declared.owner.Owner.TheVariants.Values}
+use Rattle.pk_plan.{specs.declared.owner.Owner.TheVariants.Values}
 use Rattle.pk_nand.{specs.BoardState.BoardState, specs.declared.types.Fault.Fault}
 use Rattle.pk_pin.specs.Frames.{Frames}
 use Rattle.pk_rootfmt.specs.Root.{Root}
 use Rattle.pk_root.{specs.declared.next.Next.Next, specs.Installing.repeats_next}
-use Rattle.pk_pool.{specs.declared.state.BlockState.TheVariants.Owned, specs.Blocks.Blocks, specs.Blocks.IsShared, specs.Blocks.PoolOnFlash, specs.Blocks.freed, specs.Unready.unready}
-use Rattle.pk_pool.{proofs.Leaving.freed_unready, proofs.Leaving.shared_freed, proofs.Leaving.none_leaves, proofs.Sharing.behind_roots, proofs.States.owned_is_not_root}
-use Rattle.pk_level.{specs.Levels.Levels, specs.Levels.RunsOnFlash, specs.Arenas.unfilled}
+use Rattle.pk_pool.{specs.Blocks.Blocks, specs.Blocks.IsShared, specs.Blocks.freed, specs.Unready.unready}
+use Rattle.pk_pool.{proofs.Leaving.freed_unready, proofs.Leaving.shared_freed, proofs.Leaving.none_leaves}
+use Rattle.pk_level.{specs.Levels.Levels, specs.Arenas.unfilled}
 use Rattle.pk_model.specs.Found.{Found}
-use Rattle.pk_compact.{specs.FreezeSteps.IsTaken, specs.Steps.StepByCall}
+use Rattle.pk_compact.{specs.Steps.StepByCall}
 use Rattle.pk_log.{specs.State.LogState, specs.Finishing.MayFinish, specs.Finishing.LogFinished, specs.Finishing.LogFinishes, specs.Finishing.LogFinishBreaks}
-use Rattle.pk_schedule.{specs.declared.phase.Phase.Phase, specs.declared.phase.Phase.TheVariants.Idle, proofs.Keeping.RunsOnFlash-same, proofs.Preparing.pool_behind, proofs.Preparing.no_freeze}
-use Rattle.pk_schedule.{specs.Index.Index, specs.Index.Schedule, specs.Index.IndexOnFlash, specs.Index.MergeStands, specs.Index.settled, specs.Index.index, proofs.Standing.beyond}
+use Rattle.pk_schedule.{specs.declared.phase.Phase.Phase, specs.declared.phase.Phase.TheVariants.Idle, proofs.Preparing.index_behind, proofs.Preparing.same_page, proofs.Preparing.no_freeze}
+use Rattle.pk_schedule.{specs.Index.Index, specs.Index.Schedule, specs.Index.IndexOnFlash, specs.Index.settled, specs.Index.index}
 use Rattle.pk_schedule.specs.Steps.{MayFreeze, MaySettle, IndexSettles, Settles, SettleBreaks, LessIsLeft, backlog_of, merge_left}
 
 module _ (x : Index) (frames : ℕ) (old : BoardState) (top : ℕ × Root) (found : Found) (m : Map) (may : MaySettle x frames old.pages top found m) where
@@ -33,44 +33,11 @@ module _ (x : Index) (frames : ℕ) (old : BoardState) (top : ℕ × Root) (foun
     abbrev then_index : Index
     then_index = record (settled x) { log = record x.log { next = next' } }
 
-    same_page : (o : Owner) (k : ℕ) → slice_get free.states (k / shape.block_pages) ≡ Some (Owned o) → page_at new.pages k ≡ page_at old.pages k
-    same_page o k owned = f.behind k (beyond shape.block_pages k (block_pages_positive shape may.stands.logs.is_shape)
-        (behind_roots x.pool.shape free.states (k / shape.block_pages) (Owned o) (owned_is_not_root {o = o}) owned (shared_freed x.pool.shape x.pool.states shared)))
-
-    pool_still : PoolOnFlash free new.pages
-    pool_still = pool_behind free old.pages new.pages (shared_freed x.pool.shape x.pool.states shared)
-        (subst (λ (s : Shape). SameBehind s old.pages new.pages) (sym may.stands.pool_shape) f.behind) may.stands.pool_fits
-
-    runs_stand : RunsOnFlash new.pages x.arena x.levels.runs found.runs
-    runs_stand = RunsOnFlash-same shape old.pages new.pages x.arena x.levels.runs top.1.runs found.runs (block_pages_positive shape may.stands.logs.is_shape) may.stands.run_blocks
-        (λ k is. same_page Meta k (may.stands.runs (k / shape.block_pages) is)) may.stands.stand
-
-    idle_then : MergeStands x.schedule.phase then_index new.pages top.1 found
-    idle_then = subst (λ (p : Phase). MergeStands p then_index new.pages top.1 found) (sym may.half.no_merge)
-        (subst (λ (p : Phase). MergeStands p (settled x) old.pages top.1 found) may.half.no_merge may.stands.merge)
+    free_shared : IsShared free.shape free.states
+    free_shared = shared_freed x.pool.shape x.pool.states shared
 
     stands_then : IndexOnFlash then_index frames new.pages top found
-    stands_then = record {
-      logs = f.logs;
-      pool_shape = may.stands.pool_shape;
-      pool_fits = pool_still;
-      levels_shape = may.stands.levels_shape;
-      levels_pinned = may.stands.levels_pinned;
-      stand = runs_stand;
-      run_blocks = may.stands.run_blocks;
-      arena_is = may.stands.arena_is;
-      journal = may.stands.journal;
-      journal_few = may.stands.journal_few;
-      runs = may.stands.runs;
-      runs_few = may.stands.runs_few;
-      pins_are = may.stands.pins_are;
-      merge = idle_then;
-      freeze = record {
-        taken = subst (AllByRecursion (IsTaken shape free new.pages top.1)) (sym may.half.no_freeze) tt;
-        different = may.stands.freeze.different;
-        none_frozen = may.stands.freeze.none_frozen;
-      };
-    }
+    stands_then = index_behind (settled x) frames old.pages top found may.stands free_shared new.pages f.behind next' may.half.no_freeze f.logs
 
     ended : backlog_of then_index ≡ record (backlog_of x) { half = false; unready = unready free.states }
     ended = λ i. record {
@@ -106,7 +73,13 @@ module _ (x : Index) (frames : ℕ) (old : BoardState) (top : ℕ × Root) (foun
       log = refl;
       rest = refl;
       under = f.under;
-      values = record { size = refl; owned = λ b is. is; no_more = λ b is. is; as_many = refl; pages = λ k owned. same_page Values k owned };
+      values = record {
+        size = refl;
+        owned = λ b is. is;
+        no_more = λ b is. is;
+        as_many = refl;
+        pages = same_page (settled x) frames old.pages top found may.stands free_shared new.pages f.behind Values;
+      };
       less = less;
       number = f.number;
       grows = inl (f.under.is_top ∙ sym may.under.is_top);

@@ -1,9 +1,9 @@
 -- A step of a freeze, over an index.
 use Rattle.std.proofs.Common.{◌≡◌, ◌⊎◌, inl, inr, ℕ, ◌+◌, ◌/◌, ◌<◌, slice_index, Bool, true, false, not, ◌==◌, if◌then◌else◌, T, List, [], ◌∷◌, ◌++◌, length, reverse, Some, Result, Ok, Err, refl, sym}
 use Rattle.std.proofs.Common.{ap, subst, ◌∙◌, arith, length-append, append-nil, eqb→eq}
-use Rattle.std.{specs.Prelude.slice_get, specs.Prelude.MatchBool, specs.Prelude.IfOk, specs.Prelude.OnOk, specs.Prelude.OnErr, specs.List.concat, specs.List.AllByRecursion}
 use Rattle.std.proofs.lemmas.Bool.{ltb-true}
-use Rattle.pk_base.{specs.Shape.Shape, specs.Entry.Entry, specs.Firsts.firsts, specs.Page.Flash, specs.Page.page_at, specs.Map.Map, proofs.ShapeLemmas.block_pages_positive, proofs.Logic.both_true}
+use Rattle.std.{specs.Prelude.slice_get, specs.Prelude.MatchBool, specs.Prelude.IfOk, specs.Prelude.OnOk, specs.Prelude.OnErr, specs.List.concat, specs.List.AllByRecursion}
+use Rattle.pk_base.{specs.Shape.Shape, specs.Entry.Entry, specs.Firsts.firsts, specs.Page.page_at, specs.Map.Map, proofs.Logic.both_true}
 use Rattle.pk_buf.specs.Table.{Table}
 use Rattle.pk_plan.{specs.declared.owner.Owner.Owner, specs.declared.owner.Owner.TheVariants.Journal, specs.declared.owner.Owner.TheVariants.Meta, specs.declared.owner.Owner.TheVariants.Values}
 use Rattle.pk_nand.{specs.declared.types.Fault.Fault, specs.BoardState.BoardState, specs.Effects.Stops}
@@ -15,18 +15,18 @@ use Rattle.pk_jrn.proofs.Puts.{firsts-reverse}
 use Rattle.pk_pool.specs.declared.state.BlockState.TheVariants.{Free, Owned}
 use Rattle.pk_pool.specs.Blocks.{Blocks, IsShared, used_by, NoneLeaves, given_back, freed}
 use Rattle.pk_pool.proofs.Leaving.{left_and_freed, freed_same, freed_fits}
-use Rattle.pk_merge.specs.Jobs.{IsIdle}
+use Rattle.pk_merge.{specs.Jobs.IsIdle, specs.Elsewhere.IsElsewhere}
 use Rattle.pk_law_steps.{specs.Under.IsUnder, specs.Under.places, specs.Next.tree_of, specs.Roots.frozen, specs.Roots.frozen_root, proofs.NewestBlocks.valid_root, proofs.Places.In}
 use Rattle.pk_law_steps.proofs.UnderRoot.{none_named}
 use Rattle.pk_compact.{specs.Freezing.IsApart, specs.FreezeSteps.IsTaken, specs.FreezeSteps.TakesOne, specs.FreezeSteps.taken_by, specs.declared.freezing.FreezeJob.FreezeJob, proofs.TakingOne.all_in}
 use Rattle.pk_compact.specs.declared.freezing.FreezeJob.TheVariants.{Idle as NoFreeze}
 use Rattle.pk_log.{specs.State.LogState, specs.Logs.LogOnFlash, proofs.Buffers.none_of_firsts, proofs.Buffers.tells_some}
 use Rattle.pk_log.specs.FreezeSteps.{freeze_begun, CanStep, LogGoesOn, LogFrozen, LogSteps, LogStepBreaks}
-use Rattle.pk_schedule.{specs.declared.phase.Phase.TheVariants.Idle, proofs.Keeping.RunsOnFlash-same, proofs.Standing.idle_of, proofs.Standing.apart_top, proofs.Standing.owned_beyond}
+use Rattle.pk_schedule.{specs.declared.phase.Phase.TheVariants.Idle, proofs.Keeping.elsewhere, proofs.Keeping.index_on, proofs.Standing.idle_of, proofs.Standing.apart_top, proofs.Standing.owned_beyond}
 use Rattle.pk_schedule.specs.Index.{Index, IndexOnFlash, MergeStands, IsSettled, HalfStands, settled}
 use Rattle.pk_schedule.specs.Steps.{MayWork, MayFreeze, KeepsValues, IndexMoves, Moves, Breaks, FreezeMoves, Freezes, has_no_merge, is_between}
-use Rattle.pk_schedule.proofs.Giving.{GivesBack, gives_back, left_counted, TakesFor, takes_for, in_or_not, not_spare, one_owner}
-use Rattle.pk_schedule.proofs.Settled.{none_leaves_set, stands_settled, values_settled}
+use Rattle.pk_schedule.proofs.Giving.{GivesBack, gives_back, left_counted, none_more, Grown, grown_none, grown_one, one_owner}
+use Rattle.pk_schedule.{proofs.Settled.none_leaves_set, proofs.Settled.whole_moves, proofs.Preparing.runs_stand, proofs.Preparing.same_page as same_page_behind}
 
 length_none : {X : Type 0} (xs : List X) → length xs ≡ 0 → xs ≡ []
 length_none [] none = refl
@@ -34,39 +34,12 @@ length_none (x ∷ xs) none = absurd (omega (arith, none))
 
 -- ---- the pool after a step that goes on
 
--- Blocks with an owner have it still, and only the journal may have some more.
-record Grown (pool pool' : Blocks) (more : ℕ) : Type 0 where
-  size : length pool'.states ≡ length pool.states
-  owned : (o : Owner) (b : ℕ) → slice_get pool.states b ≡ Some (Owned o) → slice_get pool'.states b ≡ Some (Owned o)
-  no_more : (o : Owner) → (Journal ≡ o → ⊥) → (b : ℕ) → slice_get pool'.states b ≡ Some (Owned o) → slice_get pool.states b ≡ Some (Owned o)
-  journal : used_by Journal pool'.states ≡ used_by Journal pool.states + more
-  others : (o : Owner) → (Journal ≡ o → ⊥) → used_by o pool'.states ≡ used_by o pool.states
-
-grown_one : (pool : Blocks) (x : ℕ) (pool' : Blocks) → (IsSpareThere : (o : Owner) → slice_get pool.states x ≡ Some (Owned o) → ⊥) → TakesFor Journal x pool pool' → Grown pool pool' 1
-grown_one pool x pool' none t = record {
-  size = t.size;
-  owned = λ o b is. t.others b (λ e. none o (subst (λ n. slice_get pool.states n ≡ Some (Owned o)) e is)) ∙ is;
-  no_more = λ o away b is. elim (in_or_not b (x ∷ [])) [
-    | inl here ↦ elim here [ inl e ↦ absurd (away (one_owner pool' Journal o x t.has (subst (λ n. slice_get pool'.states n ≡ Some (Owned o)) e is))) | inr nothing ↦ absurd nothing ]
-    | inr other ↦ sym (t.others b (λ e. other (inl e))) ∙ is
-  ];
-  journal = t.more;
-  others = λ o away. t.same_used o away;
-}
-
-grown : (pool : Blocks) (job : FreezeJob) (pool' : Blocks) (job' : FreezeJob) → TakesOne pool job pool' job' → (n : ℕ) × Grown pool pool' n × (length (taken_by job') ≡ length (taken_by job) + n)
+-- only the journal may have some more
+grown : (pool : Blocks) (job : FreezeJob) (pool' : Blocks) (job' : FreezeJob) → TakesOne pool job pool' job' → (n : ℕ) × Grown Journal pool pool' n × (length (taken_by job') ≡ length (taken_by job) + n)
 grown pool job pool' job' (inl same) =
-    let P : Blocks → Type 0 = λ p. Grown pool p 0 in (
-      0,
-      subst P (sym same.0) (record { size = refl; owned = λ o b is. is; no_more = λ o away b is. is; journal = omega arith; others = λ o away. refl }),
-      (let e : length (taken_by job') ≡ length (taken_by job) = ap (λ j. length (taken_by j)) same.1 in omega (arith, e)),
-    )
+    (0, grown_none Journal pool pool' same.0, (let e : length (taken_by job') ≡ length (taken_by job) = ap (λ j. length (taken_by j)) same.1 in omega (arith, e)))
 grown pool job pool' job' (inr (b, spare, pool_is, job_is)) =
-    let P : Blocks → Type 0 = λ p. Grown pool p 1 in (
-      1,
-      subst P (sym pool_is) (grown_one pool b _ (λ o owned. not_spare pool o b owned spare) (takes_for Journal b pool spare)),
-      ap (λ (xs : List ℕ). length xs) job_is ∙ length-append (taken_by job) (b ∷ []),
-    )
+    (1, grown_one Journal pool pool' b spare pool_is, ap (λ (xs : List ℕ). length xs) job_is ∙ length-append (taken_by job) (b ∷ []))
 
 -- no block leaves
 none_leave : (pool : Blocks) (job : FreezeJob) (pool' : Blocks) (job' : FreezeJob) → NoneLeaves pool → TakesOne pool job pool' job' → NoneLeaves pool'
@@ -131,12 +104,6 @@ module _ (x : Index) (frames : ℕ) (old : BoardState) (top : ℕ × Root) (foun
         different = may.stands.freeze.different;
       }
 
-  -- a merge does not run, over the same job
-  merge_idle : (y : Index) → y.schedule.phase ≡ x.schedule.phase → y.schedule.job ≡ x.schedule.job → y.log.shape ≡ shape
-      → (flash : Flash) (root : Root) (then_found : Found) → MergeStands y.schedule.phase y flash root then_found
-  merge_idle y same_phase same_job same_shape flash root then_found =
-      subst (λ p. MergeStands p y flash root then_found) (sym (same_phase ∙ idle.0)) (rw (same_job, same_shape) idle.1)
-
   module _ (shared : IsShared x.pool.shape x.pool.states) (pool' : Blocks) (new : BoardState) where
     -- ---- the freeze goes on
 
@@ -144,71 +111,44 @@ module _ (x : Index) (frames : ℕ) (old : BoardState) (top : ℕ × Root) (foun
       abbrev on_index : Index
       on_index = record x { log = record x.log { next = next' }; pool = pool'; schedule = record x.schedule { freeze = job' } }
 
-      more : (n : ℕ) × Grown x.pool pool' n × (length (taken_by job') ≡ length (taken_by x.schedule.freeze) + n)
+      more : (n : ℕ) × Grown Journal x.pool pool' n × (length (taken_by job') ≡ length (taken_by x.schedule.freeze) + n)
       more = grown x.pool x.schedule.freeze pool' job' on.takes
 
       -- no page of a block differs that is not the journal's, nor one that the root names
       same_page : (o : Owner) (k : ℕ) → slice_get x.pool.states (k / shape.block_pages) ≡ Some (Owned o) → (In (k / shape.block_pages) (taken_by job') → ⊥) → page_at new.pages k ≡ page_at old.pages k
-      same_page o k owned away = on.elsewhere k (owned_beyond x frames old.pages top found m may shared o k owned) away
+      same_page o k owned away = on.elsewhere k (owned_beyond x frames old.pages top found may.stands shared o k owned) away
 
       not_journal : (o : Owner) (b : ℕ) → (Journal ≡ o → ⊥) → slice_get x.pool.states b ≡ Some (Owned o) → In b (taken_by job') → ⊥
       not_journal o b away owned is = away (one_owner pool' Journal o b (all_in (IsTaken shape pool' new.pages x.log.root) (taken_by job') b on.still.taken is).owned (more.1.owned o b owned))
 
-      run_page : (k : ℕ) → In (k / shape.block_pages) (concat top.1.runs) → page_at new.pages k ≡ page_at old.pages k
-      run_page k is = let owned = may.stands.runs (k / shape.block_pages) is in same_page Meta k owned (not_journal Meta (k / shape.block_pages) (λ e. let c : ⊥ = cc in c) owned)
+      beside : IsElsewhere x.pool old.pages pool' new.pages
+      beside = elsewhere shape x.pool old.pages pool' new.pages may.stands.pool_shape more.1.shape on.still.pool_fits (more.1.others Meta (λ e. cc)) (more.1.owned Meta)
+          (λ k owned. same_page Meta k owned (not_journal Meta (k / shape.block_pages) (λ e. cc) owned))
 
       stands_on : IndexOnFlash on_index frames new.pages top found
       stands_on =
           let R : Root → Type 0 = λ r. AllByRecursion (IsTaken shape pool' new.pages r) (taken_by job') in
-          record {
-            logs = on.still.logs;
-            pool_shape = on.still.pool_shape;
-            pool_fits = on.still.pool_fits;
-            levels_shape = may.stands.levels_shape;
-            levels_pinned = may.stands.levels_pinned;
-            stand = RunsOnFlash-same shape old.pages new.pages x.arena x.levels.runs top.1.runs found.runs
-                (block_pages_positive shape may.stands.logs.is_shape) may.stands.run_blocks run_page may.stands.stand;
-            run_blocks = may.stands.run_blocks;
-            arena_is = may.stands.arena_is;
-            journal = λ b is. more.1.owned Journal b (may.stands.journal b is);
-            journal_few = (let was = may.stands.journal_few in let now = more.1.journal in let size = more.2 in omega (arith, was, now, size));
-            runs = λ b is. more.1.owned Meta b (may.stands.runs b is);
-            runs_few = more.1.others Meta (λ e. let c : ⊥ = cc in c) ∙ may.stands.runs_few;
-            pins_are = may.stands.pins_are;
-            merge = merge_idle on_index refl refl refl new.pages top.1 found;
-            freeze = record { taken = subst R may.stands.logs.root_is on.still.taken; different = on.still.different; none_frozen = λ some. none_frozen };
-          }
+          index_on x frames old.pages new.pages top found may.stands pool' beside x.log.epoch x.log.active x.log.pending found.newest next' job' on.still.logs (more.1.owned Journal)
+          (let was = may.stands.journal_few in let now = more.1.has in let size = more.2 in omega (arith, was, now, size))
+          (record { taken = subst R may.stands.logs.root_is on.still.taken; different = on.still.different; none_frozen = λ some. none_frozen })
 
       values_on : KeepsValues shape x.pool old.pages pool' new.pages
       values_on = record {
         size = more.1.size;
-        owned = λ b is. more.1.owned Values b is;
-        no_more = λ b is. more.1.no_more Values (λ e. let c : ⊥ = cc in c) b is;
-        as_many = more.1.others Values (λ e. let c : ⊥ = cc in c);
-        pages = λ k owned. same_page Values k owned (not_journal Values (k / shape.block_pages) (λ e. let c : ⊥ = cc in c) owned);
+        owned = more.1.owned Values;
+        no_more = more.1.no_more Values (λ e. cc);
+        as_many = more.1.others Values (λ e. cc);
+        pages = λ k owned. same_page Values k owned (not_journal Values (k / shape.block_pages) (λ e. cc) owned);
       }
 
       settles : IsSettled on_index
       settles = record { whole = on.still.whole; none_leaves = none_leave x.pool x.schedule.freeze pool' job' may.settles.none_leaves on.takes }
 
-      moves_on : IndexMoves x frames old found m on_index new
-      moves_on = record {
-        then_top = top;
-        then_found = found;
-        stands = stands_settled on_index frames new.pages top found settles stands_on;
-        ends = inl settles;
-        same_shape = refl;
-        none_pending = may.none_pending;
-        under = on.still.under;
-        same_places = refl;
-        values = values_settled on_index shape x.pool old.pages new.pages settles values_on;
-        numbers = omega arith;
-        grows = inl (on.still.under.is_top ∙ sym may.under.is_top);
-        cuts = on.cuts;
-      }
-
       pub went_on : IndexMoves x frames old found m on_index new × FreezeMoves x on_index
-      went_on = (moves_on, record { log = refl; whole = on.still.whole; rest = refl; lowers = on.lowers; some = on.some })
+      went_on = (
+        whole_moves x frames old top found m may on_index new settles stands_on refl refl may.none_pending on.still.under values_on on.cuts,
+        record { log = refl; whole = on.still.whole; rest = refl; lowers = on.lowers; some = on.some },
+      )
 
     -- ---- its root has its first program
 
@@ -283,9 +223,6 @@ module _ (x : Index) (frames : ℕ) (old : BoardState) (top : ℕ × Root) (foun
       journal_stays b (inr (inl e)) = subst (λ n. slice_get free.states n ≡ Some (Owned Journal)) (sym e) (taken_stays f.second taken.1.0)
       journal_stays b (inr (inr is)) = older_stays (length found.newest == 0) b gives.others is
 
-      behind_page : (o : Owner) (k : ℕ) → slice_get x.pool.states (k / shape.block_pages) ≡ Some (Owned o) → page_at new.pages k ≡ page_at old.pages k
-      behind_page o k owned = f.behind k (owned_beyond x frames old.pages top found m may shared o k owned)
-
       stands_over : IndexOnFlash (settled over_index) frames new.pages (f.page, then_root) (frozen found)
       stands_over =
           let L : LogState → Type 0 = λ l. LogOnFlash l new.pages (f.page, l.root) (frozen found) in
@@ -295,8 +232,7 @@ module _ (x : Index) (frames : ℕ) (old : BoardState) (top : ℕ × Root) (foun
             pool_fits = freed_fits pool' new.pages f.pool_fits;
             levels_shape = may.stands.levels_shape;
             levels_pinned = may.stands.levels_pinned;
-            stand = RunsOnFlash-same shape old.pages new.pages x.arena x.levels.runs top.1.runs found.runs (block_pages_positive shape may.stands.logs.is_shape) may.stands.run_blocks
-                (λ k is. behind_page Meta k (may.stands.runs (k / shape.block_pages) is)) may.stands.stand;
+            stand = runs_stand x frames old.pages top found may.stands shared new.pages f.behind;
             run_blocks = may.stands.run_blocks;
             arena_is = may.stands.arena_is;
             journal = journal_stays;
@@ -307,27 +243,21 @@ module _ (x : Index) (frames : ℕ) (old : BoardState) (top : ℕ × Root) (foun
                 let all = either (length found.newest == 0) in
                 let front = length-append (f.first ∷ f.second ∷ []) older in
                 omega (arith, was, fewer, freeze, all, front));
-            runs = λ b is. other_stays Meta (λ e. let c : ⊥ = cc in c) b (may.stands.runs b is);
-            runs_few = gives.same_used Meta (λ e. let c : ⊥ = cc in c) ∙ may.stands.runs_few;
+            runs = λ b is. other_stays Meta (λ e. cc) b (may.stands.runs b is);
+            runs_few = gives.same_used Meta (λ e. cc) ∙ may.stands.runs_few;
             pins_are = may.stands.pins_are;
-            merge = merge_idle (settled over_index) refl refl refl new.pages then_root (frozen found);
+            merge = subst (λ p. MergeStands p (settled over_index) new.pages then_root (frozen found)) (sym idle.0) idle.1;
             freeze = record { taken = tt; different = refl; none_frozen = λ some. absurd (omega (arith, some)) };
           }
 
       values_over : KeepsValues shape x.pool old.pages free new.pages
       values_over = record {
         size = gives.size;
-        owned = λ b is. other_stays Values (λ e. let c : ⊥ = cc in c) b is;
-        no_more = λ b is. elim (in_or_not b gone) [
-          | inl there ↦ absurd (let e : ⊥ = not_free free b (gives.gone b there) is in e)
-          | inr away ↦ sym (gives.others b away) ∙ is
-        ];
-        as_many = gives.same_used Values (λ e. let c : ⊥ = cc in c);
-        pages = λ k owned. behind_page Values k owned;
+        owned = other_stays Values (λ e. cc);
+        no_more = none_more gone x.pool free gives.others gives.gone Values;
+        as_many = gives.same_used Values (λ e. cc);
+        pages = same_page_behind x frames old.pages top found may.stands shared new.pages f.behind Values;
       }
-        where
-          not_free : (p : Blocks) (b : ℕ) → slice_get p.states b ≡ Some Free → slice_get p.states b ≡ Some (Owned Values) → ⊥
-          not_free p b free owned = cc
 
       -- something is frozen, or the former epoch's blocks leave
       keys : length x.log.active.entries ≡ length (firsts found.newest)

@@ -21,14 +21,9 @@ in_or_not b (x ∷ xs) = elim (cases_eq b x) [
 -- a state with an owner is neither free nor another owner's
 other_owner : (o p : Owner) → (o ≡ p → ⊥) → same_owner p o ≡ false
 other_owner Journal Journal differs = absurd (differs refl)
-other_owner Journal Meta differs = refl
-other_owner Journal Values differs = refl
-other_owner Meta Journal differs = refl
 other_owner Meta Meta differs = absurd (differs refl)
-other_owner Meta Values differs = refl
-other_owner Values Journal differs = refl
-other_owner Values Meta differs = refl
 other_owner Values Values differs = absurd (differs refl)
+other_owner _ _ differs = refl
 
 -- a count of an owner stays if a state of none of his becomes another such
 same_count : (p : Owner) (states : List BlockState) (b : ℕ) (s t : BlockState) → is_owned_by p s ≡ false → is_owned_by p t ≡ false → slice_get states b ≡ Some s
@@ -71,6 +66,11 @@ gives_back o (x ∷ xs) pool d owned =
       same_unready = rest.same_unready ∙ one_given pool.states x o here;
     }
 
+-- no block has an owner that it had not before
+pub none_more : (blocks : List ℕ) (pool pool' : Blocks) → ((b : ℕ) → (In b blocks → ⊥) → slice_get pool'.states b ≡ slice_get pool.states b)
+    → ((b : ℕ) → In b blocks → slice_get pool'.states b ≡ Some Free) → (o : Owner) (b : ℕ) → slice_get pool'.states b ≡ Some (Owned o) → slice_get pool.states b ≡ Some (Owned o)
+none_more blocks pool pool' others gone o b owned = elim (in_or_not b blocks) [ inl there ↦ absurd (let free = gone b there in cc) | inr away ↦ sym (others b away) ∙ owned ]
+
 -- blocks that leave count as before
 pub left_counted : (o p : Owner) (blocks : List ℕ) (pool : Blocks) → T (differ blocks)
     → ((b : ℕ) → In b blocks → slice_get pool.states b ≡ Some (Owned o)) → used_by p (left_by o pool blocks).states ≡ used_by p pool.states
@@ -82,28 +82,6 @@ left_counted o p (x ∷ xs) pool d owned =
 
 -- ---- a spare block that is taken
 
--- The block has this owner, and all others are what they were.
-pub record TakesFor (o : Owner) (x : ℕ) (pool pool' : Blocks) : Type 0 where
-  pub same_shape : pool'.shape ≡ pool.shape
-  pub size : length pool'.states ≡ length pool.states
-  pub others : (b : ℕ) → (b ≡ x → ⊥) → slice_get pool'.states b ≡ slice_get pool.states b
-  pub has : slice_get pool'.states x ≡ Some (Owned o)
-  pub more : used_by o pool'.states ≡ used_by o pool.states + 1
-  pub same_used : (p : Owner) → (o ≡ p → ⊥) → used_by p pool'.states ≡ used_by p pool.states
-
-pub takes_for : (o : Owner) (x : ℕ) (pool : Blocks) → IsSpare pool x → TakesFor o x pool (with_state pool x (Owned o))
-takes_for o x pool spare = record {
-  same_shape = refl;
-  size = length-set pool.states x (Owned o);
-  others = λ b away. get-set_other pool.states x b (Owned o) away;
-  has = elim spare [ inl free ↦ set_is pool.states x Free (Owned o) free | inr ready ↦ set_is pool.states x Ready (Owned o) ready ];
-  more = used_adopted pool.shape pool.states x o spare;
-  same_used = λ p away. elim spare [
-    | inl free ↦ same_count p pool.states x Free (Owned o) refl (other_owner o p away) free
-    | inr ready ↦ same_count p pool.states x Ready (Owned o) refl (other_owner o p away) ready
-  ];
-}
-
 -- a block with an owner is not spare
 pub not_spare : (pool : Blocks) (o : Owner) (b : ℕ) → slice_get pool.states b ≡ Some (Owned o) → IsSpare pool b → ⊥
 not_spare pool o b owned (inl free) = owned_is_not_free {o = o} (same_Some (Owned o) Free (sym owned ∙ free))
@@ -112,3 +90,35 @@ not_spare pool o b owned (inr ready) = owned_is_not_ready {o = o} (same_Some (Ow
 -- and has no other owner
 pub one_owner : (pool : Blocks) (o p : Owner) (b : ℕ) → slice_get pool.states b ≡ Some (Owned o) → slice_get pool.states b ≡ Some (Owned p) → o ≡ p
 one_owner pool o p b is is' = cc
+
+-- What has an owner has it still, and only this owner may have more.
+pub record Grown (g : Owner) (pool pool' : Blocks) (more : ℕ) : Type 0 where
+  pub shape : pool'.shape ≡ pool.shape
+  pub size : length pool'.states ≡ length pool.states
+  pub owned : (o : Owner) (b : ℕ) → slice_get pool.states b ≡ Some (Owned o) → slice_get pool'.states b ≡ Some (Owned o)
+  pub no_more : (o : Owner) → (g ≡ o → ⊥) → (b : ℕ) → slice_get pool'.states b ≡ Some (Owned o) → slice_get pool.states b ≡ Some (Owned o)
+  pub has : used_by g pool'.states ≡ used_by g pool.states + more
+  pub others : (o : Owner) → (g ≡ o → ⊥) → used_by o pool'.states ≡ used_by o pool.states
+
+pub grown_none : (g : Owner) (pool pool' : Blocks) → pool' ≡ pool → Grown g pool pool' 0
+grown_none g pool pool' same = subst (λ p. Grown g pool p 0) (sym same)
+    (record { shape = refl; size = refl; owned = λ o b is. is; no_more = λ o away b is. is; has = omega arith; others = λ o away. refl })
+
+pub grown_one : (g : Owner) (pool pool' : Blocks) (x : ℕ) → IsSpare pool x → pool' ≡ with_state pool x (Owned g) → Grown g pool pool' 1
+grown_one g pool pool' x spare is = subst (λ p. Grown g pool p 1) (sym is) (record {
+  shape = refl;
+  size = length-set pool.states x (Owned g);
+  owned = λ o b owned. get-set_other pool.states x b (Owned g) (λ e. not_spare pool o b owned (subst (λ y. IsSpare pool y) (sym e) spare)) ∙ owned;
+  no_more = λ o away b owned. elim (cases_eq b x) [
+    | inl e ↦ absurd (away (one_owner (with_state pool x (Owned g)) g o b (subst (λ y. slice_get (with_state pool x (Owned g)).states y ≡ Some (Owned g)) (sym e) here) owned))
+    | inr other ↦ sym (get-set_other pool.states x b (Owned g) other) ∙ owned
+  ];
+  has = used_adopted pool.shape pool.states x g spare;
+  others = λ o away. elim spare [
+    | inl free ↦ same_count o pool.states x Free (Owned g) refl (other_owner g o away) free
+    | inr ready ↦ same_count o pool.states x Ready (Owned g) refl (other_owner g o away) ready
+  ];
+})
+  where
+    here : slice_get (with_state pool x (Owned g)).states x ≡ Some (Owned g)
+    here = elim spare [ inl free ↦ set_is pool.states x Free (Owned g) free | inr ready ↦ set_is pool.states x Ready (Owned g) ready ]

@@ -1,16 +1,14 @@
 -- What a step of a merge's job leaves of the pool, of pages and of frames: at most one block more for the output, and no page of another's block.
-use Rattle.std.proofs.Common.{◌≡◌, ◌≢◌, ◌⊎◌, inl, inr, ℕ, zero, suc, ◌+◌, ◌*◌, ◌/◌, Bool, true, false, not, ◌==◌, eqb→eq, cond, T, List, [], ◌∷◌, ◌++◌, length, Option, Some, None, refl, sym, ap}
-use Rattle.std.proofs.Common.{subst, ◌∙◌, arith, length-append}
-use Rattle.std.{specs.Prelude.slice_get, specs.Prelude.slice_set, specs.List.list_any, specs.List.concat, proofs.lemmas.Bool.cases_eq, proofs.lemmas.List.length-set, proofs.lemmas.Option.same_Some}
+use Rattle.std.proofs.Common.{◌≡◌, ◌⊎◌, inl, inr, ℕ, zero, suc, ◌+◌, ◌*◌, ◌/◌, Bool, true, not, ◌==◌, eqb→eq, T, List, [], ◌∷◌, ◌++◌, length, Option, Some, None, refl, sym, ap, subst, ◌∙◌, arith}
+use Rattle.std.proofs.Common.{length-append}
+use Rattle.std.{specs.Prelude.slice_get, specs.List.list_any, specs.List.concat, proofs.lemmas.List.length-set, proofs.lemmas.Option.same_Some}
 use Rattle.pk_base.{specs.Shape.Shape, specs.Entry.Entry, specs.Page.Flash, specs.Page.page_at, proofs.Logic.both, proofs.Logic.or_cases}
 use Rattle.pk_nand.specs.BoardState.{BoardState}
 use Rattle.pk_pin.specs.Frames.{Frames, KeepsPage}
-use Rattle.pk_plan.{specs.declared.owner.Owner.Owner, specs.declared.owner.Owner.TheVariants.Journal, specs.declared.owner.Owner.TheVariants.Meta, specs.declared.owner.Owner.TheVariants.Values}
+use Rattle.pk_plan.{specs.declared.owner.Owner.TheVariants.Meta}
 use Rattle.pk_rootfmt.specs.Root.{differ}
-use Rattle.pk_pool.{specs.declared.state.BlockState.TheVariants.Free, specs.declared.state.BlockState.TheVariants.Ready, specs.declared.state.BlockState.TheVariants.Owned, specs.Taking.SameButBlock}
-use Rattle.pk_pool.specs.Blocks.{Blocks, IsSpare, used_by, is_owned_by, same_owner, with_state, NoneLeaves}
-use Rattle.pk_pool.{proofs.States.get-set_other, proofs.States.set_is, proofs.States.owned_is_not_free, proofs.States.owned_is_not_ready, proofs.Sharing.count-set, proofs.Sharing.used_adopted}
-use Rattle.pk_pool.proofs.Fitting.{block_of}
+use Rattle.pk_pool.{specs.declared.state.BlockState.TheVariants.Owned, specs.Taking.SameButBlock}
+use Rattle.pk_pool.{specs.Blocks.Blocks, specs.Blocks.IsSpare, specs.Blocks.with_state, specs.Blocks.NoneLeaves, proofs.Fitting.block_of}
 use Rattle.pk_run.specs.Kept.{Kept}
 use Rattle.pk_level.specs.Levels.{RunsOnFlash, HaveBlocks}
 use Rattle.pk_model.{proofs.Growing.at_end, proofs.SamePages.any_front, proofs.SamePages.any_back}
@@ -18,7 +16,7 @@ use Rattle.pk_law_steps.{proofs.Places.In, proofs.Places.in_append, proofs.Place
 use Rattle.pk_merge.{specs.declared.source.Source.Source, specs.declared.next.Next.Next, specs.Merging.Merger, specs.Steps.Acts}
 use Rattle.pk_merge.specs.declared.next.Next.TheVariants.{LoadSource, LoadTarget, Gather, TakeBlock, Program, End}
 use Rattle.pk_merge.specs.Elsewhere.{IsForOutput, StepReaches, StepWent, LeavesRuns}
-use Rattle.pk_schedule.proofs.Settled.{none_leaves_set}
+use Rattle.pk_schedule.{proofs.Settled.none_leaves_set, proofs.Giving.Grown, proofs.Giving.grown_none, proofs.Giving.grown_one}
 
 -- ---- lists
 
@@ -49,10 +47,6 @@ differ_of (x ∷ xs) d =
 
 -- ---- the pool
 
-pub owned_not_spare : (pool : Blocks) (b : ℕ) (o : Owner) → slice_get pool.states b ≡ Some (Owned o) → IsSpare pool b → ⊥
-owned_not_spare pool b o owned (inl free) = owned_is_not_free {o = o} (same_Some (Owned o) Free (sym owned ∙ free))
-owned_not_spare pool b o owned (inr ready) = owned_is_not_ready {o = o} (same_Some (Owned o) Ready (sym owned ∙ ready))
-
 -- the pool and the output are as before, or the output has one spare block more
 abbrev pub Grew : Blocks → Kept → Blocks → Kept → Type 0
 Grew pool out pool' out' =
@@ -64,77 +58,18 @@ pub grew_none_leaves : (pool : Blocks) (out : Kept) (pool' : Blocks) (out' : Kep
 grew_none_leaves pool out pool' out' none (inl s) = subst NoneLeaves (sym s.0) none
 grew_none_leaves pool out pool' out' none (inr (b, spare, is, more)) = subst NoneLeaves (sym is) (none_leaves_set pool b (Owned Meta) refl none)
 
-module _ (pool : Blocks) (out : Kept) (pool' : Blocks) (out' : Kept) where
-  pub grew_shape : Grew pool out pool' out' → pool'.shape ≡ pool.shape
-  grew_shape (inl s) = ap (λ (p : Blocks). p.shape) s.0
-  grew_shape (inr (b, spare, is, more)) = ap (λ (p : Blocks). p.shape) is
+pub grew_by : (pool : Blocks) (out : Kept) (pool' : Blocks) (out' : Kept) → Grew pool out pool' out' → (n : ℕ) × Grown Meta pool pool' n × (length out'.blocks ≡ length out.blocks + n)
+grew_by pool out pool' out' (inl s) = (0, grown_none Meta pool pool' s.0, (let same = ap (λ (bs : List ℕ). length bs) s.1 in omega (arith, same)))
+grew_by pool out pool' out' (inr (b, spare, is, more)) = (1, grown_one Meta pool pool' b spare is, ap (λ (bs : List ℕ). length bs) more ∙ length-append out.blocks (b ∷ []))
 
-  -- what has an owner keeps it
-  pub grew_kept : Grew pool out pool' out' → (c : ℕ) (o : Owner) → slice_get pool.states c ≡ Some (Owned o) → slice_get pool'.states c ≡ Some (Owned o)
-  grew_kept (inl s) c o owned = subst (λ (p : Blocks). slice_get p.states c ≡ Some (Owned o)) (sym s.0) owned
-  grew_kept (inr (b, spare, is, more)) c o owned =
-      let other : c ≢ b = λ e. owned_not_spare pool c o owned (subst (λ (y : ℕ). IsSpare pool y) (sym e) spare) in
-      subst (λ (p : Blocks). slice_get p.states c ≡ Some (Owned o)) (sym is) (get-set_other pool.states b c (Owned Meta) other ∙ owned)
-
-  -- no other owner has one more
-  pub grew_no_more : Grew pool out pool' out' → (c : ℕ) (o : Owner) → same_owner o Meta ≡ false → slice_get pool'.states c ≡ Some (Owned o) → slice_get pool.states c ≡ Some (Owned o)
-  grew_no_more (inl s) c o not_meta owned = subst (λ (p : Blocks). slice_get p.states c ≡ Some (Owned o)) s.0 owned
-  grew_no_more (inr (b, spare, is, more)) c o not_meta owned =
-      let now : slice_get (slice_set pool.states b (Owned Meta)) c ≡ Some (Owned o) = subst (λ (p : Blocks). slice_get p.states c ≡ Some (Owned o)) is owned in
-      elim (cases_eq c b) [
-        | inl e ↦ absurd (clash (subst (λ (y : ℕ). slice_get (slice_set pool.states b (Owned Meta)) y ≡ Some (Owned o)) e now) spare)
-        | inr other ↦ sym (get-set_other pool.states b c (Owned Meta) other) ∙ now
-      ]
-    where
-      meta_not : (o : Owner) → same_owner o Meta ≡ false → Owned Meta ≡ Owned o → ⊥
-      meta_not o not_meta e = let f : same_owner Meta Meta ≡ is_owned_by Meta (Owned o) = ap (is_owned_by Meta) e in turned o not_meta f
-        where
-          turned : (o : Owner) → same_owner o Meta ≡ false → true ≡ same_owner Meta o → ⊥
-          turned Journal e f = cc
-          turned Meta e f = cc
-          turned Values e f = cc
-
-      here : IsSpare pool b → slice_get (slice_set pool.states b (Owned Meta)) b ≡ Some (Owned Meta)
-      here (inl free) = set_is pool.states b Free (Owned Meta) free
-      here (inr ready) = set_is pool.states b Ready (Owned Meta) ready
-
-      clash : slice_get (slice_set pool.states b (Owned Meta)) b ≡ Some (Owned o) → IsSpare pool b → ⊥
-      clash got spare = meta_not o not_meta (same_Some (Owned Meta) (Owned o) (sym (here spare) ∙ got))
-
-  pub grew_size : Grew pool out pool' out' → length pool'.states ≡ length pool.states
-  grew_size (inl s) = ap (λ (p : Blocks). length p.states) s.0
-  grew_size (inr (b, spare, is, more)) = ap (λ (p : Blocks). length p.states) is ∙ length-set pool.states b (Owned Meta)
-
-  -- other owners have as many
-  pub grew_used : Grew pool out pool' out' → (o : Owner) → same_owner o Meta ≡ false → used_by o pool'.states ≡ used_by o pool.states
-  grew_used (inl s) o not_meta = ap (λ (p : Blocks). used_by o p.states) s.0
-  grew_used (inr (b, spare, is, more)) o not_meta = ap (λ (p : Blocks). used_by o p.states) is ∙ counted spare
-    where
-      none : cond {A = ℕ} (same_owner o Meta) 1 0 ≡ 0
-      none = rw not_meta refl
-
-      counted : IsSpare pool b → used_by o (slice_set pool.states b (Owned Meta)) ≡ used_by o pool.states
-      counted (inl free) = omega (arith, count-set (is_owned_by o) pool.states b Free (Owned Meta) free, none)
-      counted (inr ready) = omega (arith, count-set (is_owned_by o) pool.states b Ready (Owned Meta) ready, none)
-
-  -- the output has those that there are more of
-  pub grew_meta : Grew pool out pool' out' → used_by Meta pool'.states + length out.blocks ≡ used_by Meta pool.states + length out'.blocks
-  grew_meta (inl s) = let one = ap (λ (p : Blocks). used_by Meta p.states) s.0 in let two = ap (λ (bs : List ℕ). length bs) s.1 in omega (arith, one, two)
-  grew_meta (inr (b, spare, is, more)) =
-      let one = ap (λ (p : Blocks). used_by Meta p.states) is in
-      let two = used_adopted pool.shape pool.states b Meta spare in
-      let three = ap (λ (bs : List ℕ). length bs) more in
-      let four = length-append out.blocks (b ∷ []) in
-      omega (arith, one, two, three, four)
-
-  -- a block of the output was its before, or was spare
-  pub grew_from : Grew pool out pool' out' → (c : ℕ) → In c out'.blocks → In c out.blocks ⊎ IsSpare pool c
-  grew_from (inl s) c is = inl (subst (λ (bs : List ℕ). In c bs) s.1 is)
-  grew_from (inr (b, spare, e, more)) c is = elim (in_append c out.blocks (b ∷ []) (subst (λ (bs : List ℕ). In c bs) more is)) [
-    | inl was ↦ inl was
-    | inr (inl here) ↦ inr (subst (λ (y : ℕ). IsSpare pool y) (sym here) spare)
-    | inr (inr none) ↦ absurd none
-  ]
+-- a block of the output was its before, or was spare
+pub grew_from : (pool : Blocks) (out : Kept) (pool' : Blocks) (out' : Kept) → Grew pool out pool' out' → (c : ℕ) → In c out'.blocks → In c out.blocks ⊎ IsSpare pool c
+grew_from pool out pool' out' (inl s) c is = inl (subst (λ (bs : List ℕ). In c bs) s.1 is)
+grew_from pool out pool' out' (inr (b, spare, e, more)) c is = elim (in_append c out.blocks (b ∷ []) (subst (λ (bs : List ℕ). In c bs) more is)) [
+  | inl was ↦ inl was
+  | inr (inl here) ↦ inr (subst (λ (y : ℕ). IsSpare pool y) (sym here) spare)
+  | inr (inr none) ↦ absurd none
+]
 
 -- ---- each action
 
@@ -195,10 +130,6 @@ pub runs_leave : (shape : Shape) (pool : Blocks) (out : Kept) (old : Flash) (bef
     → ((b : ℕ) → In b (concat bss) → slice_get pool.states b ≡ Some (Owned Meta)) → ((b : ℕ) → In b (concat bss) → In b out.blocks → ⊥)
     → RunsOnFlash old before rs ess → RunsOnFlash new after rs ess
 runs_leave shape pool out old before new after leaves is [] [] [] have meta apart s = tt
-runs_leave shape pool out old before new after leaves is [] [] (es ∷ ess) have meta apart s = absurd s
-runs_leave shape pool out old before new after leaves is [] (bs ∷ bss) ess have meta apart s = absurd have
-runs_leave shape pool out old before new after leaves is (r ∷ rs) [] ess have meta apart s = absurd have
-runs_leave shape pool out old before new after leaves is (r ∷ rs) (bs ∷ bss) [] have meta apart s = absurd s
 runs_leave shape pool out old before new after leaves is (r ∷ rs) (bs ∷ bss) (es ∷ ess) have meta apart s =
     let front : (i b : ℕ) → slice_get r.blocks i ≡ Some b
     → In b (concat (bs ∷ bss)) = λ i b got. any_front (λ y. b ≡ y) bs (concat bss) (got_in bs i b (subst (λ (xs : List ℕ). slice_get xs i ≡ Some b) have.1 got)) in (
@@ -206,3 +137,4 @@ runs_leave shape pool out old before new after leaves is (r ∷ rs) (bs ∷ bss)
       runs_leave shape pool out old before new after leaves is rs bss ess have.2
           (λ b among. meta b (any_back (λ y. b ≡ y) bs (concat bss) among)) (λ b among. apart b (any_back (λ y. b ≡ y) bs (concat bss) among)) s.1,
     )
+runs_leave shape pool out old before new after leaves is _ _ _ have meta apart s = search

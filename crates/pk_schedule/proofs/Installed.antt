@@ -1,11 +1,11 @@
 -- A step of the install of a merge, for whatever is on the flash.
-use Rattle.std.proofs.Common.{◌≡◌, ℕ, ◌≤◌, true, List, [], ◌∷◌, length, refl, sym, ap, subst, ◌∙◌, arith, Option, Result, Ok, Err}
+use Rattle.std.proofs.Common.{◌≡◌, ℕ, ◌≤◌, true, List, [], ◌∷◌, length, refl, sym, ap, subst, ◌∙◌, arith, Option, Result}
 use Rattle.pk_base.specs.Map.{Map}
 use Rattle.pk_nand.{specs.declared.types.Fault.Fault, specs.BoardState.BoardState}
 use Rattle.pk_rootfmt.{specs.Root.Root, specs.Held.older_of, specs.Held.blocks_or_none}
 use Rattle.pk_root.specs.Installing.{erases_next, programs_next}
 use Rattle.pk_pin.specs.Frames.{Frames}
-use Rattle.pk_model.{specs.Found.Found, specs.Steps.Step, specs.Steps.RootsUpTo}
+use Rattle.pk_model.{specs.Found.Found, specs.Steps.Step, proofs.Steps.Step-says}
 use Rattle.pk_plan.specs.declared.owner.Owner.TheVariants.{Values}
 use Rattle.pk_pool.{specs.Blocks.Blocks, specs.Blocks.IsShared, specs.Blocks.freed, specs.Blocks.used_by, proofs.Leaving.freed_same}
 use Rattle.pk_level.{specs.Levels.Levels, specs.Levels.IsLevels, specs.Arenas.HasLeases, specs.Arenas.Releases}
@@ -87,9 +87,6 @@ module _ {x : Index} {level : ℕ} (k : IsComplete x level) (old : BoardState) w
   Made x' new = (frames : ℕ) (top : ℕ × Root) (found : Found) (m : Map) → MayWork x frames old.pages top found m → IndexMoves x frames old found m x' new × LessIsLeft x x'
 
   module _ (new : BoardState) (log' : LogState) where
-    one_root : RootsUpTo 0 old new → RootsUpTo 1 old new
-    one_root same = omega (arith, same)
-
     prepared : erases_next x.log.next ≡ true → LogPrepares x.log old log' new → Made (record x { log = log' }) new
     prepared erases prepares frames top found m may =
         let p = prepares top found m (wait.may_prepare x frames old top found m may level k.is k.shared k.known) in
@@ -104,24 +101,8 @@ module _ {x : Index} {level : ℕ} (k : IsComplete x level) (old : BoardState) w
     pub made_prepared : erases_next x.log.next ≡ true → (r : Result Unit Fault)
         → Step (λ u. LogPrepares x.log old log' new) (LogPrepareBreaks x.log old new) x.log.shape 0 old new r
         → Step (λ u. StepsOn x old (record x { log = log' }) new) (Breaks x old new) x.log.shape 1 old new r
-    made_prepared erases (Ok u) step = record {
-      ended = steps_on x old (record x { log = log' }) new (prepared erases step.ended);
-      broken = tt;
-      works = step.works;
-      stops = tt;
-      stopped = tt;
-      roots_few = one_root step.roots_few;
-      ready = step.ready;
-    }
-    made_prepared erases (Err fault) step = record {
-      ended = tt;
-      broken = λ frames top found m may. step.broken top found m (wait.may_prepare x frames old top found m may level k.is k.shared k.known);
-      works = tt;
-      stops = step.stops;
-      stopped = step.stopped;
-      roots_few = one_root step.roots_few;
-      ready = step.ready;
-    }
+    made_prepared erases r step = Step-says r _ _ _ _ _ 0 1 old new (omega arith) (λ u ended. steps_on x old (record x { log = log' }) new (prepared erases ended))
+        (λ broken frames top found m may. broken top found m (wait.may_prepare x frames old top found m may level k.is k.shared k.known)) step
 
     module _ (merges : LogMerges x.log old level (output x.schedule).count (output x.schedule).blocks log' new)
         (levels' : Levels) (arena' : Frames) (pool' : Blocks) (schedule' : Schedule) where

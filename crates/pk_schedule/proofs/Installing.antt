@@ -5,11 +5,11 @@ use Rattle.std.{specs.Prelude.slice_get, specs.Prelude.unwrap_or, specs.List.con
 use Rattle.pk_base.{specs.Shape.Shape, specs.Page.Flash, specs.Page.page_at, specs.Map.Map, specs.Firsts.firsts, specs.Entry.Entry, proofs.Logic.is_true}
 use Rattle.pk_buf.specs.Table.{Table}
 use Rattle.pk_law_work.{specs.Rest.Lowers, specs.Rest.left_of, specs.Rest.whole_merge, specs.Backlog.due_level, specs.Steps.EndsMerge, proofs.Lowering.ends, proofs.Targets.next_told}
-use Rattle.pk_plan.{specs.declared.owner.Owner.Owner, specs.declared.owner.Owner.TheVariants.Journal, specs.declared.owner.Owner.TheVariants.Meta, specs.declared.owner.Owner.TheVariants.Values}
+use Rattle.pk_plan.{specs.declared.owner.Owner.TheVariants.Journal, specs.declared.owner.Owner.TheVariants.Meta, specs.declared.owner.Owner.TheVariants.Values}
 use Rattle.pk_nand.specs.BoardState.{BoardState}
 use Rattle.pk_rootfmt.specs.Root.{Root, named}
 use Rattle.pk_root.{specs.declared.next.Next.Next, specs.Installing.programs_next, specs.Installing.repeats_next}
-use Rattle.pk_root.specs.declared.next.Next.TheVariants.{Erase, Program, Again}
+use Rattle.pk_root.specs.declared.next.Next.TheVariants.{Program}
 use Rattle.pk_pin.specs.Frames.{Frames}
 use Rattle.pk_model.{specs.Found.Found, proofs.SamePages.any_front, proofs.SamePages.any_back, proofs.Commits.member}
 use Rattle.pk_pool.{specs.declared.state.BlockState.TheVariants.Free, specs.declared.state.BlockState.TheVariants.Owned, specs.Unready.unready, proofs.Leaving.freed_unready}
@@ -23,7 +23,7 @@ use Rattle.pk_law_steps.proofs.Standing.{installed}
 use Rattle.pk_merge.specs.Jobs.{Job, IsIdle}
 use Rattle.pk_compact.specs.FreezeSteps.{IsTaken, taken_by, install_steps}
 use Rattle.pk_log.{specs.State.LogState, specs.Logs.LogOnFlash, specs.MergeSteps.LogMerged, specs.MergeSteps.frozen_after}
-use Rattle.pk_schedule.{specs.declared.phase.Phase.TheVariants.Idle, specs.declared.phase.Phase.TheVariants.Ready, proofs.Backlogs.index_backlog, proofs.Giving.in_or_not, proofs.Giving.one_owner}
+use Rattle.pk_schedule.{specs.declared.phase.Phase.TheVariants.Idle, specs.declared.phase.Phase.TheVariants.Ready, proofs.Backlogs.index_backlog, proofs.Giving.none_more, proofs.Giving.one_owner}
 use Rattle.pk_schedule.{specs.Index.Index, specs.Index.IndexOnFlash, specs.Index.output, specs.Index.HalfStands, specs.Index.settled, proofs.Standing.named_owned, proofs.Settled.none_there}
 use Rattle.pk_schedule.specs.Steps.{MayWork, KeepsValues, IndexMoves, LessIsLeft, backlog_of}
 use Rattle.pk_schedule.proofs.Preparing.{no_freeze, pool_still, same_page, merge_is, due_now}
@@ -33,9 +33,6 @@ not_values : (pool : Blocks) (b : ℕ) → (slice_get pool.states b ≡ Some (Ow
 not_values pool b (inl journal) values = let e : Journal ≡ Values = one_owner pool Journal Values b journal values in let c : ⊥ = cc in c
 not_values pool b (inr meta) values = let e : Meta ≡ Values = one_owner pool Meta Values b meta values in let c : ⊥ = cc in c
 
-not_free : (pool : Blocks) (b : ℕ) (o : Owner) → slice_get pool.states b ≡ Some Free → slice_get pool.states b ≡ Some (Owned o) → ⊥
-not_free pool b o free owned = cc
-
 -- the frozen buffer is empty, or as before
 frozen_size : (one : Bool) (t : Table) → length (if one then record t { entries = [] } else t).entries ≡ (if one then 0 else length t.entries)
 frozen_size true t = refl
@@ -44,8 +41,7 @@ frozen_size false t = refl
 -- the first program leaves the second one
 one_left : (a : Next) (u u' : ℕ) → programs_next a ≡ true → u' ≡ u → Lowers (install_steps a) u 1 u'
 one_left (Program page) u u' programs same = record { none_ready = omega (arith, same); less = omega (arith, same) }
-one_left (Erase beside) u u' programs same = absurd (let x : ⊥ = cc in x)
-one_left (Again page) u u' programs same = absurd (let x : ⊥ = cc in x)
+one_left _ u u' programs same = absurd (cc)
 
 module _ (x : Index) (frames : ℕ) (old : BoardState) (top : ℕ × Root) (found : Found) (m : Map) (may : MayWork x frames old.pages top found m) (level : ℕ) (is : x.schedule.phase ≡ Ready level)
     (shared : IsShared x.pool.shape x.pool.states) (known : IsLevels x.levels) (new : BoardState) where
@@ -194,7 +190,7 @@ module _ (x : Index) (frames : ℕ) (old : BoardState) (top : ℕ × Root) (foun
         record {
           logs = subst L f.merged_is f.logs;
           pool_shape = r.same_shape ∙ may.stands.pool_shape;
-          pool_fits = r.pool_fits new.pages (pool_still x frames old top found m may level is shared known new.pages f.behind);
+          pool_fits = r.pool_fits new.pages (pool_still x frames old.pages top found may.stands shared new.pages f.behind);
           levels_shape = r.levels_shape ∙ may.stands.levels_shape;
           levels_pinned = r.levels_pinned ∙ may.stands.levels_pinned;
           stand = r.stand;
@@ -223,12 +219,9 @@ module _ (x : Index) (frames : ℕ) (old : BoardState) (top : ℕ × Root) (foun
     values_then = record {
       size = r.size;
       owned = λ b owned. r.others b (λ gone. not_values x.pool b (named_owned x frames old.pages top found m may b (freed_named b gone)) owned) ∙ owned;
-      no_more = λ b owned. elim (in_or_not b (freed_by level root)) [
-        | inl gone ↦ absurd (not_free pool' b Values (r.gone b gone) owned)
-        | inr away ↦ sym (r.others b away) ∙ owned
-      ];
+      no_more = none_more (freed_by level root) x.pool pool' r.others r.gone Values;
       as_many = r.same_values;
-      pages = λ k owned. same_page x frames old top found m may level is shared known new.pages f.behind Values k owned;
+      pages = same_page x frames old.pages top found may.stands shared new.pages f.behind Values;
     }
 
     -- something is frozen still, or the blocks of the older epoch leave

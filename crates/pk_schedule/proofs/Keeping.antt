@@ -1,5 +1,5 @@
 -- An index is as before if others change pages and owners that are none of its own, if entries are noted, and if they are committed.
-use Rattle.std.proofs.Common.{◌≡◌, ◌⊎◌, inl, inr, ℕ, ◌*◌, ◌/◌, ◌%◌, ◌<◌, List, [], ◌∷◌, ◌++◌, length, map, slice_index, Option, Some, refl, sym, ap, subst, ◌∙◌, arith, mod-lt, div-lt_iff_lt-mul}
+use Rattle.std.proofs.Common.{◌≡◌, ◌⊎◌, inl, inr, ℕ, ◌+◌, ◌*◌, ◌/◌, ◌%◌, ◌<◌, List, [], ◌∷◌, ◌++◌, length, map, slice_index, Option, Some, refl, sym, ap, subst, ◌∙◌, arith, mod-lt, div-lt_iff_lt-mul}
 use Rattle.std.{specs.Prelude.slice_get, specs.Prelude.unwrap_or, specs.List.concat, specs.List.AllByRecursion, proofs.lemmas.Nat.div-mul-add}
 use Rattle.pk_base.{specs.Shape.Shape, specs.Shape.IsShape, specs.Shape.pinned, specs.Page.Flash, specs.Page.page_at, specs.Entry.Entry, specs.Firsts.firsts, proofs.ShapeLemmas.block_pages_positive}
 use Rattle.pk_buf.specs.Table.{Table}
@@ -12,6 +12,7 @@ use Rattle.pk_level.{specs.Levels.Levels, specs.Levels.RunsOnFlash, specs.Levels
 use Rattle.pk_jrn.specs.Epochs.{JournalEpoch}
 use Rattle.pk_model.{specs.Found.Found, specs.Laws.AnyByRecursion, specs.Tree.run_at, proofs.Commits.member, proofs.SamePages.any_front, proofs.SamePages.any_back}
 use Rattle.pk_law_steps.{specs.Roots.committed, proofs.FourRuns.IsLevel, proofs.FourRuns.next_is_level}
+use Rattle.pk_root.specs.declared.next.Next.{Next}
 use Rattle.pk_merge.{specs.Elsewhere.IsElsewhere, specs.Jobs.Job, specs.Jobs.IsIdle, specs.Jobs.pins, specs.Jobs.output_of, proofs.Elsewhere.runs_elsewhere}
 use Rattle.pk_compact.{specs.declared.freezing.FreezeJob.FreezeJob, specs.declared.freezing.FreezeJob.TheVariants.Idle as NoFreeze, specs.FreezeSteps.IsTaken, specs.FreezeSteps.taken_by}
 use Rattle.pk_log.{specs.State.LogState, specs.State.all_committed, specs.State.pushed, specs.Logs.LogOnFlash, specs.Laws.SameNamed, proofs.Standing.logs_elsewhere}
@@ -41,10 +42,6 @@ pub RunsOnFlash-same : (shape : Shape) (old new : Flash) (arena : Frames) (rs : 
     → ((k : ℕ) → AnyByRecursion (λ b. k / shape.block_pages ≡ b) (concat bss) → page_at new k ≡ page_at old k)
     → RunsOnFlash old arena rs ess → RunsOnFlash new arena rs ess
 RunsOnFlash-same shape old new arena [] [] [] some have same s = tt
-RunsOnFlash-same shape old new arena [] [] (es ∷ ess) some have same s = absurd s
-RunsOnFlash-same shape old new arena [] (bs ∷ bss) ess some have same s = absurd have
-RunsOnFlash-same shape old new arena (r ∷ rs) [] ess some have same s = absurd have
-RunsOnFlash-same shape old new arena (r ∷ rs) (bs ∷ bss) [] some have same s = absurd s
 RunsOnFlash-same shape old new arena (r ∷ rs) (bs ∷ bss) (es ∷ ess) some have same s =
     let S : Shape → List ℕ → Type 0 = λ x xs. (k : ℕ) → AnyByRecursion (λ b. k / x.block_pages ≡ b) xs → page_at new k ≡ page_at old k in
     let here : S shape bs = λ k is. same k (any_front (λ b. k / shape.block_pages ≡ b) bs (concat bss) is) in
@@ -52,6 +49,7 @@ RunsOnFlash-same shape old new arena (r ∷ rs) (bs ∷ bss) (es ∷ ess) some h
       RunOnFlash-same r old new arena es (subst (λ (x : Shape). 0 < x.block_pages) (sym have.0) some) own s.0,
       RunsOnFlash-same shape old new arena rs bss ess some have.2 (λ k is. same k (any_back (λ b. k / shape.block_pages ≡ b) bs (concat bss) is)) s.1,
     )
+RunsOnFlash-same shape old new arena _ _ _ some have same s = search
 
 -- ---- what others may change
 
@@ -62,6 +60,17 @@ pub record IsBeside (pool : Blocks) (old : Flash) (pool' : Blocks) (new : Flash)
   pub owned : (b : ℕ) → slice_get pool.states b ≡ Some (Owned Journal) → slice_get pool'.states b ≡ Some (Owned Journal)
   pub used : used_by Journal pool'.states ≡ used_by Journal pool.states
   pub same : (b k : ℕ) → slice_get pool.states b ≡ Some (Owned Journal) → k / pool.shape.block_pages ≡ b → page_at new k ≡ page_at old k
+
+pub elsewhere : (shape : Shape) (pool : Blocks) (old : Flash) (pool' : Blocks) (new : Flash) → pool.shape ≡ shape → pool'.shape ≡ pool.shape → PoolOnFlash pool' new
+    → used_by Meta pool'.states ≡ used_by Meta pool.states → ((b : ℕ) → slice_get pool.states b ≡ Some (Owned Meta) → slice_get pool'.states b ≡ Some (Owned Meta))
+    → ((k : ℕ) → slice_get pool.states (k / shape.block_pages) ≡ Some (Owned Meta) → page_at new k ≡ page_at old k) → IsElsewhere pool old pool' new
+elsewhere shape pool old pool' new of_pool same_shape fits used owned same = record {
+  shape = same_shape;
+  fits = fits;
+  used = used;
+  owned = owned;
+  same = λ b k is here. same k (subst (λ (c : ℕ). slice_get pool.states c ≡ Some (Owned Meta)) (sym here ∙ ap (λ (s : Shape). k / s.block_pages) of_pool) is);
+}
 
 -- The blocks of the journal stay owned, and no others are; no page of these blocks differs.
 pub record KeepsTaken (pool : Blocks) (taken : List ℕ) (old : Flash) (pool' : Blocks) (new : Flash) : Type 0 where
@@ -87,10 +96,7 @@ member_all P (y ∷ ys) x all (inr is) = member_all P ys x all.1 is
 -- ---- the log with another newest epoch, over changed pages and owners
 
 module _ (x : Index) (frames : ℕ) (old new : Flash) (top : ℕ × Root) (found : Found) (stands : IndexOnFlash x frames old top found)
-    (pool' : Blocks) (e : IsElsewhere x.pool old pool' new) (j : KeepsTaken x.pool (taken_by x.schedule.freeze) old pool' new) where
-  its : Shape
-  its = x.log.shape
-
+    (pool' : Blocks) (e : IsElsewhere x.pool old pool' new) where
   is_shape : IsShape x.log.shape
   is_shape = stands.logs.is_shape
 
@@ -108,15 +114,15 @@ module _ (x : Index) (frames : ℕ) (old new : Flash) (top : ℕ × Root) (found
   held : AreHeld x.pool top.1 Meta (output x.schedule).blocks → AreHeld pool' top.1 Meta (output x.schedule).blocks
   held h = record { different = h.different; owned = λ b is. e.owned b (h.owned b is); unnamed = h.unnamed }
 
-  module _ (epoch : JournalEpoch) (active : Table) (pending newest : List Entry) where
+  module _ (epoch : JournalEpoch) (active : Table) (pending newest : List Entry) (next : Next) (job : FreezeJob) where
     abbrev log_then : LogState
-    log_then = record x.log { epoch = epoch; active = active; pending = pending }
+    log_then = record x.log { epoch = epoch; active = active; pending = pending; next = next }
 
     abbrev found_then : Found
     found_then = record found { newest = newest }
 
     abbrev then : Index
-    then = record x { log = log_then; pool = pool' }
+    then = record x { log = log_then; pool = pool'; schedule = record x.schedule { freeze = job } }
 
     into_then : (level : ℕ) → MergesInto x top.1 found level → MergesInto then top.1 found_then level
     into_then level m = record {
@@ -162,7 +168,33 @@ module _ (x : Index) (frames : ℕ) (old new : Flash) (top : ℕ × Root) (found
     merge_then (Running level) m = runs_then level m
     merge_then (Ready level) m = waits_then level m
 
-    freeze_then : FreezeStands x old top.1 → FreezeStands then new top.1
+    -- with these blocks of the journal, and this freeze
+    pub index_on : LogOnFlash log_then new top found_then → ((b : ℕ) → slice_get x.pool.states b ≡ Some (Owned Journal) → slice_get pool'.states b ≡ Some (Owned Journal))
+        → used_by Journal pool'.states ≡ length (top.1.newest ++ top.1.older) + length (taken_by job) → FreezeStands then new top.1 → IndexOnFlash then frames new top found_then
+    index_on logs owned few freeze = record {
+      logs = logs;
+      pool_shape = e.shape ∙ stands.pool_shape;
+      pool_fits = e.fits;
+      levels_shape = stands.levels_shape;
+      levels_pinned = stands.levels_pinned;
+      stand = runs_stand;
+      run_blocks = stands.run_blocks;
+      arena_is = stands.arena_is;
+      journal = λ b is. owned b (stands.journal b is);
+      journal_few = few;
+      runs = λ b is. e.owned b (stands.runs b is);
+      runs_few = e.used ∙ stands.runs_few;
+      pins_are = stands.pins_are;
+      merge = merge_then x.schedule.phase stands.merge;
+      freeze = freeze;
+    }
+
+  -- the freeze is as far as it was
+  module _ (j : KeepsTaken x.pool (taken_by x.schedule.freeze) old pool' new) (epoch : JournalEpoch) (active : Table) (pending newest : List Entry) where
+    abbrev after : Index
+    after = record x { log = record x.log { epoch = epoch; active = active; pending = pending }; pool = pool' }
+
+    freeze_then : FreezeStands x old top.1 → FreezeStands after new top.1
     freeze_then f = record {
       taken = all_of (IsTaken x.log.shape x.pool old top.1) (IsTaken x.log.shape pool' new top.1) (taken_by x.schedule.freeze)
           (λ b is t. record {
@@ -176,24 +208,8 @@ module _ (x : Index) (frames : ℕ) (old new : Flash) (top : ℕ × Root) (found
       none_frozen = f.none_frozen;
     }
 
-    pub index_then : LogOnFlash log_then new top found_then → IndexOnFlash then frames new top found_then
-    index_then logs = record {
-      logs = logs;
-      pool_shape = e.shape ∙ stands.pool_shape;
-      pool_fits = e.fits;
-      levels_shape = stands.levels_shape;
-      levels_pinned = stands.levels_pinned;
-      stand = runs_stand;
-      run_blocks = stands.run_blocks;
-      arena_is = stands.arena_is;
-      journal = λ b is. j.owned b (stands.journal b is);
-      journal_few = j.used ∙ stands.journal_few;
-      runs = λ b is. e.owned b (stands.runs b is);
-      runs_few = e.used ∙ stands.runs_few;
-      pins_are = stands.pins_are;
-      merge = merge_then x.schedule.phase stands.merge;
-      freeze = freeze_then stands.freeze;
-    }
+    pub index_then : LogOnFlash after.log new top (record found { newest = newest }) → IndexOnFlash after frames new top (record found { newest = newest })
+    index_then logs = index_on epoch active pending newest x.log.next x.schedule.freeze logs j.owned (j.used ∙ stands.journal_few) (freeze_then stands.freeze)
 
 -- ---- changes elsewhere
 
@@ -329,10 +345,7 @@ no_leases : (shape : Shape) (job : Job) → IsIdle shape job → (output_of job)
 no_leases shape job is = ap (λ (o : Option Kept). (unwrap_or o (empty job.merger.shape job.target)).leases) is.output
 
 not_level : (level : ℕ) → IsLevel level → level ≡ 0 → ⊥
-not_level level (inl e) none = omega (arith, e, none)
-not_level level (inr (inl e)) none = omega (arith, e, none)
-not_level level (inr (inr (inl e))) none = omega (arith, e, none)
-not_level level (inr (inr (inr e))) none = omega (arith, e, none)
+not_level level is none = omega arith
 
 idle_in : (phase : Phase) (x : Index) (flash : Flash) (root : Root) (found : Found) → MergeStands phase x flash root found → merging phase ≡ 0 → IsIdle x.log.shape x.schedule.job
 idle_in Idle x flash root found m none = m

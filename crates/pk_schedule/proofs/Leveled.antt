@@ -1,7 +1,6 @@
 -- The run of each level, and the frames that a merge into it finds free.
-use Rattle.std.proofs.Common.{◌≡◌, inl, inr, ℕ, zero, suc, ◌+◌, ◌-◌, ◌*◌, ◌<◌, ◌≤◌, Bool, true, false, T, if◌then◌else◌, List, [], ◌∷◌, ◌++◌, length, nat_le, refl, sym, ap, subst, arith, leb→le, take}
-use Rattle.std.proofs.Common.{mul-le-mul_right, le_trans}
-use Rattle.std.{specs.Prelude.slice_index_or, specs.Prelude.max, specs.Prelude.fold, specs.List.AllByRecursion, specs.List.concat}
+use Rattle.std.proofs.Common.{◌≡◌, inl, inr, ℕ, zero, suc, ◌+◌, ◌-◌, ◌*◌, ◌<◌, ◌≤◌, true, T, List, [], ◌∷◌, length, nat_le, sym, subst, arith, leb→le, take, mul-le-mul_right, le_trans}
+use Rattle.std.{specs.Prelude.slice_index, specs.Prelude.slice_index_or, specs.Prelude.max, specs.Prelude.fold, specs.List.AllByRecursion, specs.List.concat}
 use Rattle.pk_base.{specs.Shape.Shape, specs.Shape.cap, specs.Shape.caps, specs.Shape.page_entries, specs.Shape.pinned, specs.Merge.room}
 use Rattle.pk_model.proofs.SamePages.{any_front, any_back}
 use Rattle.pk_pin.specs.Frames.{Frames, free_frames}
@@ -49,26 +48,21 @@ run_blocks_in shape (r ∷ rs) (bs ∷ bss) (suc i) d inside have b is = any_bac
 abbrev AllFit : Shape → ℕ → ℕ → Type 0
 AllFit shape p level = cap shape level ≤ fold max 0 (take p (caps shape))
 
-needed : (shape : Shape) (p level : ℕ) → p ≤ 4 → IsLevel level → level ≤ p → AllFit shape p level
-needed shape zero level few is within = absurd
-    (elim is [ inl e ↦ omega (arith, e, within) | inr (inl e) ↦ omega (arith, e, within) | inr (inr (inl e)) ↦ omega (arith, e, within) | inr (inr (inr e)) ↦ omega (arith, e, within) ])
-needed shape (suc zero) level few (inl e) within = subst (λ (l : ℕ). AllFit shape 1 l) (sym e) (omega arith)
-needed shape (suc zero) level few (inr (inl e)) within = absurd (omega (arith, e, within))
-needed shape (suc zero) level few (inr (inr (inl e))) within = absurd (omega (arith, e, within))
-needed shape (suc zero) level few (inr (inr (inr e))) within = absurd (omega (arith, e, within))
-needed shape (suc (suc zero)) level few (inl e) within = subst (λ (l : ℕ). AllFit shape 2 l) (sym e) (omega arith)
-needed shape (suc (suc zero)) level few (inr (inl e)) within = subst (λ (l : ℕ). AllFit shape 2 l) (sym e) (omega arith)
-needed shape (suc (suc zero)) level few (inr (inr (inl e))) within = absurd (omega (arith, e, within))
-needed shape (suc (suc zero)) level few (inr (inr (inr e))) within = absurd (omega (arith, e, within))
-needed shape (suc (suc (suc zero))) level few (inl e) within = subst (λ (l : ℕ). AllFit shape 3 l) (sym e) (omega arith)
-needed shape (suc (suc (suc zero))) level few (inr (inl e)) within = subst (λ (l : ℕ). AllFit shape 3 l) (sym e) (omega arith)
-needed shape (suc (suc (suc zero))) level few (inr (inr (inl e))) within = subst (λ (l : ℕ). AllFit shape 3 l) (sym e) (omega arith)
-needed shape (suc (suc (suc zero))) level few (inr (inr (inr e))) within = absurd (omega (arith, e, within))
-needed shape (suc (suc (suc (suc zero)))) level few (inl e) within = subst (λ (l : ℕ). AllFit shape 4 l) (sym e) (omega arith)
-needed shape (suc (suc (suc (suc zero)))) level few (inr (inl e)) within = subst (λ (l : ℕ). AllFit shape 4 l) (sym e) (omega arith)
-needed shape (suc (suc (suc (suc zero)))) level few (inr (inr (inl e))) within = subst (λ (l : ℕ). AllFit shape 4 l) (sym e) (omega arith)
-needed shape (suc (suc (suc (suc zero)))) level few (inr (inr (inr e))) within = subst (λ (l : ℕ). AllFit shape 4 l) (sym e) (omega arith)
-needed shape (suc (suc (suc (suc (suc p))))) level few is within = absurd (omega (arith, few))
+most_least : (a : ℕ) (xs : List ℕ) → a ≤ fold max a xs
+most_least a [] = omega arith
+most_least a (x ∷ xs) = let rest = most_least (max a x) xs in omega (arith, rest)
+
+most_of : (a : ℕ) (xs : List ℕ) (p i : ℕ) → i < p → slice_index xs i ≤ fold max a (take p xs)
+most_of a [] p i less = omega arith
+most_of a (x ∷ xs) zero i less = absurd (omega (arith, less))
+most_of a (x ∷ xs) (suc p) zero less = let rest = most_least (max a x) (take p xs) in omega (arith, rest)
+most_of a (x ∷ xs) (suc p) (suc i) less = most_of (max a x) xs p i (omega (arith, less))
+
+needed : (shape : Shape) (p level : ℕ) → IsLevel level → level ≤ p → AllFit shape p level
+needed shape p level (inl e) within = subst (λ (l : ℕ). AllFit shape p l) (sym e) (most_of 0 (caps shape) p 0 (omega arith))
+needed shape p level (inr (inl e)) within = subst (λ (l : ℕ). AllFit shape p l) (sym e) (most_of 0 (caps shape) p 1 (omega arith))
+needed shape p level (inr (inr (inl e))) within = subst (λ (l : ℕ). AllFit shape p l) (sym e) (most_of 0 (caps shape) p 2 (omega arith))
+needed shape p level (inr (inr (inr e))) within = subst (λ (l : ℕ). AllFit shape p l) (sym e) (most_of 0 (caps shape) p 3 (omega arith))
 
 -- if no merge runs, there are frames for the output of one into a pinned level
 pub frames_left : (shape : Shape) (frames : ℕ) (levels : Levels) (arena : Frames) (level : ℕ) → IsLevels levels
@@ -76,9 +70,8 @@ pub frames_left : (shape : Shape) (frames : ℕ) (levels : Levels) (arena : Fram
     → HasArena shape frames levels arena [] → IsLevel level → nat_le level (pinned shape frames) ≡ true → cap shape level ≤ free_frames arena
 frames_left shape frames levels arena level is kept same pins has is_level within =
     let p : ℕ = pinned shape frames in
-    let few : p ≤ 4 = subst (λ (n : ℕ). n ≤ 4) pins is.most in
     let below : level ≤ p = leb→le _ _ (subst T (sym within) tt) in
-    let enough = needed shape p level few is_level below in
+    let enough = needed shape p level is_level below in
     let free = frames_fit levels frames arena is kept (subst (λ (s : Shape). HasArena s frames levels arena []) (sym same) has) in
     let wanted : fold max 0 (take levels.pinned (caps levels.shape)) ≡ fold max 0 (take p (caps shape)) = λ i. fold max 0 (take (pins i) (caps (same i))) in
     omega (arith, enough, free, wanted)

@@ -1,5 +1,5 @@
 -- How many frames the output of a merge may have.
-use Rattle.std.proofs.Common.{◌≡◌, inl, inr, ℕ, ◌+◌, ◌-◌, ◌*◌, ◌<◌, ◌≤◌, Bool, true, false, ◌==◌, ◌||◌, if◌then◌else◌, nat_le, nat_lt, List, [], ◌++◌, length, map, refl, sym, ap, subst, ◌∙◌, arith}
+use Rattle.std.proofs.Common.{◌≡◌, inl, inr, ℕ, ◌<◌, ◌≤◌, Bool, true, false, ◌==◌, ◌||◌, if◌then◌else◌, nat_le, nat_lt, List, [], ◌++◌, length, map, refl, ap, subst, ◌∙◌, arith}
 use Rattle.std.proofs.Common.{length-append, le_trans}
 use Rattle.std.{proofs.lemmas.Bool.cases_lt, proofs.lemmas.Bool.Decides.nat_tests}
 use Rattle.pk_base.{specs.Shape.Shape, specs.Shape.IsShape, specs.Shape.cap, specs.Shape.pinned, specs.Shape.run_pages, specs.Merge.room, specs.Page.Flash, specs.Map.Map}
@@ -11,19 +11,13 @@ use Rattle.pk_run.specs.Kept.{Kept, RunOnFlash}
 use Rattle.pk_level.specs.Arenas.{IsPinnedIf}
 use Rattle.pk_merge.specs.Jobs.{pins}
 use Rattle.pk_law_work.proofs.Paging.{few_pages}
-use Rattle.pk_law_steps.{specs.Under.IsUnder, specs.Merging.output_of as whole_output, proofs.FourRuns.IsLevel, proofs.FourRuns.next_is_level, proofs.Outputs.output_fits}
+use Rattle.pk_law_steps.{specs.Under.IsUnder, specs.Merging.output_of as whole_output, proofs.FourRuns.next_is_level, proofs.Outputs.output_fits}
 use Rattle.pk_schedule.{specs.declared.phase.Phase.Phase, specs.declared.phase.Phase.TheVariants.Idle, specs.declared.phase.Phase.TheVariants.Running, specs.declared.phase.Phase.TheVariants.Ready}
 use Rattle.pk_schedule.{specs.Index.Index, specs.Index.IndexOnFlash, specs.Index.MergesInto, specs.Index.MergeStands, specs.Index.merging, specs.Index.output, proofs.Keeping.idle_leases}
 
 -- a merge into a pinned level has frames for the pages of its output
 abbrev pub most_output : Shape → ℕ → ℕ → ℕ
 most_output shape frames level = if level == 0 || nat_lt (pinned shape frames) level then 0 else cap shape level
-
-level_least : (level : ℕ) → IsLevel level → 1 ≤ level
-level_least level (inl e) = omega (arith, e)
-level_least level (inr (inl e)) = omega (arith, e)
-level_least level (inr (inr (inl e))) = omega (arith, e)
-level_least level (inr (inr (inr e))) = omega (arith, e)
 
 zero_false : (n : ℕ) → 1 ≤ n → (n == 0) ≡ false
 zero_false n some = grind (arith, nat_tests)
@@ -66,7 +60,7 @@ module _ (x : Index) (frames : ℕ) (flash : Flash) (top : ℕ × Root) (found :
   out = output x.schedule
 
   least : (level : ℕ) → MergesInto x top.1 found level → 1 ≤ level
-  least level into = level_least level (next_is_level x.log.shape (length (firsts found.older)) (map length found.runs) level into.due)
+  least level into = omega (arith, next_is_level x.log.shape (length (firsts found.older)) (map length found.runs) level into.due)
 
   pins_are : (level : ℕ) → MergesInto x top.1 found level → IsPinnedIf (pins x.schedule.job) out → IsPinnedIf (nat_le level (pinned x.log.shape frames)) out
   pins_are level into has =

@@ -1,14 +1,14 @@
 -- What the exchange of runs leaves after a merge: into level 1, and into a deeper one.
-use Rattle.std.proofs.Common.{◌≡◌, ◌⊎◌, inl, inr, ℕ, ◌+◌, ◌-◌, ◌<◌, ◌≤◌, Bool, true, false, ◌==◌, nat_le, if◌then◌else◌, List, [], ◌++◌, length, map, slice_set, slice_index, slice_index_or, Some}
-use Rattle.std.proofs.Common.{None, refl, sym, ap, subst, ◌∙◌, arith, length-append, append-nil}
+use Rattle.std.proofs.Common.{◌≡◌, inl, inr, ℕ, ◌+◌, ◌-◌, ◌<◌, ◌≤◌, Bool, true, false, ◌==◌, if◌then◌else◌, List, [], ◌++◌, length, map, slice_set, slice_index, slice_index_or, Some, None, refl, sym}
+use Rattle.std.proofs.Common.{ap, subst, ◌∙◌, arith, length-append, append-nil}
 use Rattle.std.{specs.Prelude.slice_get, specs.List.concat, proofs.lemmas.Bool.Decides.nat_tests, proofs.lemmas.List.length-set, proofs.lemmas.List.length-map}
 use Rattle.pk_base.{specs.Shape.Shape, specs.Entry.Entry, specs.Map.Map, specs.Page.SameBehind, proofs.Logic.is_true}
-use Rattle.pk_plan.specs.declared.owner.Owner.TheVariants.{Journal, Meta, Values}
+use Rattle.pk_plan.{specs.declared.owner.Owner.Owner, specs.declared.owner.Owner.TheVariants.Journal, specs.declared.owner.Owner.TheVariants.Meta, specs.declared.owner.Owner.TheVariants.Values}
 use Rattle.pk_nand.specs.BoardState.{BoardState}
 use Rattle.pk_rootfmt.specs.Root.{Root, named}
 use Rattle.pk_pin.{specs.Frames.Frames, specs.Frames.AreLeases, specs.Frames.times, proofs.Leases.times-append}
 use Rattle.pk_model.{specs.Found.Found, specs.Tree.merged, specs.Tree.blocks_after, proofs.SamePages.any_front, proofs.SamePages.any_back}
-use Rattle.pk_pool.{specs.declared.state.BlockState.TheVariants.Free, specs.Blocks.Blocks, specs.Blocks.IsShared, specs.Blocks.used_by, specs.Blocks.given_back, specs.Unready.unready}
+use Rattle.pk_pool.{specs.declared.state.BlockState.TheVariants.Free, specs.Blocks.Blocks, specs.Blocks.IsShared, specs.Blocks.given_back}
 use Rattle.pk_run.{specs.Kept.Kept, specs.Kept.empty, proofs.Standing.RunOnFlash-empty, specs.Leases.LeavesOthers, proofs.Leasing.are_apart, proofs.Leasing.given_bytes, proofs.Leasing.given_size}
 use Rattle.pk_level.specs.Levels.{Levels, IsLevels, RunsOnFlash, HaveBlocks, run_of, with_run}
 use Rattle.pk_level.specs.Arenas.{HasLeases, leases_of}
@@ -53,19 +53,8 @@ deep_blocks level (inr (inl e)) deep taken runs = subst (λ n. DeepBlocks n take
 deep_blocks level (inr (inr (inl e))) deep taken runs = subst (λ n. DeepBlocks n taken runs) (sym e) refl
 deep_blocks level (inr (inr (inr e))) deep taken runs = subst (λ n. DeepBlocks n taken runs) (sym e) refl
 
-is_one : (level : ℕ) → level ≡ 1 → (level == 1) ≡ true
-is_one level e = subst (λ n. (n == 1) ≡ true) (sym e) refl
-
 not_one : (level : ℕ) → 2 ≤ level → (level == 1) ≡ false
 not_one level deep = grind (arith, nat_tests)
-
-by_true : {A : Type 0} (b : Bool) (p q : A) → b ≡ true → (if b then p else q) ≡ p
-by_true true p q e = refl
-by_true false p q e = absurd (let x : ⊥ = cc in x)
-
-by_false : {A : Type 0} (b : Bool) (p q : A) → b ≡ false → (if b then p else q) ≡ q
-by_false false p q e = refl
-by_false true p q e = absurd (let x : ⊥ = cc in x)
 
 -- how many levels are pinned is the same
 pinned_taken : (j : Job) (level : ℕ) → (taken_from j level).pinned ≡ j.pinned
@@ -74,9 +63,6 @@ pinned_taken j level = by_test (level == j.target)
     by_test : (b : Bool) → (if b then record j { output = None } else record j { spares = slice_set j.spares (level - 1) None }).pinned ≡ j.pinned
     by_test true = refl
     by_test false = refl
-
-index_is : (xs : List ℕ) (i : ℕ) → slice_index xs i ≡ slice_index_or xs i 0
-index_is xs i = refl
 
 module _ (x : Index) (frames : ℕ) (old : BoardState) (top : ℕ × Root) (found : Found) (m : Map) (may : MayWork x frames old.pages top found m) (level : ℕ) (is : x.schedule.phase ≡ Ready level)
     (shared : IsShared x.pool.shape x.pool.states) (known : IsLevels x.levels) (new : BoardState) (behind : SameBehind x.log.shape old.pages new.pages) where
@@ -122,10 +108,40 @@ module _ (x : Index) (frames : ℕ) (old : BoardState) (top : ℕ × Root) (foun
 
   one_stands : RunsOnFlash new.pages x.arena runs_one (slice_set found.runs (level - 1) (output_of level found))
   one_stands = RunsOnFlash-set new.pages x.arena x.levels.runs found.runs (level - 1) out (output_of level found)
-      (output_stands x frames old top found m may level is shared known new.pages behind) (runs_stand x frames old top found m may level is shared known new.pages behind)
+      (output_stands x frames old top found m may level is shared known new.pages behind) (runs_stand x frames old.pages top found may.stands shared new.pages behind)
 
   one_blocks_stand : HaveBlocks shape runs_one (slice_set root.runs (level - 1) out.blocks)
   one_blocks_stand = HaveBlocks-set shape x.levels.runs root.runs (level - 1) out (wait.waits x frames old top found m may level is shared known).into.output_shape may.stands.run_blocks
+
+  -- ---- the blocks of the former run are free, and then these of an owner
+
+  abbrev middle : Blocks
+  middle = given_back x.pool former.blocks
+
+  record Frees (o : Owner) (others : List ℕ) (pool' : Blocks) : Type 0 where
+    two : GivesBack o others middle pool'
+    freed_is : freed_by level root ≡ others ++ former.blocks
+    apart : (b : ℕ) → In b former.blocks → In b others → ⊥
+
+  module _ {o : Owner} {others : List ℕ} {pool' : Blocks} (f : Frees o others pool') where
+    others_same : (b : ℕ) → (In b (freed_by level root) → ⊥) → slice_get pool'.states b ≡ slice_get x.pool.states b
+    others_same b away =
+        f.two.others b (λ is. away (subst (λ xs. In b xs) (sym f.freed_is) (any_front (λ c. b ≡ c) others former.blocks is)))
+        ∙ gives_one.others b (λ is. away (subst (λ xs. In b xs) (sym f.freed_is) (any_back (λ c. b ≡ c) others former.blocks is)))
+
+    all_gone : (b : ℕ) → In b (freed_by level root) → slice_get pool'.states b ≡ Some Free
+    all_gone b among = elim (in_append b others former.blocks (subst (λ xs. In b xs) f.freed_is among)) [ inl is ↦ f.two.gone b is | inr is ↦ f.two.others b (f.apart b is) ∙ gives_one.gone b is ]
+
+    concat_counts : length (concat then_root.runs) + length then_root.older + length others + length former.blocks ≡ length (concat root.runs) + length root.older + length out.blocks
+    concat_counts =
+        let all = counts in
+        let a = length-append (then_root.newest ++ then_root.older) (concat then_root.runs) in
+        let b = length-append then_root.newest then_root.older in
+        let c = length-append (root.newest ++ root.older) (concat root.runs) in
+        let d = length-append root.newest root.older in
+        let gone : length (freed_by level root) ≡ length (others ++ former.blocks) = ap (λ (xs : List ℕ). length xs) f.freed_is in
+        let e = length-append others former.blocks in
+        omega (arith, all, a, b, c, d, gone, e)
 
   -- ---- into level 1
 
@@ -134,57 +150,23 @@ module _ (x : Index) (frames : ℕ) (old : BoardState) (top : ℕ × Root) (foun
     exchanged = subst (λ n. Exchanges x.levels x.arena x.pool job n out levels' arena' e.then_pool e.then_job) (sym one)
         (e.first out (subst (λ n. CanExchange x.levels x.arena x.pool job n out) one (wait.exchange_one x frames old top found m may level is shared known)))
 
-    middle : Blocks
-    middle = given_back x.pool former.blocks
+    frees : Frees Journal root.older pool'
+    frees = record {
+      two = subst (λ p. GivesBack Journal root.older middle p) (sym (e.freed ∙ ap (λ p. given_back p root.older) exchanged.pool_is))
+          (gives_back Journal root.older middle (wait.older_differs x frames old top found m may level is shared known)
+          (λ b among. wait.journal_stays x frames old top found m may level is shared known b (wait.older_owned x frames old top found m may level is shared known b among)));
+      freed_is = ap (λ (t : Bool). (if t then root.older else blocks_at root.runs (level - 1)) ++ blocks_at root.runs level) (ap (λ (n : ℕ). n == 1) one) ∙ ap (λ xs. root.older ++ xs) (sym (blocks_are level));
+      apart = λ b meta journal.
+          let c : Meta ≡ Journal = one_owner x.pool Meta Journal b (wait.former_owned x frames old top found m may level is shared known level b meta)
+          (wait.older_owned x frames old top found m may level is shared known b journal) in
+          cc;
+    }
 
-    gives_two : GivesBack Journal root.older (given_back x.pool former.blocks) (given_back (given_back x.pool former.blocks) root.older)
-    gives_two = gives_back Journal root.older (given_back x.pool former.blocks) (wait.older_differs x frames old top found m may level is shared known)
-        (λ b among. wait.journal_stays x frames old top found m may level is shared known b (wait.older_owned x frames old top found m may level is shared known b among))
-
-    pool_is : pool' ≡ given_back (given_back x.pool former.blocks) root.older
-    pool_is = e.freed ∙ ap (λ p. given_back p root.older) exchanged.pool_is
+    older_is : then_root.older ≡ []
+    older_is = ap (λ (t : Bool). if t then [] else root.older) (ap (λ (n : ℕ). n == 1) one)
 
     none_left : (i l : ℕ) → slice_get former.leases i ≡ Some l → times l (leases_of runs_one) ≡ 0
     none_left = are_apart x.arena former.leases (leases_of runs_one) rows_one
-
-    -- what was freed
-    freed_is : freed_by level root ≡ root.older ++ blocks_at root.runs level
-    freed_is = ap (λ xs. xs ++ blocks_at root.runs level) (by_true (level == 1) root.older (blocks_at root.runs (level - 1)) (is_one level one))
-
-    older_is : then_root.older ≡ []
-    older_is = by_true (level == 1) [] root.older (is_one level one)
-
-    concat_counts : length (concat then_root.runs) + length former.blocks ≡ length (concat root.runs) + length out.blocks
-    concat_counts =
-        let all = counts in
-        let a = length-append (then_root.newest ++ then_root.older) (concat then_root.runs) in
-        let b = length-append then_root.newest then_root.older in
-        let c = length-append (root.newest ++ root.older) (concat root.runs) in
-        let d = length-append root.newest root.older in
-        let none : length then_root.older ≡ 0 = ap (λ (xs : List ℕ). length xs) older_is in
-        let gone : length (freed_by level root) ≡ length (root.older ++ blocks_at root.runs level) = ap (λ (xs : List ℕ). length xs) freed_is in
-        let f = length-append root.older (blocks_at root.runs level) in
-        let its : length former.blocks ≡ length (blocks_at root.runs level) = ap (λ (xs : List ℕ). length xs) (blocks_are level) in
-        omega (arith, all, a, b, c, d, none, gone, f, its)
-
-    in_freed : (b : ℕ) → In b (freed_by level root) → In b root.older ⊎ In b former.blocks
-    in_freed b among = elim (in_append b root.older (blocks_at root.runs level)
-        (subst (λ xs. In b xs) freed_is among)) [ inl o ↦ inl o | inr r ↦ inr (subst (λ xs. In b xs) (sym (blocks_are level)) r) ]
-
-    older_freed : (b : ℕ) → In b root.older → In b (freed_by level root)
-    older_freed b among = subst (λ xs. In b xs) (sym freed_is) (any_front (λ c. b ≡ c) root.older (blocks_at root.runs level) among)
-
-    former_freed : (b : ℕ) → In b former.blocks → In b (freed_by level root)
-    former_freed b among = subst (λ xs. In b xs) (sym freed_is) (any_back (λ c. b ≡ c) root.older (blocks_at root.runs level) (subst (λ xs. In b xs) (blocks_are level) among))
-
-    not_both : (b : ℕ) → In b former.blocks → In b root.older → ⊥
-    not_both b meta journal =
-        let c : Meta ≡ Journal = one_owner x.pool Meta Journal b (wait.former_owned x frames old top found m may level is shared known level b meta)
-        (wait.older_owned x frames old top found m may level is shared known b journal) in
-        let x : ⊥ = cc in x
-
-    pool_replaced : (P : Blocks → Type 0) → P (given_back (given_back x.pool former.blocks) root.older) → P pool'
-    pool_replaced P = subst P (sym pool_is)
 
     arena_here : HasLeases shape frames (with_run x.levels level out) arena' []
     arena_here = record {
@@ -210,20 +192,23 @@ module _ (x : Index) (frames : ℕ) (old : BoardState) (top : ℕ × Root) (foun
           (RunsOnFlash-given former.leases new.pages x.arena arena' runs_one _ exchanged.others none_left one_stands);
       run_blocks = subst (λ bss. HaveBlocks shape runs_one bss) (sym (one_blocks level one out.blocks root.runs)) one_blocks_stand;
       arena_is = arena_here;
-      same_shape = pool_replaced (λ p. p.shape ≡ x.pool.shape) (gives_two.same_shape ∙ gives_one.same_shape);
-      size = pool_replaced (λ p. length p.states ≡ length x.pool.states) (gives_two.size ∙ gives_one.size);
-      others = λ b away. pool_replaced (λ p. slice_get p.states b ≡ slice_get x.pool.states b) (gives_two.others b (λ o. away (older_freed b o)) ∙ gives_one.others b (λ r. away (former_freed b r)));
-      gone = λ b among. pool_replaced (λ p. slice_get p.states b ≡ Some Free) (elim (in_freed b among) [ inl o ↦ gives_two.gone b o | inr r ↦ gives_two.others b (not_both b r) ∙ gives_one.gone b r ]);
-      journal_fewer = pool_replaced (λ p. used_by Journal p.states + length root.older ≡ used_by Journal x.pool.states + length then_root.older)
-          (let two = gives_two.fewer in
-          let first = gives_one.same_used Journal (λ c. let z : ⊥ = cc in z) in
+      same_shape = frees.two.same_shape ∙ gives_one.same_shape;
+      size = frees.two.size ∙ gives_one.size;
+      others = others_same frees;
+      gone = all_gone frees;
+      journal_fewer =
+          (let two = frees.two.fewer in
+          let first = gives_one.same_used Journal (λ c. cc) in
           let none : length then_root.older ≡ 0 = ap (λ (xs : List ℕ). length xs) older_is in
           omega (arith, two, first, none));
-      meta_fewer = pool_replaced (λ p. used_by Meta p.states + length (concat root.runs) + length out.blocks ≡ used_by Meta x.pool.states + length (concat then_root.runs))
-          (let two = gives_two.same_used Meta (λ c. let z : ⊥ = cc in z) in let first = gives_one.fewer in let all = concat_counts in omega (arith, two, first, all));
-      same_values = pool_replaced (λ p. used_by Values p.states ≡ used_by Values x.pool.states)
-          (gives_two.same_used Values (λ c. let z : ⊥ = cc in z) ∙ gives_one.same_used Values (λ c. let z : ⊥ = cc in z));
-      same_unready = pool_replaced (λ p. unready p.states ≡ unready x.pool.states) (gives_two.same_unready ∙ gives_one.same_unready);
+      meta_fewer =
+          (let two = frees.two.same_used Meta (λ c. cc) in
+          let first = gives_one.fewer in
+          let all = concat_counts frees in
+          let none : length then_root.older ≡ 0 = ap (λ (xs : List ℕ). length xs) older_is in
+          omega (arith, two, first, all, none));
+      same_values = frees.two.same_used Values (λ c. cc) ∙ gives_one.same_used Values (λ c. cc);
+      same_unready = frees.two.same_unready ∙ gives_one.same_unready;
       pool_fits = λ flash fits. e.pool_fits flash (exchanged.pool_fits flash fits);
       idle = subst (λ j. IsIdle shape j) (sym job_is) idle_here;
       pinned_is = ap (λ (j : Job). j.pinned) job_is ∙ pinned_taken job level;
@@ -267,12 +252,20 @@ module _ (x : Index) (frames : ℕ) (old : BoardState) (top : ℕ × Root) (foun
     low_one : level - 1 - 1 < length runs_one
     low_one = let size = length-set x.levels.runs (level - 1) out in let all = four in let small = most in omega (arith, size, all, small)
 
-    gives_deep : GivesBack Meta source.blocks (given_back x.pool former.blocks) (given_back (given_back x.pool former.blocks) source.blocks)
-    gives_deep = gives_back Meta source.blocks (given_back x.pool former.blocks) (wait.former_differs x frames old top found m may level is shared known (level - 1))
-        (wait.source_stays x frames old top found m may level is shared known deep)
+    frees_deep : Frees Meta source.blocks pool'
+    frees_deep = record {
+      two = subst (λ p. GivesBack Meta source.blocks middle p) (sym (second.pool_is ∙ (λ i. given_back (first.pool_is i) (its i).blocks)))
+          (gives_back Meta source.blocks middle (wait.former_differs x frames old top found m may level is shared known (level - 1))
+          (wait.source_stays x frames old top found m may level is shared known deep));
+      freed_is = ap (λ (t : Bool). (if t then root.older else blocks_at root.runs (level - 1)) ++ blocks_at root.runs level) (not_one level deep)
+          ∙ (λ i. sym (blocks_are (level - 1)) i ++ sym (blocks_are level) i);
+      apart = λ b target above.
+          wait.runs_apart b (level - 1 - 1) (level - 1) root.runs (λ at. omega (arith, at, deep)) (wait.runs_differ x frames old top found m may level is shared known)
+          (subst (λ xs. In b xs) (blocks_are (level - 1)) above) (subst (λ xs. In b xs) (blocks_are level) target);
+    }
 
-    pool_deep : pool' ≡ given_back (given_back x.pool former.blocks) source.blocks
-    pool_deep = second.pool_is ∙ (λ i. given_back (first.pool_is i) (its i).blocks)
+    older_deep : then_root.older ≡ root.older
+    older_deep = ap (λ (t : Bool). if t then [] else root.older) (not_one level deep)
 
     levels_deep : levels' ≡ with_run (with_run x.levels level out) (level - 1) spare
     levels_deep = second.levels_are ∙ ap (λ (ls : Levels). with_run ls (level - 1) spare) first.levels_are
@@ -305,49 +298,6 @@ module _ (x : Index) (frames : ℕ) (old : BoardState) (top : ℕ × Root) (foun
       only_these = subst (λ ls. AreLeases arena' ls) (sym (append-nil (leases_of runs_two)))
           (second.leases (leases_of runs_two) (subst (λ (r : Kept). AreLeases e.then_arena (r.leases ++ leases_of runs_two)) (sym its) rows_then));
     }
-
-    -- ---- blocks
-
-    freed_deep : freed_by level root ≡ blocks_at root.runs (level - 1) ++ blocks_at root.runs level
-    freed_deep = ap (λ xs. xs ++ blocks_at root.runs level) (by_false (level == 1) root.older (blocks_at root.runs (level - 1)) (not_one level deep))
-
-    older_deep : then_root.older ≡ root.older
-    older_deep = by_false (level == 1) [] root.older (not_one level deep)
-
-    counts_deep : length (concat then_root.runs) + length former.blocks + length source.blocks ≡ length (concat root.runs) + length out.blocks
-    counts_deep =
-        let all = counts in
-        let a = length-append (then_root.newest ++ then_root.older) (concat then_root.runs) in
-        let b = length-append then_root.newest then_root.older in
-        let c = length-append (root.newest ++ root.older) (concat root.runs) in
-        let d = length-append root.newest root.older in
-        let same : length then_root.older ≡ length root.older = ap (λ (xs : List ℕ). length xs) older_deep in
-        let gone : length (freed_by level root) ≡ length (blocks_at root.runs (level - 1) ++ blocks_at root.runs level) = ap (λ (xs : List ℕ). length xs) freed_deep in
-        let f = length-append (blocks_at root.runs (level - 1)) (blocks_at root.runs level) in
-        let of_former : length former.blocks ≡ length (blocks_at root.runs level) = ap (λ (xs : List ℕ). length xs) (blocks_are level) in
-        let of_source : length source.blocks ≡ length (blocks_at root.runs (level - 1)) = ap (λ (xs : List ℕ). length xs) (blocks_are (level - 1)) in
-        omega (arith, all, a, b, c, d, same, gone, f, of_former, of_source)
-
-    deep_freed : (b : ℕ) → In b (freed_by level root) → In b source.blocks ⊎ In b former.blocks
-    deep_freed b among = elim (in_append b (blocks_at root.runs (level - 1)) (blocks_at root.runs level) (subst (λ xs. In b xs) freed_deep among)) [
-      | inl s ↦ inl (subst (λ xs. In b xs) (sym (blocks_are (level - 1))) s)
-      | inr r ↦ inr (subst (λ xs. In b xs) (sym (blocks_are level)) r)
-    ]
-
-    source_freed : (b : ℕ) → In b source.blocks → In b (freed_by level root)
-    source_freed b among = subst (λ xs. In b xs) (sym freed_deep)
-        (any_front (λ c. b ≡ c) (blocks_at root.runs (level - 1)) (blocks_at root.runs level) (subst (λ xs. In b xs) (blocks_are (level - 1)) among))
-
-    target_freed : (b : ℕ) → In b former.blocks → In b (freed_by level root)
-    target_freed b among = subst (λ xs. In b xs) (sym freed_deep) (any_back (λ c. b ≡ c) (blocks_at root.runs (level - 1)) (blocks_at root.runs level) (subst (λ xs. In b xs) (blocks_are level) among))
-
-    not_two : (b : ℕ) → In b former.blocks → In b source.blocks → ⊥
-    not_two b target above =
-        wait.runs_apart b (level - 1 - 1) (level - 1) root.runs (λ at. omega (arith, at, deep)) (wait.runs_differ x frames old top found m may level is shared known)
-        (subst (λ xs. In b xs) (blocks_are (level - 1)) above) (subst (λ xs. In b xs) (blocks_are level) target)
-
-    pool_then : (P : Blocks → Type 0) → P (given_back (given_back x.pool former.blocks) source.blocks) → P pool'
-    pool_then P = subst P (sym pool_deep)
 
     -- ---- the job
 
@@ -388,21 +338,23 @@ module _ (x : Index) (frames : ℕ) (old : BoardState) (top : ℕ × Root) (foun
           run_blocks = subst (λ bss. HaveBlocks shape runs_two bss) (sym (deep_blocks level is_level deep out.blocks root.runs))
               (HaveBlocks-set shape runs_one (slice_set root.runs (level - 1) out.blocks) (level - 1 - 1) spare refl one_blocks_stand);
           arena_is = arena_deep;
-          same_shape = pool_then (λ p. p.shape ≡ x.pool.shape) (gives_deep.same_shape ∙ gives_one.same_shape);
-          size = pool_then (λ p. length p.states ≡ length x.pool.states) (gives_deep.size ∙ gives_one.size);
-          others = λ b away. pool_then (λ p. slice_get p.states b ≡ slice_get x.pool.states b) (gives_deep.others b (λ s. away (source_freed b s)) ∙ gives_one.others b (λ r. away (target_freed b r)));
-          gone = λ b among. pool_then (λ p. slice_get p.states b ≡ Some Free)
-              (elim (deep_freed b among) [ inl s ↦ gives_deep.gone b s | inr r ↦ gives_deep.others b (not_two b r) ∙ gives_one.gone b r ]);
-          journal_fewer = pool_then (λ p. used_by Journal p.states + length root.older ≡ used_by Journal x.pool.states + length then_root.older)
-              (let two = gives_deep.same_used Journal (λ c. let z : ⊥ = cc in z) in
-              let one = gives_one.same_used Journal (λ c. let z : ⊥ = cc in z) in
+          same_shape = frees_deep.two.same_shape ∙ gives_one.same_shape;
+          size = frees_deep.two.size ∙ gives_one.size;
+          others = others_same frees_deep;
+          gone = all_gone frees_deep;
+          journal_fewer =
+              (let two = frees_deep.two.same_used Journal (λ c. cc) in
+              let one = gives_one.same_used Journal (λ c. cc) in
               let same : length then_root.older ≡ length root.older = ap (λ (xs : List ℕ). length xs) older_deep in
               omega (arith, two, one, same));
-          meta_fewer = pool_then (λ p. used_by Meta p.states + length (concat root.runs) + length out.blocks ≡ used_by Meta x.pool.states + length (concat then_root.runs))
-              (let two = gives_deep.fewer in let one = gives_one.fewer in let all = counts_deep in omega (arith, two, one, all));
-          same_values = pool_then (λ p. used_by Values p.states ≡ used_by Values x.pool.states)
-              (gives_deep.same_used Values (λ c. let z : ⊥ = cc in z) ∙ gives_one.same_used Values (λ c. let z : ⊥ = cc in z));
-          same_unready = pool_then (λ p. unready p.states ≡ unready x.pool.states) (gives_deep.same_unready ∙ gives_one.same_unready);
+          meta_fewer =
+              (let two = frees_deep.two.fewer in
+              let one = gives_one.fewer in
+              let all = concat_counts frees_deep in
+              let same : length then_root.older ≡ length root.older = ap (λ (xs : List ℕ). length xs) older_deep in
+              omega (arith, two, one, all, same));
+          same_values = frees_deep.two.same_used Values (λ c. cc) ∙ gives_one.same_used Values (λ c. cc);
+          same_unready = frees_deep.two.same_unready ∙ gives_one.same_unready;
           pool_fits = λ flash fits. second.pool_fits flash (first.pool_fits flash fits);
           idle = subst (λ j. IsIdle shape j) (sym job_deep) (run_second.idle source (wait.former_of x frames old top found m may level is shared known (level - 1) (omega (arith, deep))));
           pinned_is = ap (λ (j : Job). j.pinned) job_deep ∙ run_second.pinned source ∙ pinned_taken job level;

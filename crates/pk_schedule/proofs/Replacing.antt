@@ -1,5 +1,5 @@
 -- A run that replaces another, in lists of runs.
-use Rattle.std.proofs.Common.{◌≡◌, inl, ℕ, zero, suc, ◌+◌, ◌≤◌, ◌<◌, T, List, [], ◌∷◌, length, map, slice_set, slice_index_or, Some, refl, sym, ap, subst, ◌∙◌, arith}
+use Rattle.std.proofs.Common.{◌≡◌, inl, ℕ, zero, suc, ◌+◌, ◌≤◌, ◌<◌, T, List, [], ◌∷◌, length, map, slice_set, slice_index_or, Some, refl, sym, ap, subst, arith}
 use Rattle.std.{specs.Prelude.slice_get, proofs.lemmas.Option.same_Some}
 use Rattle.pk_base.{specs.Shape.Shape, specs.Page.Flash, specs.Entry.Entry}
 use Rattle.pk_pin.{specs.Frames.Frames, specs.Frames.times, proofs.Leases.times-append}
@@ -16,26 +16,23 @@ use Rattle.pk_schedule.proofs.Grown.{got_in}
 pub RunsOnFlash-set : (flash : Flash) (arena : Frames) (rs : List Kept) (ess : List (List Entry)) (i : ℕ) (r : Kept) (es : List Entry)
     → RunOnFlash r flash arena es → RunsOnFlash flash arena rs ess → RunsOnFlash flash arena (slice_set rs i r) (slice_set ess i es)
 RunsOnFlash-set flash arena [] [] i r es is s = tt
-RunsOnFlash-set flash arena [] (fs ∷ ess) i r es is s = absurd s
-RunsOnFlash-set flash arena (q ∷ rs) [] i r es is s = absurd s
 RunsOnFlash-set flash arena (q ∷ rs) (fs ∷ ess) zero r es is s = (is, s.1)
 RunsOnFlash-set flash arena (q ∷ rs) (fs ∷ ess) (suc i) r es is s = (s.0, RunsOnFlash-set flash arena rs ess i r es is s.1)
+RunsOnFlash-set flash arena _ _ i r es is s = absurd s
 
 pub HaveBlocks-set : (shape : Shape) (rs : List Kept) (bss : List (List ℕ)) (i : ℕ) (r : Kept)
     → r.shape ≡ shape → HaveBlocks shape rs bss → HaveBlocks shape (slice_set rs i r) (slice_set bss i r.blocks)
 HaveBlocks-set shape [] [] i r is s = tt
-HaveBlocks-set shape [] (bs ∷ bss) i r is s = absurd s
-HaveBlocks-set shape (q ∷ rs) [] i r is s = absurd s
 HaveBlocks-set shape (q ∷ rs) (bs ∷ bss) zero r is s = (is, refl, s.2)
 HaveBlocks-set shape (q ∷ rs) (bs ∷ bss) (suc i) r is s = (s.0, s.1, HaveBlocks-set shape rs bss i r is s.2)
+HaveBlocks-set shape _ _ i r is s = absurd s
 
 -- the blocks of one run, or of one without any
 pub blocks_at_level : (shape : Shape) (rs : List Kept) (bss : List (List ℕ)) (i : ℕ) (d : Kept) → d.blocks ≡ [] → HaveBlocks shape rs bss → (slice_index_or rs i d).blocks ≡ slice_index_or bss i []
 blocks_at_level shape [] [] i d none s = none
-blocks_at_level shape [] (bs ∷ bss) i d none s = absurd s
-blocks_at_level shape (q ∷ rs) [] i d none s = absurd s
 blocks_at_level shape (q ∷ rs) (bs ∷ bss) zero d none s = s.1
 blocks_at_level shape (q ∷ rs) (bs ∷ bss) (suc i) d none s = blocks_at_level shape rs bss i d none s.2
+blocks_at_level shape _ _ i d none s = absurd s
 
 -- a run of this level
 pub of_level : (shape : Shape) (pinned level : ℕ) (rs : List Kept) (i : ℕ) (d : Kept) → ((n : ℕ) → n ≡ level + i → IsOfLevel shape pinned n d)
@@ -55,9 +52,8 @@ module _ {X : Type 0} where
   pub at_other : (xs : List X) (i j : ℕ) (x d : X) → (j ≡ i → ⊥) → slice_index_or (slice_set xs i x) j d ≡ slice_index_or xs j d
   at_other [] i j x d away = refl
   at_other (y ∷ xs) zero zero x d away = absurd (away refl)
-  at_other (y ∷ xs) zero (suc j) x d away = refl
-  at_other (y ∷ xs) (suc i) zero x d away = refl
   at_other (y ∷ xs) (suc i) (suc j) x d away = at_other xs i j x d (λ e. away (ap suc e))
+  at_other (y ∷ xs) _ _ x d away = refl
 
   pub map_set : {Y : Type 0} (f : X → Y) (xs : List X) (i : ℕ) (x : X) → map f (slice_set xs i x) ≡ slice_set (map f xs) i (f x)
   map_set f [] i x = refl
@@ -79,12 +75,11 @@ leases_set l (suc i) (q ∷ rs) r d low =
 pub RunsOnFlash-given : (leases : List ℕ) (flash : Flash) (before after : Frames) (rs : List Kept) (ess : List (List Entry)) → LeavesOthers leases before after
     → ((i l : ℕ) → slice_get leases i ≡ Some l → times l (leases_of rs) ≡ 0) → RunsOnFlash flash before rs ess → RunsOnFlash flash after rs ess
 RunsOnFlash-given leases flash before after [] [] leaves none s = tt
-RunsOnFlash-given leases flash before after [] (es ∷ ess) leaves none s = absurd s
-RunsOnFlash-given leases flash before after (r ∷ rs) [] leaves none s = absurd s
 RunsOnFlash-given leases flash before after (r ∷ rs) (es ∷ ess) leaves none s = (
   leaves r flash es (λ i l is. let all = none i l is in let both = times-append l r.leases (leases_of rs) in omega (arith, all, both)) s.0,
   RunsOnFlash-given leases flash before after rs ess leaves (λ i l is. let all = none i l is in let both = times-append l r.leases (leases_of rs) in omega (arith, all, both)) s.1,
 )
+RunsOnFlash-given leases flash before after _ _ leaves none s = absurd s
 
 -- ---- different blocks
 

@@ -1,6 +1,6 @@
 -- A step of the job of a merge that runs: the index matches the flash after it, with the same map, wherever the step is cut.
-use Rattle.std.proofs.Common.{◌≡◌, ◌≢◌, ◌⊎◌, inl, inr, ℕ, ◌*◌, ◌/◌, ◌<◌, ◌≤◌, List, [], ◌∷◌, ◌++◌, length, Option, Some, None, refl, sym, ap, subst, ◌∙◌, arith, div-lt_iff_lt-mul}
-use Rattle.std.{specs.Prelude.slice_get, specs.Prelude.slice_index, specs.List.concat, specs.List.AllByRecursion}
+use Rattle.std.proofs.Common.{◌≡◌, ◌≢◌, inl, inr, ℕ, ◌+◌, ◌*◌, ◌/◌, ◌<◌, ◌≤◌, List, [], ◌++◌, length, Option, Some, None, refl, sym, ap, subst, ◌∙◌, arith, div-lt_iff_lt-mul}
+use Rattle.std.{specs.Prelude.slice_get, specs.Prelude.slice_index, specs.List.concat}
 use Rattle.pk_base.{specs.Shape.Shape, specs.Shape.IsShape, specs.Entry.Entry, specs.Page.Flash, specs.Page.page_at, specs.Map.Map, proofs.ShapeLemmas.block_pages_positive, proofs.Logic.is_true}
 use Rattle.pk_nand.{specs.BoardState.BoardState, specs.Calls.IsReady, specs.Operations.after_read, specs.declared.types.Fault.TheVariants.Stopped, proofs.Reaching.Reached-start}
 use Rattle.pk_pin.specs.Frames.{Frames}
@@ -11,29 +11,21 @@ use Rattle.pk_pool.{specs.Blocks.Blocks, specs.Blocks.IsShared, specs.Blocks.IsS
 use Rattle.pk_pool.{proofs.Sharing.behind_roots, proofs.Fitting.block_of}
 use Rattle.pk_run.specs.Kept.{Kept, page_of, after_look}
 use Rattle.pk_level.{specs.Levels.run_of, specs.Arenas.leases_of}
-use Rattle.pk_model.{specs.Found.Found, specs.Growth.Grows, specs.Growth.Goes, specs.Crashes.CrashFinds, specs.Crashes.background, specs.Tree.run_at}
-use Rattle.pk_model.proofs.SamePages.{any_back, newest_root_same}
+use Rattle.pk_model.{specs.Found.Found, specs.Growth.Goes, specs.Crashes.CrashFinds, specs.Crashes.background, specs.Tree.run_at}
+use Rattle.pk_model.proofs.SamePages.{any_back}
 use Rattle.pk_root.specs.Laws.{SameFront}
-use Rattle.pk_law_steps.{specs.Under.IsUnder, specs.Under.IsValuePage, specs.Under.places, proofs.Untouched.under_reads, proofs.Places.In, proofs.Places.in_append}
+use Rattle.pk_law_steps.{specs.Under.IsUnder, specs.Under.IsValuePage, specs.Under.places, proofs.Untouched.under_reads, proofs.Places.In}
 use Rattle.pk_merge.{specs.Cursors.Cursor, specs.Cursors.own_page, specs.declared.source.Source.Source, specs.declared.source.Source.TheVariants.Frozen, specs.declared.source.Source.TheVariants.Run}
 use Rattle.pk_merge.{specs.declared.next.Next.Next, specs.Sources.after_look_at, specs.Merging.Merger, specs.Merging.Tells, specs.Running.Running, specs.Steps.Acts, specs.Steps.Fails}
 use Rattle.pk_merge.specs.declared.next.Next.TheVariants.{LoadSource, LoadTarget, Gather, TakeBlock, Program, End}
-use Rattle.pk_merge.{specs.Elsewhere.IsForOutput, specs.Elsewhere.LeavesRuns, specs.Elsewhere.LeavesLeases, specs.Jobs.Job, specs.Jobs.JobRuns, specs.Jobs.pins, specs.Jobs.output_of}
 use Rattle.pk_merge.proofs.Places.{block_there, block_of_page}
-use Rattle.pk_compact.{specs.Laws.IsUnread, specs.Laws.CallLeaves, specs.FreezeSteps.IsTaken, specs.FreezeSteps.taken_by, proofs.Touching.program_unread, proofs.Touching.erase_unread}
+use Rattle.pk_merge.{specs.Elsewhere.IsForOutput, specs.Elsewhere.LeavesRuns, specs.Elsewhere.LeavesLeases, specs.Jobs.Job, specs.Jobs.JobRuns, specs.Jobs.pins, specs.Jobs.output_of}
+use Rattle.pk_compact.{specs.Laws.IsUnread, specs.Laws.CallLeaves, specs.Freezing.IsApart, specs.FreezeSteps.IsTaken, specs.FreezeSteps.taken_by, proofs.Touching.program_unread, proofs.Touching.erase_unread, proofs.TakingOne.all_more}
 use Rattle.pk_log.{specs.Laws.SameNamed, proofs.Standing.logs_elsewhere}
-use Rattle.pk_schedule.{specs.declared.phase.Phase.Phase, specs.Steps.MayWork, specs.Steps.IndexMoves, proofs.Settled.stands_settled, proofs.Settled.values_settled}
+use Rattle.pk_schedule.{specs.declared.phase.Phase.Phase, specs.Steps.MayWork, specs.Steps.IndexMoves, proofs.Settled.whole_moves, proofs.Standing.apart_top, proofs.Giving.Grown}
 use Rattle.pk_schedule.specs.Index.{Index, IndexOnFlash, MergesInto, MergeStands, output, source_at, entries_at, IsSettled}
-use Rattle.pk_schedule.proofs.Grown.{Grew, SameEnd, got_in, in_got, differ_of, owned_not_spare, grew_shape, grew_kept, grew_no_more, grew_size, grew_used, grew_meta, grew_from, same_page, runs_leave}
-use Rattle.pk_schedule.proofs.Grown.{grew_none_leaves}
-
--- what holds of each of a list is shown of it and the ones that remain
-all_of : (P Q : ℕ → Type 0) (xs : List ℕ) → ((x : ℕ) → P x → Q x) → AllByRecursion P xs → AllByRecursion Q xs
-all_of P Q [] each all = tt
-all_of P Q (x ∷ xs) each all = (each x all.0, all_of P Q xs each all.1)
-
-two_owners : (o p : Owner) → (Owned o ≡ Owned p → ⊥) → (x : Option Rattle.pk_pool.specs.declared.state.BlockState.BlockState) → x ≡ Some (Owned o) → x ≡ Some (Owned p) → ⊥
-two_owners o p other x e f = other (Rattle.std.proofs.lemmas.Option.same_Some (Owned o) (Owned p) (sym e ∙ f))
+use Rattle.pk_schedule.proofs.Giving.{not_spare, one_owner}
+use Rattle.pk_schedule.proofs.Grown.{Grew, SameEnd, got_in, in_got, differ_of, grew_by, grew_from, grew_none_leaves, same_page, runs_leave}
 
 -- ---- a block for the output is read by nobody
 
@@ -45,12 +37,8 @@ module _ (x : Index) (frames : ℕ) (old : BoardState) (top : ℕ × Root) (foun
   is_shape : IsShape x.log.shape
   is_shape = stands.logs.is_shape
 
-  -- a block that the root names has an owner
-  named_owned : (b : ℕ) → In b (named top.1) → (slice_get x.pool.states b ≡ Some (Owned Journal)) ⊎ (slice_get x.pool.states b ≡ Some (Owned Meta))
-  named_owned b is = elim (in_append b (top.1.newest ++ top.1.older) (concat top.1.runs) is) [ inl journal ↦ inl (stands.journal b journal) | inr meta ↦ inr (stands.runs b meta) ]
-
-  pub spare_unnamed : (b : ℕ) → IsSpare x.pool b → In b (named top.1) → ⊥
-  spare_unnamed b spare is = elim (named_owned b is) [ inl journal ↦ owned_not_spare x.pool b Journal journal spare | inr meta ↦ owned_not_spare x.pool b Meta meta spare ]
+  apart : IsApart x.log.shape x.pool top.1 found
+  apart = apart_top x frames old.pages top found m may
 
   spare_behind : (b : ℕ) → IsSpare x.pool b → 2 ≤ b
   spare_behind b (inl free) = behind_roots x.pool.shape x.pool.states b Free free_is_not_root free shared
@@ -60,11 +48,7 @@ module _ (x : Index) (frames : ℕ) (old : BoardState) (top : ℕ × Root) (foun
   value_owned b k here is = subst (λ (y : ℕ). slice_get x.pool.states y ≡ Some (Owned Values)) here (may.values k is)
 
   spare_unread : (b : ℕ) → IsSpare x.pool b → IsUnread x.log.shape top.1 found b
-  spare_unread b spare = record {
-    least = spare_behind b spare;
-    unnamed = spare_unnamed b spare;
-    no_value = λ k here is. owned_not_spare x.pool b Values (value_owned b k here is) spare;
-  }
+  spare_unread b spare = record { least = spare_behind b spare; unnamed = apart.unnamed b spare; no_value = λ k. apart.no_value b k spare }
 
   module _ (level : ℕ) (into : MergesInto x top.1 found level) where
     abbrev out : Kept
@@ -74,7 +58,7 @@ module _ (x : Index) (frames : ℕ) (old : BoardState) (top : ℕ × Root) (foun
     held_unread b among = record {
       least = behind_roots x.pool.shape x.pool.states b (Owned Meta) (owned_is_not_root {o = Meta}) (into.held.owned b among) shared;
       unnamed = into.held.unnamed b among;
-      no_value = λ k here is. two_owners Meta Values (λ e. cc) (slice_get x.pool.states b) (into.held.owned b among) (value_owned b k here is);
+      no_value = λ k here is. let e : Meta ≡ Values = one_owner x.pool Meta Values b (into.held.owned b among) (value_owned b k here is) in cc;
     }
 
     pub for_unread : (b : ℕ) → IsForOutput x.pool out b → IsUnread x.log.shape top.1 found b
@@ -82,9 +66,9 @@ module _ (x : Index) (frames : ℕ) (old : BoardState) (top : ℕ × Root) (foun
     for_unread b (inr (i, got)) = held_unread b (got_in out.blocks i b got)
 
     -- nor is it a block of others
-    for_no_other : (b : ℕ) (o : Owner) → (Owned Meta ≡ Owned o → ⊥) → slice_get x.pool.states b ≡ Some (Owned o) → IsForOutput x.pool out b → ⊥
-    for_no_other b o other owned (inl spare) = owned_not_spare x.pool b o owned spare
-    for_no_other b o other owned (inr (i, got)) = two_owners Meta o other (slice_get x.pool.states b) (into.held.owned b (got_in out.blocks i b got)) owned
+    for_no_other : (b : ℕ) (o : Owner) → (Meta ≡ o → ⊥) → slice_get x.pool.states b ≡ Some (Owned o) → IsForOutput x.pool out b → ⊥
+    for_no_other b o other owned (inl spare) = not_spare x.pool o b owned spare
+    for_no_other b o other owned (inr (i, got)) = other (one_owner x.pool Meta o b (into.held.owned b (got_in out.blocks i b got)) owned)
 
     -- ---- the calls of the job
 
@@ -161,7 +145,7 @@ module _ (x : Index) (frames : ℕ) (old : BoardState) (top : ℕ × Root) (foun
       other_page : (k : ℕ) → (IsForOutput x.pool out (k / x.log.shape.block_pages) → ⊥) → page_at new k ≡ page_at old.pages k
       other_page k other = same_page x.pool out old.pages new end k (λ is. other (subst (λ (s : Shape). IsForOutput x.pool out (k / s.block_pages)) into.output_shape is))
 
-      owned_page : (k : ℕ) (o : Owner) → (Owned Meta ≡ Owned o → ⊥) → slice_get x.pool.states (k / x.log.shape.block_pages) ≡ Some (Owned o) → page_at new k ≡ page_at old.pages k
+      owned_page : (k : ℕ) (o : Owner) → (Meta ≡ o → ⊥) → slice_get x.pool.states (k / x.log.shape.block_pages) ≡ Some (Owned o) → page_at new k ≡ page_at old.pages k
       owned_page k o other owned = other_page k (for_no_other (k / x.log.shape.block_pages) o other owned)
 
       -- the root blocks, and those that the root names
@@ -170,9 +154,6 @@ module _ (x : Index) (frames : ℕ) (old : BoardState) (top : ℕ × Root) (foun
           let least = (for_unread (k / x.log.shape.block_pages) is).least in
           let small : k / x.log.shape.block_pages < 2 = (div-lt_iff_lt-mul (block_pages_positive x.log.shape is_shape)).1 low in
           omega (arith, least, small))
-
-      pub grows : Grows x.log.shape old.pages new
-      grows = inl (newest_root_same x.log.shape (page_at old.pages) (page_at new) front_same)
 
       named_same : SameNamed x.log.shape top.1 old.pages new
       named_same k (inl low) = front_same k low
@@ -201,8 +182,11 @@ module _ (x : Index) (frames : ℕ) (old : BoardState) (top : ℕ × Root) (foun
       abbrev stepped : Index
       stepped = record x { arena = arena; pool = pool; schedule = record x.schedule { job = job; phase = phase } }
 
+      more : (n : ℕ) × Grown Meta x.pool pool n × (length (output_of job).blocks ≡ length out.blocks + n)
+      more = grew_by x.pool out pool (output_of job) grew
+
       pool_shape : pool.shape ≡ x.log.shape
-      pool_shape = grew_shape x.pool out pool (output_of job) grew ∙ stands.pool_shape
+      pool_shape = more.1.shape ∙ stands.pool_shape
 
       out_shape : (output_of job).shape ≡ x.log.shape
       out_shape = sym runs.running.shapes.of_pool ∙ pool_shape
@@ -210,7 +194,7 @@ module _ (x : Index) (frames : ℕ) (old : BoardState) (top : ℕ × Root) (foun
       unnamed : (b : ℕ) → In b (output_of job).blocks → In b (named top.1) → ⊥
       unnamed b among is = elim (grew_from x.pool out pool (output_of job) grew b among) [
         | inl was ↦ into.held.unnamed b was is
-        | inr spare ↦ spare_unnamed b spare is
+        | inr spare ↦ apart.unnamed b spare is
       ]
 
       pub into_then : MergesInto stepped top.1 found level
@@ -228,9 +212,6 @@ module _ (x : Index) (frames : ℕ) (old : BoardState) (top : ℕ × Root) (foun
         spares = ap (λ (j : Job). j.spares) is_job ∙ into.spares;
         merger_shape = runs.running.shapes.of_merger ∙ out_shape;
       }
-
-      kept : (o : Owner) (b : ℕ) → slice_get x.pool.states b ≡ Some (Owned o) → slice_get pool.states b ≡ Some (Owned o)
-      kept o b owned = grew_kept x.pool out pool (output_of job) grew b o owned
 
       pub index_then : MergeStands phase stepped new.pages top.1 found → IndexOnFlash stepped frames new.pages top found
       index_then merge = record {
@@ -251,15 +232,15 @@ module _ (x : Index) (frames : ℕ) (old : BoardState) (top : ℕ × Root) (foun
           };
           bare = stands.arena_is.bare;
         };
-        journal = λ b is. kept Journal b (stands.journal b is);
-        journal_few = grew_used x.pool out pool (output_of job) grew Journal refl ∙ stands.journal_few;
-        runs = λ b is. kept Meta b (stands.runs b is);
-        runs_few = (let few = stands.runs_few in let more = grew_meta x.pool out pool (output_of job) grew in omega (arith, few, more));
+        journal = λ b is. more.1.owned Journal b (stands.journal b is);
+        journal_few = more.1.others Journal (λ e. cc) ∙ stands.journal_few;
+        runs = λ b is. more.1.owned Meta b (stands.runs b is);
+        runs_few = (let few = stands.runs_few in let has = more.1.has in let blocks = more.2 in omega (arith, few, has, blocks));
         pins_are = ap (λ (j : Job). j.pinned) is_job ∙ stands.pins_are;
         merge = merge;
         freeze = record {
-          taken = all_of (IsTaken x.log.shape x.pool old.pages top.1) (IsTaken x.log.shape pool new.pages top.1)
-              (taken_by x.schedule.freeze) (taken_same new.pages end pool (kept Journal)) stands.freeze.taken;
+          taken = all_more (IsTaken x.log.shape x.pool old.pages top.1) (IsTaken x.log.shape pool new.pages top.1)
+              (taken_by x.schedule.freeze) (taken_same new.pages end pool (more.1.owned Journal)) stands.freeze.taken;
           different = stands.freeze.different;
           none_frozen = stands.freeze.none_frozen;
         };
@@ -269,23 +250,10 @@ module _ (x : Index) (frames : ℕ) (old : BoardState) (top : ℕ × Root) (foun
       settles = record { whole = may.settles.whole; none_leaves = grew_none_leaves x.pool out pool (output_of job) may.settles.none_leaves grew }
 
       pub moves_then : MergeStands phase stepped new.pages top.1 found → IndexMoves x frames old found m stepped new
-      moves_then merge = record {
-        then_top = top;
-        then_found = found;
-        stands = stands_settled stepped frames new.pages top found settles (index_then merge);
-        ends = inl settles;
-        same_shape = refl;
-        none_pending = may.none_pending;
-        under = leaves.under;
-        same_places = refl;
-        values = values_settled stepped x.log.shape x.pool old.pages new.pages settles (record {
-          size = grew_size x.pool out pool (output_of job) grew;
-          owned = kept Values;
-          no_more = λ b owned. grew_no_more x.pool out pool (output_of job) grew b Values refl owned;
-          as_many = grew_used x.pool out pool (output_of job) grew Values refl;
-          pages = λ k owned. owned_page new.pages end k Values (λ e. cc) owned;
-        });
-        numbers = omega arith;
-        grows = grows new.pages end;
-        cuts = leaves.cuts;
-      }
+      moves_then merge = whole_moves x frames old top found m may stepped new settles (index_then merge) refl refl may.none_pending leaves.under (record {
+        size = more.1.size;
+        owned = more.1.owned Values;
+        no_more = more.1.no_more Values (λ e. cc);
+        as_many = more.1.others Values (λ e. cc);
+        pages = λ k owned. owned_page new.pages end k Values (λ e. cc) owned;
+      }) leaves.cuts

@@ -77,12 +77,7 @@ module _ (x : Index) (frames : ℕ) (old : BoardState) (top : ℕ × Root) (foun
 
   -- its level is one of four
   pub level_within : (1 ≤ level) × (level ≤ 4)
-  level_within = elim (next_is_level x.log.shape (length x.log.frozen.entries) (map (λ r. r.count) x.levels.runs) level next_now) [
-    | inl e ↦ (omega (arith, e), omega (arith, e))
-    | inr (inl e) ↦ (omega (arith, e), omega (arith, e))
-    | inr (inr (inl e)) ↦ (omega (arith, e), omega (arith, e))
-    | inr (inr (inr e)) ↦ (omega (arith, e), omega (arith, e))
-  ]
+  level_within = omega (arith, next_is_level x.log.shape (length x.log.frozen.entries) (map (λ r. r.count) x.levels.runs) level next_now)
 
   -- no root is installed
   few_roots : (new : BoardState) → IsReady new x.log.shape → SameEnd x.pool out old.pages new.pages → roots new ≤ roots old + 1
@@ -93,39 +88,45 @@ module _ (x : Index) (frames : ℕ) (old : BoardState) (top : ℕ × Root) (foun
   left_now : merge_left x.schedule.phase x ≡ Some (steps_left (source_at x level) target out x.schedule.job.merger (most_pages out) (most_blocks out) + 1 + install_steps x.log.next)
   left_now = ap (λ (p : Phase). merge_left p x) was
 
-  module _ {X : Type 0} (source : Source X) (shows : ShowsSame (source_at x level) source) where
+  -- by the contract of the job, whose target is the run of the level
+  module _ {X : Type 0} (source : Source X) (shows : ShowsSame (source_at x level) source) (t : Kept) (is_target : t ≡ run_of x.levels level) where
     there : Shown (source_at x level) source
     there = shown (source_at x level) source shows
 
     back : Shown source (source_at x level)
     back = shown source (source_at x level) (same_shown (source_at x level) source shows)
 
-    pub job_now : JobRuns source target x.schedule.job x.pool old.pages x.arena es fs
-    job_now = job_carried (source_at x level) source there target x.schedule.job x.pool old.pages x.arena es fs runs_now.runs
+    pub ran : JobRuns source t x.schedule.job x.pool old.pages x.arena es fs
+    ran = subst (λ (k : Kept). JobRuns source k x.schedule.job x.pool old.pages x.arena es fs) (sym is_target)
+        (job_carried (source_at x level) source there target x.schedule.job x.pool old.pages x.arena es fs runs_now.runs)
+
+    carried_back : (job : Job) (pool : Blocks) (flash : Flash) (arena : Frames) → JobRuns source t job pool flash arena es fs → JobRuns (source_at x level) target job pool flash arena es fs
+    carried_back job pool flash arena runs = job_carried source (source_at x level) back target job pool flash arena es fs
+        (subst (λ (k : Kept). JobRuns source k job pool flash arena es fs) is_target runs)
 
     -- ---- a step that was done
 
     module _ (new : BoardState) (job : Job) (pool : Blocks) (arena : Frames)
-        (running : RunsOn source target x.schedule.job x.pool old.pages x.arena job pool new.pages arena)
-        (steps : Steps source target (pins x.schedule.job) out x.schedule.job.merger x.pool old x.arena (output_of job) job.merger pool new arena)
+        (running : RunsOn source t x.schedule.job x.pool old.pages x.arena job pool new.pages arena)
+        (steps : Steps source t (pins x.schedule.job) out x.schedule.job.merger x.pool old x.arena (output_of job) job.merger pool new arena)
         (is_job : job ≡ record x.schedule.job { output = job.output; merger = job.merger })
         (others : LeavesRuns x.pool out old.pages x.arena new.pages arena)
         (leases : LeavesLeases out x.arena (output_of job) arena)
         (cuts : StepReaches x.pool out old new) where
       runs_then : JobRuns (source_at x level) target job pool new.pages arena es fs
-      runs_then = job_carried source (source_at x level) back target job pool new.pages arena es fs (running es fs job_now)
+      runs_then = carried_back job pool new.pages arena (running es fs ran)
 
       grew : Grew x.pool out pool (output_of job)
-      grew = acts_grow source target (pins x.schedule.job) out x.schedule.job.merger x.pool old x.arena steps.next (output_of job) steps.between pool new arena steps.acts
+      grew = acts_grow source t (pins x.schedule.job) out x.schedule.job.merger x.pool old x.arena steps.next (output_of job) steps.between pool new arena steps.acts
 
       same_frames : length arena.used ≡ length x.arena.used
-      same_frames = acts_frames source target (pins x.schedule.job) out x.schedule.job.merger x.pool old x.arena steps.next (output_of job) steps.between pool new arena steps.acts
+      same_frames = acts_frames source t (pins x.schedule.job) out x.schedule.job.merger x.pool old x.arena steps.next (output_of job) steps.between pool new arena steps.acts
 
       pub end : SameEnd x.pool out old.pages new.pages
       end = reached_end x.pool out old new cuts
 
       leaves : CallLeaves x.log.shape old top found m new
-      leaves = job_leaves x frames old top found m may shared ready level into new source target x.schedule.job.merger x.arena es fs job_now.running steps.next
+      leaves = job_leaves x frames old top found m may shared ready level into new source t x.schedule.job.merger x.arena es fs ran.running steps.next
           (output_of job) steps.between pool arena steps.tells steps.acts
 
       abbrev pub behind : Phase → Index
@@ -137,17 +138,21 @@ module _ (x : Index) (frames : ℕ) (old : BoardState) (top : ℕ × Root) (foun
       into_behind : (p : Phase) → MergesInto (behind p) top.1 found level
       into_behind p = into_then x frames old top found m may shared ready level into new p job pool arena is_job grew end leaves same_frames leases others runs_then
 
-      -- the merge goes on
-      pub goes_on : (IsDone source target job.merger → ⊥) → IndexMoves x frames old found m (behind (Running level)) new
-      goes_on undone = moves_to (Running level) (record { into = into_behind (Running level); runs = runs_then; undone = λ d. undone (done_same source (source_at x level) back target job.merger d) })
+      abbrev Leaves : Phase → Type 0
+      Leaves p = IndexMoves x frames old found m (behind p) new × LessIsLeft x (behind p)
 
-      pub goes_on_at : (IsDone source target job.merger → ⊥) → IndexMoves x frames old found m (behind x.schedule.phase) new
-      goes_on_at undone = subst (λ (p : Phase). IndexMoves x frames old found m (behind p) new) (sym was) (goes_on undone)
+      -- the merge goes on
+      goes_on : (IsDone source t job.merger → ⊥) → IndexMoves x frames old found m (behind (Running level)) new
+      goes_on undone = moves_to (Running level) (record {
+        into = into_behind (Running level);
+        runs = runs_then;
+        undone = λ d. undone (subst (λ (k : Kept). IsDone source k job.merger) (sym is_target) (done_same source (source_at x level) back target job.merger d));
+      })
 
       -- its output is whole
-      pub completes : Completes source target x.schedule.job x.pool old.pages x.arena job new.pages arena true → IndexMoves x frames old found m (behind (Ready level)) new
+      completes : Completes source t x.schedule.job x.pool old.pages x.arena job new.pages arena true → IndexMoves x frames old found m (behind (Ready level)) new
       completes whole =
-          let all : IsOutputWhole (pins x.schedule.job) (output_of job) new.pages arena (merged (output_of job).level es fs) = whole refl es fs job_now in
+          let all : IsOutputWhole (pins x.schedule.job) (output_of job) new.pages arena (merged (output_of job).level es fs) = whole refl es fs ran in
           let is : (output_of job).level ≡ level = (into_behind (Ready level)).output_level in
           let its : merged (output_of job).level es fs ≡ whole_output level found = ap (λ (l : ℕ). merged l es fs) is ∙ output_same x found level stands.logs.frozen_is in
           let pinned : pins x.schedule.job ≡ pins job = sym (ap (λ (j : Job). pins j) is_job) in
@@ -159,16 +164,16 @@ module _ (x : Index) (frames : ℕ) (old : BoardState) (top : ℕ × Root) (foun
 
       -- ---- what remains
 
-      module _ (lowers : LowersTo source target out x.schedule.job.merger x.pool (output_of job) job.merger pool (most_pages out) (most_blocks out)) where
-        left_then : ℕ
-        left_then = steps_left (source_at x level) target (output_of job) job.merger (most_pages (output_of job)) (most_blocks (output_of job))
+      abbrev Lowers_by : Kept → Type 0
+      Lowers_by k = LowersTo source k out x.schedule.job.merger x.pool (output_of job) job.merger pool (most_pages out) (most_blocks out)
 
+      module _ (lowers : Lowers_by t) where
         abbrev Left : Kept → Merger → ℕ → ℕ → ℕ
         Left o j pages blocks = steps_left (source_at x level) target o j pages blocks
 
         falls : Lowers (Left out x.schedule.job.merger (most_pages out) (most_blocks out)) (unready x.pool.states)
             (Left (output_of job) job.merger (most_pages (output_of job)) (most_blocks (output_of job))) (unready pool.states)
-        falls = elim lowers [
+        falls = elim (subst Lowers_by is_target lowers) [
           | inl done ↦ absurd (runs_now.undone (done_same (source_at x level) source there target x.schedule.job.merger done))
           | inr l ↦ (
               let before = left_same (source_at x level) source there target out x.schedule.job.merger (most_pages out) (most_blocks out) in
@@ -184,54 +189,53 @@ module _ (x : Index) (frames : ℕ) (old : BoardState) (top : ℕ × Root) (foun
               subst (λ (s : Shape). P s (output_of job).level) (sym shape) (subst (λ (n : ℕ). P out.shape n) (sym at) here))
         ]
 
-        pub less_running : LessIsLeft x (behind (Running level))
-        less_running =
-            let moved : MovesMerge x.log.shape (backlog_of x) (backlog_of (behind (Running level))) = record {
+        less_to : (p : Phase) (left : ℕ) → merge_left p (behind p) ≡ Some left
+            → Lowers (Left out x.schedule.job.merger (most_pages out) (most_blocks out) + 1 + install_steps x.log.next) (unready x.pool.states) left (unready pool.states) → LessIsLeft x (behind p)
+        less_to p left is lower =
+            let moved : MovesMerge x.log.shape (backlog_of x) (backlog_of (behind p)) = record {
               level = level;
-              left = Left (output_of job) job.merger (most_pages (output_of job)) (most_blocks (output_of job)) + 1 + install_steps x.log.next;
+              left = left;
               due = next_now;
-              moved = λ i. record (backlog_of (behind (Running level))) { unfilled = unfilled x.levels (same_frames i) };
-              lowers = subst (λ (o : Option ℕ). Lowers (left_of (whole_merge x.log.shape level) o) (unready x.pool.states)
-                  (Left (output_of job) job.merger (most_pages (output_of job)) (most_blocks (output_of job)) + 1 + install_steps x.log.next) (unready pool.states)) (sym left_now)
-                  (goes_lowers _ _ _ _ (install_steps x.log.next) falls);
+              moved = λ i. record (backlog_of (behind p)) { merge = is i; unfilled = unfilled x.levels (same_frames i) };
+              lowers = subst (λ (o : Option ℕ). Lowers (left_of (whole_merge x.log.shape level) o) (unready x.pool.states) left (unready pool.states)) (sym left_now) lower;
             } in
-            let l = merge_moves x.log.shape (backlog_of x) (backlog_of (behind (Running level))) moved in
+            let l = merge_moves x.log.shape (backlog_of x) (backlog_of (behind p)) moved in
             record { work = l.0; merging = l.1; roots = ap (λ n. x.log.root.number + n) l.2 }
 
-        pub less_at : LessIsLeft x (behind x.schedule.phase)
-        less_at = subst (λ (p : Phase). LessIsLeft x (behind p)) (sym was) less_running
+      pub goes_by : (done : Bool) → (IsTrue done ↔ IsDone source t job.merger) → done ≡ false → Lowers_by t → Leaves x.schedule.phase
+      goes_by done is e lowers = subst Leaves (sym was) (
+        goes_on (λ d. not_both done (is.1 d) e),
+        less_to lowers (Running level) _ refl (goes_lowers _ _ _ _ (install_steps x.log.next) (falls lowers)),
+      )
 
-        pub less_ready : LessIsLeft x (behind (Ready level))
-        less_ready =
-            let moved : MovesMerge x.log.shape (backlog_of x) (backlog_of (behind (Ready level))) = record {
-              level = level;
-              left = install_steps x.log.next;
-              due = next_now;
-              moved = λ i. record (backlog_of (behind (Ready level))) { unfilled = unfilled x.levels (same_frames i) };
-              lowers = subst (λ (o : Option ℕ). Lowers (left_of (whole_merge x.log.shape level) o) (unready x.pool.states) (install_steps x.log.next) (unready pool.states)) (sym left_now)
-                  (ends_lowers _ _ _ _ (install_steps x.log.next) falls);
-            } in
-            let l = merge_moves x.log.shape (backlog_of x) (backlog_of (behind (Ready level))) moved in
-            record { work = l.0; merging = l.1; roots = ap (λ n. x.log.root.number + n) l.2 }
+      pub completes_by : (done : Bool) → done ≡ true → Completes source t x.schedule.job x.pool old.pages x.arena job new.pages arena done → Lowers_by t → Leaves (Ready level)
+      completes_by done e whole lowers = (
+        completes (subst (λ (b : Bool). Completes source t x.schedule.job x.pool old.pages x.arena job new.pages arena b) e whole),
+        less_to lowers (Ready level) _ refl (ends_lowers _ _ _ _ (install_steps x.log.next) (falls lowers)),
+      )
 
     -- ---- a step whose program or erase failed
 
-    module _ (new : BoardState) (j' : Merger) (fails : Fails source target out x.schedule.job.merger x.pool old Stopped j' new) where
-      pub goes_broken : Goes x.log.shape old new (CrashFinds x.log.shape background old.pages m)
-      goes_broken = job_breaks x frames old top found m may shared ready level into new source target x.schedule.job.merger x.arena es fs job_now.running j' fails
+    pub broken_by : (new : BoardState) (j' : Merger) (fault : Fault) → fault ≡ Stopped → Fails source t out x.schedule.job.merger x.pool old fault j' new
+        → Goes x.log.shape old new (CrashFinds x.log.shape background old.pages m)
+    broken_by new j' fault e fails = job_breaks x frames old top found m may shared ready level into new source t x.schedule.job.merger x.arena es fs ran.running j'
+        (subst (λ (f : Fault). Fails source t out x.schedule.job.merger x.pool old f j' new) e fails)
 
     -- ---- a step whose read failed
 
     module _ (new : BoardState) (job : Job) (pool : Blocks) (arena : Frames)
-        (again : RunsOn source target x.schedule.job x.pool old.pages x.arena job pool new.pages arena)
-        (same_output : job.output ≡ x.schedule.job.output) (same_pool : pool ≡ x.pool) (same_arena : arena ≡ x.arena)
-        (fails : FailsToRead source target x.schedule.job.merger old job.merger new)
+        (again : RunsOn source t x.schedule.job x.pool old.pages x.arena job pool new.pages arena)
+        (kept : (job.output ≡ x.schedule.job.output) × (pool ≡ x.pool) × (arena ≡ x.arena))
+        (fault : Fault) (e : fault ≡ Reading) (failed : Fails source t out x.schedule.job.merger x.pool old fault job.merger new)
         (is_job : job ≡ record x.schedule.job { output = job.output; merger = job.merger }) (only : OnlyReading old new) where
+      fails : FailsToRead source t x.schedule.job.merger old job.merger new
+      fails = subst (λ (f : Fault). Fails source t out x.schedule.job.merger x.pool old f job.merger new) e failed
+
       abbrev pub reread : Phase → Index
       reread p = record x { arena = arena; pool = pool; schedule = record x.schedule { job = job; phase = p } }
 
       out_same : output_of job ≡ out
-      out_same = ap (λ (o : Option Kept). unwrap_or o (empty job.merger.shape job.target)) (same_output ∙ into.has_output)
+      out_same = ap (λ (o : Option Kept). unwrap_or o (empty job.merger.shape job.target)) (kept.0 ∙ into.has_output)
 
       steps_same : steps_left (source_at x level) target (output_of job) job.merger (most_pages (output_of job))
           (most_blocks (output_of job)) ≡ steps_left (source_at x level) target out x.schedule.job.merger (most_pages out) (most_blocks out)
@@ -243,21 +247,21 @@ module _ (x : Index) (frames : ℕ) (old : BoardState) (top : ℕ × Root) (foun
       left_same_then : merge_left x.schedule.phase (reread x.schedule.phase) ≡ merge_left x.schedule.phase x
       left_same_then = subst (λ (p : Phase). merge_left p (reread p) ≡ merge_left p x) (sym was) (ap (λ (n : ℕ). Some (n + 1 + install_steps x.log.next)) steps_same)
 
-      pub unmoved : Unmoved x (reread x.schedule.phase)
-      unmoved = record {
-        rest = (λ i. record x { arena = same_arena i; pool = same_pool i; schedule = record x.schedule { job = job } });
-        same_backlog = (λ i. record (backlog_of x) { merge = left_same_then i; unfilled = unfilled x.levels (length (same_arena i).used); unready = unready (same_pool i).states });
+      pub unmoved_by : Unmoved x (reread x.schedule.phase)
+      unmoved_by = record {
+        rest = (λ i. record x { arena = kept.2 i; pool = kept.1 i; schedule = record x.schedule { job = job } });
+        same_backlog = (λ i. record (backlog_of x) { merge = left_same_then i; unfilled = unfilled x.levels (length (kept.2 i).used); unready = unready (kept.1 i).states });
         same_output = out_same;
       }
 
       still_runs : LeavesRuns x.pool out old.pages x.arena new.pages arena
-      still_runs = λ other gs shape meta apart s. subst (λ (a : Frames). RunOnFlash other new.pages a gs) (sym same_arena) (subst (λ (f : Flash). RunOnFlash other f x.arena gs) (sym fails.same) s)
+      still_runs = λ other gs shape meta apart s. subst (λ (a : Frames). RunOnFlash other new.pages a gs) (sym kept.2) (subst (λ (f : Flash). RunOnFlash other f x.arena gs) (sym fails.same) s)
 
       runs_again : JobRuns (source_at x level) target job pool new.pages arena es fs
-      runs_again = job_carried source (source_at x level) back target job pool new.pages arena es fs (again es fs job_now)
+      runs_again = carried_back job pool new.pages arena (again es fs ran)
 
       again_grew : Grew x.pool out pool (output_of job)
-      again_grew = inl (same_pool, ap (λ (r : Kept). r.blocks) out_same)
+      again_grew = inl (kept.1, ap (λ (r : Kept). r.blocks) out_same)
 
       again_leaves : CallLeaves x.log.shape old top found m new
       again_leaves = same_leaves x frames old top found m may shared ready level into new (ap (λ (b : BoardState). b.shape) only)
@@ -266,10 +270,10 @@ module _ (x : Index) (frames : ℕ) (old : BoardState) (top : ℕ × Root) (foun
       not_done : IsDone (source_at x level) target job.merger → ⊥
       not_done d = runs_now.undone (subst (λ (j : Merger). IsDone (source_at x level) target j) fails.merger d)
 
-      pub stands_still : IndexOnFlash (reread x.schedule.phase) frames new.pages top found
-      stands_still =
-          let frames_same : length arena.used ≡ length x.arena.used = ap (λ (a : Frames). length a.used) same_arena in
-          let leases = kept_leases out (output_of job) x.arena arena (ap (λ (r : Kept). r.leases) out_same) same_arena in
+      pub stands_by : IndexOnFlash (reread x.schedule.phase) frames new.pages top found
+      stands_by =
+          let frames_same : length arena.used ≡ length x.arena.used = ap (λ (a : Frames). length a.used) kept.2 in
+          let leases = kept_leases out (output_of job) x.arena arena (ap (λ (r : Kept). r.leases) out_same) kept.2 in
           subst (λ (p : Phase). IndexOnFlash (reread p) frames new.pages top found) (sym was)
           (index_then x frames old top found m may shared ready level into new (Running level) job pool arena is_job again_grew
           (inl fails.same) again_leaves frames_same leases still_runs runs_again (record {
@@ -278,67 +282,6 @@ module _ (x : Index) (frames : ℕ) (old : BoardState) (top : ℕ × Root) (foun
             runs = runs_again;
             undone = not_done;
           }))
-
-  -- ---- by the contract of the job, whose target is the run of the level
-
-  module _ {X : Type 0} (source : Source X) (shows : ShowsSame (source_at x level) source) (t : Kept) (is_target : t ≡ run_of x.levels level) where
-    pub ran : JobRuns source t x.schedule.job x.pool old.pages x.arena (entries_at x found level) (run_at found.runs level)
-    ran = subst (λ (k : Kept). JobRuns source k x.schedule.job x.pool old.pages x.arena (entries_at x found level) (run_at found.runs level)) (sym is_target) (job_now source shows)
-
-    module _ (new : BoardState) (job : Job) (pool : Blocks) (arena : Frames) where
-      abbrev IsJob : Type 0
-      IsJob = job ≡ record x.schedule.job { output = job.output; merger = job.merger }
-
-      abbrev at : Phase → Index
-      at p = record x { arena = arena; pool = pool; schedule = record x.schedule { job = job; phase = p } }
-
-      abbrev OfStep : Kept → Type 0 → Type 0
-      OfStep k Then = RunsOn source k x.schedule.job x.pool old.pages x.arena job pool new.pages arena
-          → Steps source k (pins x.schedule.job) out x.schedule.job.merger x.pool old x.arena (output_of job) job.merger pool new arena
-          → IsJob → LeavesRuns x.pool out old.pages x.arena new.pages arena → LeavesLeases out x.arena (output_of job) arena → StepReaches x.pool out old new → Then
-
-      abbrev Lowers_in : Kept → Type 0
-      Lowers_in k = LowersTo source k out x.schedule.job.merger x.pool (output_of job) job.merger pool (most_pages out) (most_blocks out)
-
-      abbrev Leaves : Phase → Type 0
-      Leaves p = IndexMoves x frames old found m (at p) new × LessIsLeft x (at p)
-
-      pub goes_by : OfStep t ((done : Bool) → (IsTrue done ↔ IsDone source t job.merger) → done ≡ false → Lowers_in t → Leaves x.schedule.phase)
-      goes_by = subst (λ (k : Kept). OfStep k ((done : Bool) → (IsTrue done ↔ IsDone source k job.merger) → done ≡ false → Lowers_in k → Leaves x.schedule.phase)) (sym is_target)
-          (λ running steps is_job others leases cuts done is e lowers. (
-            goes_on_at source shows new job pool arena running steps is_job others leases cuts (λ d. not_both done (is.1 d) e),
-            less_at source shows new job pool arena running steps is_job others leases cuts lowers,
-          ))
-
-      pub completes_by : OfStep t ((done : Bool) → done ≡ true → Completes source t x.schedule.job x.pool old.pages x.arena job new.pages arena done → Lowers_in t → Leaves (Ready level))
-      completes_by = subst (λ (k : Kept). OfStep k
-          ((done : Bool) → done ≡ true → Completes source k x.schedule.job x.pool old.pages x.arena job new.pages arena done → Lowers_in k → Leaves (Ready level))) (sym is_target)
-          (λ running steps is_job others leases cuts done e whole lowers. (
-            completes source shows new job pool arena running steps is_job others leases cuts
-                (subst (λ (b : Bool). Completes source target x.schedule.job x.pool old.pages x.arena job new.pages arena b) e whole),
-            less_ready source shows new job pool arena running steps is_job others leases cuts lowers,
-          ))
-
-      -- a call that failed
-      abbrev OfRead : Kept → Type 0 → Type 0
-      OfRead k Then = RunsOn source k x.schedule.job x.pool old.pages x.arena job pool new.pages arena → (job.output ≡ x.schedule.job.output) × (pool ≡ x.pool) × (arena ≡ x.arena)
-          → (fault : Fault) → fault ≡ Reading → Fails source k out x.schedule.job.merger x.pool old fault job.merger new → IsJob → OnlyReading old new → Then
-
-      pub unmoved_by : OfRead t (Unmoved x (at x.schedule.phase))
-      unmoved_by = subst (λ (k : Kept). OfRead k (Unmoved x (at x.schedule.phase))) (sym is_target)
-          (λ again kept fault e fails is_job only. unmoved source shows new job pool arena again kept.0 kept.1 kept.2
-          (subst (λ (f : Fault). Fails source target out x.schedule.job.merger x.pool old f job.merger new) e fails) is_job only)
-
-      pub stands_by : OfRead t (IndexOnFlash (at x.schedule.phase) frames new.pages top found)
-      stands_by = subst (λ (k : Kept). OfRead k (IndexOnFlash (at x.schedule.phase) frames new.pages top found)) (sym is_target)
-          (λ again kept fault e fails is_job only. stands_still source shows new job pool arena again kept.0 kept.1 kept.2
-          (subst (λ (f : Fault). Fails source target out x.schedule.job.merger x.pool old f job.merger new) e fails) is_job only)
-
-      pub broken_by : (fault : Fault) → fault ≡ Stopped → Fails source t out x.schedule.job.merger x.pool old fault job.merger new
-          → Goes x.log.shape old new (CrashFinds x.log.shape background old.pages m)
-      broken_by = subst (λ (k : Kept). (fault : Fault) → fault ≡ Stopped → Fails source k out x.schedule.job.merger x.pool old fault job.merger new
-          → Goes x.log.shape old new (CrashFinds x.log.shape background old.pages m)) (sym is_target)
-          (λ fault e fails. goes_broken source shows new job.merger (subst (λ (f : Fault). Fails source target out x.schedule.job.merger x.pool old f job.merger new) e fails))
 
   -- ---- what the flash is after it
 

@@ -43,12 +43,6 @@ all_from : (P : ℕ → Type 0) (xs : List ℕ) → ((b : ℕ) → In b xs → P
 all_from P [] each = tt
 all_from P (x ∷ xs) each = (each x (inl refl), all_from P xs (λ b is. each b (inr is)))
 
-within : (level : ℕ) → IsLevel level → (1 ≤ level) × (level ≤ 4)
-within level (inl e) = (omega (arith, e), omega (arith, e))
-within level (inr (inl e)) = (omega (arith, e), omega (arith, e))
-within level (inr (inr (inl e))) = (omega (arith, e), omega (arith, e))
-within level (inr (inr (inr e))) = (omega (arith, e), omega (arith, e))
-
 length_none : (xs : List ℕ) → (0 < length xs → ⊥) → xs ≡ []
 length_none [] none = refl
 length_none (x ∷ xs) none = absurd (none (omega arith))
@@ -85,10 +79,10 @@ module _ (x : Index) (frames : ℕ) (old : BoardState) (top : ℕ × Root) (foun
   is_level = next_is_level shape (length (firsts found.older)) (map (λ es. length es) found.runs) level waits.into.due
 
   pub least : 1 ≤ level
-  least = (within level is_level).0
+  least = omega (arith, is_level)
 
   pub most : level ≤ 4
-  most = (within level is_level).1
+  most = omega (arith, is_level)
 
   pub all_differ : T (differ (named root))
   all_differ = (blocks_of_root shape root valid).different

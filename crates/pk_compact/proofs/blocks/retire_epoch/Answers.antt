@@ -1,4 +1,4 @@
-use Rattle.std.proofs.Common.{◌≡◌, Bool, sym, ap, ◌∙◌, [], ◌∷◌, if◌then◌else◌, slice_index, Some}
+use Rattle.std.proofs.Common.{Bool, sym, ap, ◌∙◌, [], ◌∷◌, if◌then◌else◌, slice_index}
 use Rattle.std.specs.Prelude.{slice_get}
 use Rattle.pk_plan.specs.declared.owner.Owner.TheVariants.{Journal}
 use Rattle.pk_pool.{specs.declared.state.BlockState.TheVariants.Leaving, specs.Blocks.Blocks, specs.Blocks.with_state, specs.Blocks.left_by}

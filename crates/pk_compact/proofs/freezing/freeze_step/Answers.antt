@@ -1,9 +1,6 @@
-use Rattle.std.proofs.Common.{sym, ap, subst, ◌∙◌}
-use Rattle.pk_base.specs.Shape.{Shape}
-use Rattle.pk_rootfmt.specs.Held.{Held}
-use Rattle.pk_model.specs.Growth.{Grows}
-use Rattle.pk_compact.proofs.FreezeStepping.{first_step, second_step, take_broken, epoch_least, newest_two, can_prepare_at, erase_step, erase_broken, can_install, root_step, root_broken}
-use Rattle.pk_compact.{proofs.Growing.took_grows, proofs.Growing.took_calls, proofs.Growing.erase_failed_calls, proofs.NextRoot.programs_then, proofs.TakingOne.is_shape}
+use Rattle.std.proofs.Common.{refl, sym, ◌∙◌, arith}
+use Rattle.pk_compact.proofs.FreezeStepping.{took_step, take_broken, epoch_least, newest_two, can_prepare_at, erase_step, erase_broken, can_install, root_step, root_broken}
+use Rattle.pk_compact.{specs.declared.freezing.FreezeJob.TheVariants.HasOne, specs.declared.freezing.FreezeJob.TheVariants.HasTwo, proofs.NextRoot.programs_then}
 use Rattle.pk_compact.proofs.freezing.freeze_step.Goals as goal
 
 pub follow-requires-clause-epoch : goal.follow-requires-clause-epoch
@@ -27,94 +24,42 @@ install_root-requires-clause-programs g c = programs_then c.args.installer.now c
 
 pub returns-in-Ok-clause-step : goal.returns-in-Ok-clause-step
 returns-in-Ok-clause-step g c =
-    let may = c.requires.may in
-    let old = g.B.Nand.state c.args.board.now in
-    let new = g.B.Nand.state c.take_block.new.board in
-    let right = is_shape c.args.pool.now c.args.root.now c.args.installer.now c.args.job.now c.args.has_entries old c.known.ensures c.requires.ready may.0 may.1 may.2 may.3 in
-    record {
-      step = first_step c.known.ensures c.requires.ready c.requires.may c.in-Idle.is c.in-Ok.first c.take_block.new.pool (g.B.Nand.state c.take_block.new.board)
-          c.in-Ok.ensures.taken c.in-Ok.ensures.spare c.in-Ok.ensures.counted c.take_block.ensures.fits c.take_block.ensures.ready;
-      calls = took_calls c.in-Ok.first old new c.in-Ok.ensures.taken.1;
-      grows = took_grows c.args.root.now.shape right c.in-Ok.first old new c.in-Ok.ensures.taken.1 c.requires.ready c.in-Ok.ensures.spare.1;
-    }
+    took_step c.known.ensures c.requires.ready c.requires.may (rw c.in-Idle.is (omega arith)) c.in-Ok.first c.take_block.new.pool (g.B.Nand.state c.take_block.new.board)
+    c.in-Ok.ensures.taken c.in-Ok.ensures.spare c.in-Ok.ensures.counted c.take_block.ensures.fits c.take_block.ensures.ready (HasOne c.in-Ok.first) (rw c.in-Idle.is refl)
 
 pub returns-in-Err-clause-step : goal.returns-in-Err-clause-step
 returns-in-Err-clause-step g c =
-    let old = g.B.Nand.state c.args.board.now in
-    let new = g.B.Nand.state c.take_block.new.board in
-    record {
-      step = take_broken c.known.ensures c.requires.ready c.requires.may c.take_block.new.pool c.args.root.now c.args.installer.now c.args.job.now
-          (g.B.Nand.state c.take_block.new.board) c.in-Err.fault c.in-Err.ensures.stopped c.in-Err.ensures.failed c.take_block.ensures.ready;
-      calls = erase_failed_calls old new c.in-Err.ensures.failed.block c.in-Err.ensures.failed.failed;
-      grows = tt;
-    }
+    take_broken c.known.ensures c.requires.ready c.requires.may c.take_block.new.pool c.args.root.now c.args.installer.now c.args.job.now
+    (g.B.Nand.state c.take_block.new.board) c.in-Err.fault c.in-Err.ensures.stopped c.in-Err.ensures.failed c.take_block.ensures.ready
 
 pub returns-in-Ok-take_block-clause-step : goal.returns-in-Ok-take_block-clause-step
 returns-in-Ok-take_block-clause-step g c =
-    let may = c.requires.may in
-    let old = g.B.Nand.state c.args.board.now in
-    let new = g.B.Nand.state c.take_block-in-HasOne.new.board in
-    let right = is_shape c.args.pool.now c.args.root.now c.args.installer.now c.args.job.now c.args.has_entries old c.known.ensures c.requires.ready may.0 may.1 may.2 may.3 in
-    record {
-      step = second_step c.known.ensures c.requires.ready c.requires.may c.in-HasOne.first c.in-HasOne.is c.in-Ok-take_block.second c.take_block-in-HasOne.new.pool
-          (g.B.Nand.state c.take_block-in-HasOne.new.board)
-          c.in-Ok-take_block.ensures.taken c.in-Ok-take_block.ensures.spare c.in-Ok-take_block.ensures.counted c.take_block-in-HasOne.ensures.fits c.take_block-in-HasOne.ensures.ready;
-      calls = took_calls c.in-Ok-take_block.second old new c.in-Ok-take_block.ensures.taken.1;
-      grows = took_grows c.args.root.now.shape right c.in-Ok-take_block.second old new c.in-Ok-take_block.ensures.taken.1 c.requires.ready c.in-Ok-take_block.ensures.spare.1;
-    }
+    took_step c.known.ensures c.requires.ready c.requires.may (rw c.in-HasOne.is (omega arith)) c.in-Ok-take_block.second c.take_block-in-HasOne.new.pool
+    (g.B.Nand.state c.take_block-in-HasOne.new.board) c.in-Ok-take_block.ensures.taken c.in-Ok-take_block.ensures.spare c.in-Ok-take_block.ensures.counted
+    c.take_block-in-HasOne.ensures.fits c.take_block-in-HasOne.ensures.ready (HasTwo c.in-HasOne.first c.in-Ok-take_block.second) (rw c.in-HasOne.is refl)
 
 pub returns-in-Err-take_block-clause-step : goal.returns-in-Err-take_block-clause-step
 returns-in-Err-take_block-clause-step g c =
-    let old = g.B.Nand.state c.args.board.now in
-    let new = g.B.Nand.state c.take_block-in-HasOne.new.board in
-    record {
-      step = take_broken c.known.ensures c.requires.ready c.requires.may c.take_block-in-HasOne.new.pool c.args.root.now c.args.installer.now c.args.job.now
-          (g.B.Nand.state c.take_block-in-HasOne.new.board) c.in-Err-take_block.fault c.in-Err-take_block.ensures.stopped c.in-Err-take_block.ensures.failed c.take_block-in-HasOne.ensures.ready;
-      calls = erase_failed_calls old new c.in-Err-take_block.ensures.failed.block c.in-Err-take_block.ensures.failed.failed;
-      grows = tt;
-    }
+    take_broken c.known.ensures c.requires.ready c.requires.may c.take_block-in-HasOne.new.pool c.args.root.now c.args.installer.now c.args.job.now
+    (g.B.Nand.state c.take_block-in-HasOne.new.board) c.in-Err-take_block.fault c.in-Err-take_block.ensures.stopped c.in-Err-take_block.ensures.failed c.take_block-in-HasOne.ensures.ready
 
 pub returns-in-Ok-prepare_root-clause-step : goal.returns-in-Ok-prepare_root-clause-step
 returns-in-Ok-prepare_root-clause-step g c =
-    let old = g.B.Nand.state c.args.board.now in
-    let new = g.B.Nand.state c.prepare_root.new.board in
-    record {
-      step = erase_step c.known.ensures c.requires.ready c.requires.may c.in-HasTwo.first c.in-HasTwo.second c.in-HasTwo.is c.shape.result.now
-          c.shape.ensures c.prepare_root.new.installer (g.B.Nand.state c.prepare_root.new.board) (sym c.erases.ensures ∙ c.if-erases.true) c.in-Ok-prepare_root.ensures.step.step;
-      calls = c.in-Ok-prepare_root.ensures.step.calls;
-      grows = subst (λ (s : Shape). Grows s old.pages new.pages) c.shape.ensures c.in-Ok-prepare_root.ensures.step.grows;
-    }
+    erase_step c.known.ensures c.requires.ready c.requires.may c.in-HasTwo.first c.in-HasTwo.second c.in-HasTwo.is c.shape.result.now
+    c.shape.ensures c.prepare_root.new.installer (g.B.Nand.state c.prepare_root.new.board) (sym c.erases.ensures ∙ c.if-erases.true) c.in-Ok-prepare_root.ensures.step
 
 pub returns-in-Err-prepare_root-clause-step : goal.returns-in-Err-prepare_root-clause-step
 returns-in-Err-prepare_root-clause-step g c =
-    let old = g.B.Nand.state c.args.board.now in
-    let new = g.B.Nand.state c.prepare_root.new.board in
-    record {
-      step = erase_broken c.known.ensures c.requires.ready c.requires.may c.in-HasTwo.first c.in-HasTwo.second c.in-HasTwo.is c.shape.result.now
-          c.shape.ensures c.args.pool.now c.args.root.now c.prepare_root.new.installer c.args.job.now
-          (g.B.Nand.state c.prepare_root.new.board) c.in-Err-prepare_root.fault c.in-Err-prepare_root.ensures.step.step;
-      calls = c.in-Err-prepare_root.ensures.step.calls;
-      grows = tt;
-    }
+    erase_broken c.known.ensures c.requires.ready c.requires.may c.in-HasTwo.first c.in-HasTwo.second c.in-HasTwo.is c.shape.result.now
+    c.shape.ensures c.args.pool.now c.args.root.now c.prepare_root.new.installer c.args.job.now
+    (g.B.Nand.state c.prepare_root.new.board) c.in-Err-prepare_root.fault c.in-Err-prepare_root.ensures.step
 
 pub returns-in-Ok-install_root-clause-step : goal.returns-in-Ok-install_root-clause-step
 returns-in-Ok-install_root-clause-step g c =
-    let old = g.B.Nand.state c.args.board.now in
-    let new = g.B.Nand.state c.install_root.new.board in
-    record {
-      step = root_step c.known.ensures c.requires.ready c.requires.may c.in-HasTwo.first c.in-HasTwo.second c.in-HasTwo.is
-          c.follow.new.root c.follow.ensures c.install_root.new.installer (g.B.Nand.state c.install_root.new.board) c.in-Ok-install_root.ensures.step.step;
-      calls = c.in-Ok-install_root.ensures.step.calls;
-      grows = subst (λ (s : Shape). Grows s old.pages new.pages) (ap (λ (h : Held). h.shape) c.follow.ensures) c.in-Ok-install_root.ensures.step.grows;
-    }
+    root_step c.known.ensures c.requires.ready c.requires.may c.in-HasTwo.first c.in-HasTwo.second c.in-HasTwo.is
+    c.follow.new.root c.follow.ensures c.install_root.new.installer (g.B.Nand.state c.install_root.new.board) c.in-Ok-install_root.ensures.step
 
 pub returns-in-Err-install_root-clause-step : goal.returns-in-Err-install_root-clause-step
 returns-in-Err-install_root-clause-step g c =
-    let old = g.B.Nand.state c.args.board.now in
-    let new = g.B.Nand.state c.install_root.new.board in
-    record {
-      step = root_broken c.known.ensures c.requires.ready c.requires.may c.in-HasTwo.first c.in-HasTwo.second c.in-HasTwo.is c.follow.new.root c.follow.ensures
-          c.args.pool.now c.follow.new.root c.install_root.new.installer c.args.job.now (g.B.Nand.state c.install_root.new.board) c.in-Err-install_root.fault c.in-Err-install_root.ensures.step.step;
-      calls = c.in-Err-install_root.ensures.step.calls;
-      grows = tt;
-    }
+    root_broken c.known.ensures c.requires.ready c.requires.may c.in-HasTwo.first c.in-HasTwo.second c.in-HasTwo.is c.follow.new.root c.follow.ensures
+    c.args.pool.now c.follow.new.root c.install_root.new.installer c.args.job.now (g.B.Nand.state c.install_root.new.board) c.in-Err-install_root.fault c.in-Err-install_root.ensures.step

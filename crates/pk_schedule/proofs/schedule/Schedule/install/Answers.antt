@@ -2,7 +2,7 @@ use Rattle.std.proofs.Common.{◌≡◌, sym, ap, ◌∙◌, arith, Ok}
 use Rattle.pk_plan.specs.declared.owner.Owner.TheVariants.{Values}
 use Rattle.pk_rootfmt.specs.Held.{Held, older_of}
 use Rattle.pk_run.specs.Kept.{Kept}
-use Rattle.pk_model.proofs.Steps.{Step-says}
+use Rattle.pk_model.proofs.Steps.{Step-says, Step-broken}
 use Rattle.pk_compact.proofs.NextRoot.{programs_then}
 use Rattle.pk_schedule.{specs.Index.Schedule, specs.Index.index, specs.Index.output}
 use Rattle.pk_schedule.proofs.Installed.{IsComplete, IsReported, ready_at, ask_prepare, ask_merge, ask_first, ask_level, ask_deep, made_prepared, first_replaces, deep_replaces, ask_release}
@@ -128,18 +128,9 @@ pub returns-in-Err-clause-step : goal.returns-in-Err-clause-step
 returns-in-Err-clause-step g c =
     let b = (goal.at.returns-in-Err-clause-step g c).After-blocks-2 in
     let once = c.in-Err.ensures.step in
-    let s = once.step in
-    let new = g.B.Nand.state c.install_merge.new.board in
     record {
-      step = record {
-        ended = tt;
-        broken = merge_breaks (merge g b) (g.B.Nand.state c.args.board.now) (reported g b) new s.broken;
-        works = tt;
-        stops = s.stops;
-        stopped = s.stopped;
-        roots_few = s.roots_few;
-        ready = s.ready;
-      };
+      step = Step-broken c.in-Err.fault _ _ _ _ _ 1 1 (g.B.Nand.state c.args.board.now) (g.B.Nand.state c.install_merge.new.board) (omega arith)
+          (merge_breaks (merge g b) (g.B.Nand.state c.args.board.now) (reported g b) (g.B.Nand.state c.install_merge.new.board)) once.step;
       calls = once.calls;
       grows = tt;
     }

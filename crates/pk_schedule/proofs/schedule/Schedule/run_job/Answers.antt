@@ -81,7 +81,7 @@ returns-in-Err-clause-broken g c =
     λ e. (
       (λ frames top found m may. broken_by _ frames (g.B.Nand.state c.args.board.now) top found m (rw (← c.self.view_is) at may) c.known.ensures c.requires.ready c.args.level
           (rw (← c.self.view_is) at c.requires.phase) c.source_of-source.result (c.source_of-source.ensures c.args.arena.now c.args.pool.now c.args.self.now) c.run-target.result.now
-          c.run-target.ensures.run (g.B.Nand.state c.step.new.board) c.step.new.self c.step.new.pool c.step.new.arena c.in-Err.fault (fault_is c.in-Err.fault _ e) c.in-Err.ensures.fails),
+          c.run-target.ensures.run (g.B.Nand.state c.step.new.board) c.step.new.self.merger c.in-Err.fault (fault_is c.in-Err.fault _ e) c.in-Err.ensures.fails),
       c.in-Err.ensures.stopped (other_answer c.in-Err.fault _ e),
     )
 
