@@ -64,7 +64,8 @@ gives_some number e (Some f) form h = tested (bytes_eq (form_entry number f) e) 
 
 gives_this : (number : ℕ) (e : List ℕ) (o : Option Form) (form : Form) → o ≡ Some form → form_entry number form ≡ e → that_gives number e o ≡ Some form
 gives_this number e o form h same =
-    let equal : bytes_eq (form_entry number form) e ≡ true = subst (λ xs. bytes_eq (form_entry number form) xs ≡ true) same ((bytes_eq-Decides (form_entry number form) (form_entry number form)).1 refl) in
+    let equal : bytes_eq (form_entry number form) e ≡ true =
+    subst (λ xs. bytes_eq (form_entry number form) xs ≡ true) same ((bytes_eq-Decides (form_entry number form) (form_entry number form)).1 refl) in
     ap (that_gives number e) h ∙ rw equal refl
 
 -- the form that a named line says is the one that the entry has

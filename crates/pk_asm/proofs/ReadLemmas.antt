@@ -7,7 +7,8 @@ use Rattle.pk_base.{specs.Fields.AreBytes, specs.Fields.padded, specs.Fields.zer
 use Rattle.pk_base.proofs.Tables.{spelled_stand, stands_byte, stands_number, length-padded, number_fits, ◌⊕◌}
 use Rattle.pk_nvme.specs.Command.{Command, command}
 use Rattle.pk_asm.{specs.Form.entry_with, specs.Form.form_entry, specs.declared.form.Form.Form}
-use Rattle.pk_asm.{proofs.FormLemmas.IsByteKey, proofs.FormLemmas.IsBare, proofs.FormLemmas.IsForm, proofs.FormLemmas.bare_form, proofs.FormLemmas.made_is, proofs.FormLemmas.picked, proofs.FormLemmas.held, proofs.FormLemmas.some_is, proofs.TextLemmas.in_first}
+use Rattle.pk_asm.{proofs.FormLemmas.IsByteKey, proofs.FormLemmas.IsBare, proofs.FormLemmas.IsForm, proofs.FormLemmas.bare_form, proofs.FormLemmas.made_is, proofs.FormLemmas.picked}
+use Rattle.pk_asm.{proofs.FormLemmas.held, proofs.FormLemmas.some_is, proofs.TextLemmas.in_first}
 use Rattle.pk_asm.specs.Printed.{candidate, key_at, store_candidate, retrieve_candidate, delete_candidate, exist_candidate, list_candidate}
 use Rattle.pk_asm.specs.declared.form.Form.TheVariants.{Store, Retrieve, Delete, Exist, ListFrom, Flush, Report, Tick}
 
