@@ -1,10 +1,10 @@
 -- Words of digits, a digit or a pair of digits at a time.
 use Rattle.std.proofs.Common.{◌≡◌, ℕ, zero, suc, ◌+◌, ◌-◌, ◌*◌, ◌%◌, ◌^◌, ◌<◌, ◌≤◌, true, false, List, [], ◌∷◌, ◌++◌, length, take, drop, get_or, refl, sym, ap, ◌∙◌, arith, Option, Some, None, Result}
-use Rattle.std.proofs.Common.{Ok, Err, subst, length-append}
+use Rattle.std.proofs.Common.{Ok, subst, length-append}
 use Rattle.std.specs.Prelude.{option_map, nat_lt, if◌then◌else◌, is_some, unwrap_or, Bool, ◌&&◌, ◌==◌, bytes_eq, codes}
+use Rattle.std.proofs.lemmas.List.{append_assoc, append-nil, drop_more, drop_all, take_all}
 use Rattle.std.{specs.Char.is_ascii_digit, specs.Char.digit_value, specs.List.list_all, specs.Result.result_ok, specs.Str.Parse.digits_value, proofs.lemmas.Bool.and_parts}
 use Rattle.std.{proofs.lemmas.Int.Digits.digits_value_more, proofs.lemmas.Str.Parse.digits_value-take-le, proofs.lemmas.Bool.Decides.nat_tests}
-use Rattle.std.proofs.lemmas.List.{append_assoc, append-nil, drop_more, drop_all, take_all}
 use Rattle.pk_nvme.{specs.Bytes.RoomyList, specs.Text.bytes_of, specs.Text.some_bytes_of}
 use Rattle.hex.specs.Hex.{decode_of, decode_pairs, pair_value, digit_or_error, hex_digit_value, is_hex_digit, ◌>>=◌}
 use Rattle.hex.{proofs.HexLemmas.decode_of-even, specs.declared.error.FromHexError.FromHexError}
@@ -63,14 +63,12 @@ value_stop ds i value digits lt e large =
 -- the byte of the values of two digits
 read_digit : Option ℕ → Option ℕ → Option ℕ
 read_digit (Some high) (Some low) = Some (high * 16 + low)
-read_digit (Some high) None = None
-read_digit None low = None
+read_digit high low = None
 
 both_digits : (a b i j : ℕ) (x y : Option ℕ) → result_ok (digit_or_error a i x >>= (λ h. digit_or_error b j y >>= (λ l. Ok (h * 16 + l)))) ≡ read_digit x y
 unfolding read_digit
 both_digits a b i j (Some h) (Some l) = refl
-both_digits a b i j (Some h) None = refl
-both_digits a b i j None y = refl
+both_digits a b i j x y = refl
 
 pair_any : (a b i j : ℕ) → result_ok (pair_value a b i) ≡ result_ok (pair_value a b j)
 pair_any a b i j = both_digits a b i (i + 1) (hex_digit_value a) (hex_digit_value b) ∙ sym (both_digits a b j (j + 1) (hex_digit_value a) (hex_digit_value b))
@@ -78,13 +76,11 @@ pair_any a b i j = both_digits a b i (i + 1) (hex_digit_value a) (hex_digit_valu
 -- the byte before the bytes that follow it
 abbrev pushed : Option ℕ → Option (List ℕ) → Option (List ℕ)
 pushed (Some byte) (Some bytes) = Some (byte ∷ bytes)
-pushed (Some byte) None = None
-pushed None bytes = None
+pushed byte bytes = None
 
 pushed_bytes : (r : Result ℕ FromHexError) (s : Result (List ℕ) FromHexError) → result_ok (r >>= (λ byte. s >>= (λ bytes. Ok (byte ∷ bytes)))) ≡ pushed (result_ok r) (result_ok s)
 pushed_bytes (Ok byte) (Ok bytes) = refl
-pushed_bytes (Ok byte) (Err e) = refl
-pushed_bytes (Err e) s = refl
+pushed_bytes r s = refl
 
 -- the bytes of pairs of digits, if they are such; the place is used in errors alone
 abbrev bytes_from : ℕ → List ℕ → Option (List ℕ)
@@ -100,14 +96,10 @@ pairs_none : (i : ℕ) → bytes_from i [] ≡ Some []
 unfolding decode_pairs
 pairs_none i = refl
 
-pairs_one : (i a : ℕ) → bytes_from i (a ∷ []) ≡ None
-unfolding decode_pairs
-pairs_one i a = refl
-
 pairs_any : (i j : ℕ) (xs : List ℕ) → bytes_from i xs ≡ bytes_from j xs
-pairs_any i j [] = pairs_none i ∙ sym (pairs_none j)
-pairs_any i j (a ∷ []) = pairs_one i a ∙ sym (pairs_one j a)
+unfolding decode_pairs
 pairs_any i j (a ∷ b ∷ rest) = pairs_step i a b rest ∙ ap (pushed (result_ok (pair_value a b 0))) (pairs_any (i + 2) (j + 2) rest) ∙ sym (pairs_step j a b rest)
+pairs_any i j xs = refl
 
 pair_step : (a b : ℕ) (rest : List ℕ) → bytes_from 0 (a ∷ b ∷ rest) ≡ pushed (result_ok (pair_value a b 0)) (bytes_from 0 rest)
 pair_step a b rest = pairs_step 0 a b rest ∙ ap (pushed (result_ok (pair_value a b 0))) (pairs_any 2 0 rest)
@@ -116,10 +108,6 @@ pushed_some : (o : Option ℕ) (byte : ℕ) (rest : Option (List ℕ)) → o ≡
 pushed_some o byte (Some bytes) e = ap (λ (p : Option ℕ). pushed p (Some bytes)) e
 pushed_some o byte None e = ap (λ (p : Option ℕ). pushed p None) e
 
--- the first n pairs of a word are these bytes
-pub record IsDecodedTo (word : List ℕ) (i : ℕ) (items : List ℕ) : Type 0 where
-  pub rest : bytes_from 0 word ≡ option_map (λ rest. items ++ rest) (bytes_from 0 (drop (2 * i) word))
-
 option_map-nothing : (o : Option (List ℕ)) → o ≡ option_map (λ rest. [] ++ rest) o
 option_map-nothing (Some xs) = refl
 option_map-nothing None = refl
@@ -127,9 +115,6 @@ option_map-nothing None = refl
 option_map-twice : (xs ys : List ℕ) (o : Option (List ℕ)) → option_map (λ rest. xs ++ rest) (option_map (λ rest. ys ++ rest) o) ≡ option_map (λ rest. (xs ++ ys) ++ rest) o
 option_map-twice xs ys (Some zs) = ap Some (sym (append_assoc xs ys zs))
 option_map-twice xs ys None = refl
-
-pub decoded_none : (word : List ℕ) → IsDecodedTo word 0 []
-decoded_none word = record { rest = option_map-nothing (bytes_from 0 word) }
 
 -- the pair at a place, and what follows it
 pair_at : (word : List ℕ) (i : ℕ) → 2 * i + 2 ≤ length word → drop (2 * i) word ≡ get_or word (2 * i) 0 ∷ get_or word (2 * i + 1) 0 ∷ drop (2 * (i + 1)) word
@@ -144,25 +129,6 @@ byte_at word i = result_ok (pair_value (get_or word (2 * i) 0) (get_or word (2 *
 bytes_at : (word : List ℕ) (i : ℕ) → 2 * i + 2 ≤ length word → bytes_from 0 (drop (2 * i) word) ≡ pushed (byte_at word i) (bytes_from 0 (drop (2 * (i + 1)) word))
 bytes_at word i room = ap (bytes_from 0) (pair_at word i room) ∙ pair_step (get_or word (2 * i) 0) (get_or word (2 * i + 1) 0) (drop (2 * (i + 1)) word)
 
-pub decoded_more : (word : List ℕ) (i : ℕ) (items : List ℕ) (byte : ℕ) → 2 * i + 2 ≤ length word → byte_at word i ≡ Some byte
-    → IsDecodedTo word i items → IsDecodedTo word (i + 1) (items ++ byte ∷ [])
-decoded_more word i items byte room e h =
-    let tail : Option (List ℕ) = bytes_from 0 (drop (2 * (i + 1)) word) in
-    let here : bytes_from 0 (drop (2 * i) word) ≡ option_map (λ r. byte ∷ [] ++ r) tail = bytes_at word i room ∙ pushed_some (byte_at word i) byte tail e in
-    record { rest = h.rest ∙ ap (option_map (λ r. items ++ r)) here ∙ option_map-twice items (byte ∷ []) tail }
-
-pub decoded_stop : (word : List ℕ) (i : ℕ) (items : List ℕ) → 2 * i + 2 ≤ length word → byte_at word i ≡ None → IsDecodedTo word i items → bytes_from 0 word ≡ None
-decoded_stop word i items room e h =
-    let tail : Option (List ℕ) = bytes_from 0 (drop (2 * (i + 1)) word) in
-    let here : bytes_from 0 (drop (2 * i) word) ≡ None = bytes_at word i room ∙ ap (λ (o : Option ℕ). pushed o tail) e in
-    h.rest ∙ ap (option_map (λ r. items ++ r)) here
-
-pub decoded_all : (word : List ℕ) (i : ℕ) (items : List ℕ) → length word ≤ 2 * i → IsDecodedTo word i items → bytes_from 0 word ≡ Some items
-decoded_all word i items all h =
-    let none : drop (2 * i) word ≡ [] = drop_all (2 * i) word all in
-    h.rest ∙ ap (λ (xs : List ℕ). option_map (λ r. items ++ r) (bytes_from 0 xs)) none ∙ ap (option_map (λ r. items ++ r)) (pairs_none 0)
-    ∙ ap Some (append-nil items)
-
 -- the same of a word of even length
 even_bytes : (word : List ℕ) → length word % 2 ≡ 0 → result_ok (decode_of word) ≡ bytes_from 0 word
 even_bytes word even = ap (λ (r : Result (List ℕ) FromHexError). result_ok r) (decode_of-even word even)
@@ -171,35 +137,35 @@ even_bytes word even = ap (λ (r : Result (List ℕ) FromHexError). result_ok r)
 pub record IsDecoding (word : List ℕ) (i room : ℕ) (value : RoomyList) : Type 0 where
   pub count : length value.items ≡ i
   pub room_stays : value.room ≡ room
-  pub decoded : IsDecodedTo word i value.items
+  pub decoded : bytes_from 0 word ≡ option_map (λ rest. value.items ++ rest) (bytes_from 0 (drop (2 * i) word))
 
 pub decoding_none : (word : List ℕ) (room : ℕ) (value : RoomyList) → value.items ≡ [] → value.room ≡ room → IsDecoding word 0 room value
-decoding_none word room value e same = record {
-  count = ap length e;
-  room_stays = same;
-  decoded = rw e (decoded_none word);
-}
+decoding_none word room value e same = record { count = ap length e; room_stays = same; decoded = rw e (option_map-nothing (bytes_from 0 word)) }
 
 pub decoding_more : (word : List ℕ) (i room : ℕ) (value after : RoomyList) (byte : ℕ) → 2 * i + 2 ≤ length word → byte_at word i ≡ Some byte
     → after ≡ record value { items = value.items ++ byte ∷ [] } → IsDecoding word i room value → IsDecoding word (i + 1) room after
 decoding_more word i room value after byte fits e change h =
-    let made : IsDecoding word (i + 1) room (record value { items = value.items ++ byte ∷ [] }) = record {
+    let tail : Option (List ℕ) = bytes_from 0 (drop (2 * (i + 1)) word) in
+    let here : bytes_from 0 (drop (2 * i) word) ≡ option_map (λ r. byte ∷ [] ++ r) tail = bytes_at word i fits ∙ pushed_some (byte_at word i) byte tail e in
+    subst (λ (v : RoomyList). IsDecoding word (i + 1) room v) (sym change) (record {
       count = omega (arith, length-append value.items (byte ∷ []), h.count);
       room_stays = h.room_stays;
-      decoded = decoded_more word i value.items byte fits e h.decoded;
-    } in
-    subst (λ (v : RoomyList). IsDecoding word (i + 1) room v) (sym change) made
+      decoded = h.decoded ∙ ap (option_map (λ r. value.items ++ r)) here ∙ option_map-twice value.items (byte ∷ []) tail;
+    })
 
 -- at a pair that is none
 pub decoding_stop : (word : List ℕ) (i room : ℕ) (value : RoomyList) → length word % 2 ≡ 0 → 2 * i + 2 ≤ length word → byte_at word i ≡ None
     → IsDecoding word i room value → false ≡ is_some (result_ok (decode_of word))
 decoding_stop word i room value even fits e h =
-    sym (ap (λ (o : Option (List ℕ)). is_some o) (even_bytes word even ∙ decoded_stop word i value.items fits e h.decoded))
+    let here : bytes_from 0 (drop (2 * i) word) ≡ None = bytes_at word i fits ∙ ap (λ (o : Option ℕ). pushed o (bytes_from 0 (drop (2 * (i + 1)) word))) e in
+    sym (ap (λ (o : Option (List ℕ)). is_some o) (even_bytes word even ∙ h.decoded ∙ ap (option_map (λ r. value.items ++ r)) here))
 
 -- at the end
 pub decoding_all : (word : List ℕ) (i room : ℕ) (value : RoomyList) → length word % 2 ≡ 0 → length word ≤ 2 * i → IsDecoding word i room value
     → result_ok (decode_of word) ≡ Some value.items
-decoding_all word i room value even all h = even_bytes word even ∙ decoded_all word i value.items all h.decoded
+decoding_all word i room value even all h =
+    even_bytes word even ∙ h.decoded ∙ ap (λ (xs : List ℕ). option_map (λ r. value.items ++ r) (bytes_from 0 xs)) (drop_all (2 * i) word all)
+    ∙ ap (option_map (λ r. value.items ++ r)) (pairs_none 0) ∙ ap Some (append-nil value.items)
 
 pub decoding_read : (word : List ℕ) (i room : ℕ) (value : RoomyList) → length word % 2 ≡ 0 → length word ≤ 2 * i → IsDecoding word i room value
     → true ≡ is_some (result_ok (decode_of word))
@@ -217,9 +183,7 @@ one_decodes : (a b i j : ℕ) (x y : Option ℕ) (rest : Result (List ℕ) FromH
     → is_some (result_ok ((digit_or_error a i x >>= (λ h. digit_or_error b j y >>= (λ l. Ok (h * 16 + l)))) >>= (λ byte. rest >>= (λ bytes. Ok (byte ∷ bytes)))))
     ≡ is_some x && (is_some y && is_some (result_ok rest))
 one_decodes a b i j (Some h) (Some l) (Ok bytes) = refl
-one_decodes a b i j (Some h) (Some l) (Err e) = refl
-one_decodes a b i j (Some h) None rest = refl
-one_decodes a b i j None y rest = refl
+one_decodes a b i j x y rest = refl
 
 pairs_decode : (i : ℕ) (text : List ℕ) → length text % 2 ≡ 0 → is_some (result_ok (decode_pairs i text)) ≡ list_all is_hex_digit text
 unfolding decode_pairs

@@ -1,31 +1,15 @@
 -- What is printed, and that it is assembled to the same.
 use Rattle.std.proofs.Common.{◌≡◌, ℕ, suc, ◌^◌, ◌<◌, ◌≤◌, Bool, true, false, cond, List, [], ◌∷◌, ◌++◌, length, get_or, refl, sym, ap, ◌∙◌, subst, arith, Option, Some, None}
-use Rattle.std.{specs.Prelude.nat_eq, specs.Prelude.◌==◌, specs.Prelude.◌||◌, specs.Prelude.codes, specs.Prelude.bytes_eq, specs.Prelude.option_map, proofs.lemmas.Bool.and_parts}
 use Rattle.std.proofs.lemmas.Bool.Decides.{nat_tests}
+use Rattle.std.{specs.Prelude.◌==◌, specs.Prelude.◌||◌, specs.Prelude.codes, specs.Prelude.bytes_eq, specs.Prelude.option_map, proofs.lemmas.Slice.Eq.bytes_eq-Decides}
 use Rattle.pk_base.specs.Fields.{AreBytes}
 use Rattle.pk_nvme.{specs.Command.command, specs.Text.hex_text, specs.Text.bytes_text}
 use Rattle.pk_asm.{specs.Words.words, specs.Form.form_entry, specs.Line.says, specs.Line.entry_said, specs.Line.raw_of, specs.Line.entry, specs.declared.form.Form.Form}
 use Rattle.pk_asm.specs.Printed.{behind_blanks, line_of, form_line, raw_line, candidate, that_gives, form_that_gives, line_for, printed, IsSaid, Prints}
-use Rattle.pk_asm.specs.declared.form.Form.TheVariants.{Store, Retrieve, Delete, Exist, ListFrom, Flush, Report, Tick}
-use Rattle.pk_asm.{proofs.LineLemmas.says_entry, proofs.LineLemmas.said_named, proofs.ReadLemmas.candidate_of, proofs.ReadLemmas.candidate_is}
+use Rattle.pk_asm.specs.declared.form.Form.TheVariants.{Store}
 use Rattle.pk_asm.proofs.TextLemmas.{words-line_of, hex_entry-text, bytes_of-text, free_hex, free_bytes}
 use Rattle.pk_asm.proofs.FormLemmas.{IsForm, named_is, form_name, form_operands, form_words-parts, name_free, operands_free, form_said}
-
--- ---- equal lists of bytes
-
-eq_same : (xs ys : List ℕ) → bytes_eq xs ys ≡ true → xs ≡ ys
-eq_same [] [] e = refl
-eq_same [] (y ∷ ys) e = cc
-eq_same (x ∷ xs) [] e = cc
-eq_same (x ∷ xs) (y ∷ ys) e =
-    let parts = and_parts (nat_eq x y) (bytes_eq xs ys) e in
-    let head : x ≡ y = let t = parts.0 in grind (arith, nat_tests) in
-    let tail = eq_same xs ys parts.1 in
-    ap (λ (z : ℕ). z ∷ xs) head ∙ ap (λ (zs : List ℕ). y ∷ zs) tail
-
-eq_refl : (xs : List ℕ) → bytes_eq xs xs ≡ true
-eq_refl [] = refl
-eq_refl (x ∷ xs) = let here : nat_eq x x ≡ true = grind (arith, nat_tests) in rw (here, eq_refl xs) refl
+use Rattle.pk_asm.{proofs.LineLemmas.says_entry, proofs.LineLemmas.said_named, proofs.ReadLemmas.candidate_of, proofs.ReadLemmas.candidate_is}
 
 -- ---- what the lines say
 
@@ -34,23 +18,11 @@ begun n b other = let some : (suc n == 0) ≡ false = grind (arith, nat_tests) i
 
 no_comment : (form : Form) (rest : List ℕ) → (length (form_name form ++ rest) == 0 || get_or (form_name form ++ rest) 0 0 == 35) ≡ false
 no_comment (Store key size options) rest = begun _ _ refl
-no_comment (Retrieve key size) rest = begun _ _ refl
-no_comment (Delete key) rest = begun _ _ refl
-no_comment (Exist key) rest = begun _ _ refl
-no_comment (ListFrom from size) rest = begun _ _ refl
-no_comment Flush rest = begun _ _ refl
-no_comment Report rest = begun _ _ refl
-no_comment (Tick steps) rest = begun _ _ refl
+no_comment form rest = begun _ _ refl
 
 no_raw : (form : Form) → bytes_eq (form_name form) (codes "raw") ≡ false
 no_raw (Store key size options) = refl
-no_raw (Retrieve key size) = refl
-no_raw (Delete key) = refl
-no_raw (Exist key) = refl
-no_raw (ListFrom from size) = refl
-no_raw Flush = refl
-no_raw Report = refl
-no_raw (Tick steps) = refl
+no_raw form = refl
 
 says_form : (number : ℕ) (form : Form) (bytes : List ℕ) → IsForm form bytes → AreBytes bytes → length (form_line form bytes) ≤ 2200000
     → says number (form_line form bytes) ≡ Some (entry (form_entry number form) bytes)
@@ -87,12 +59,13 @@ gives_some number e (Some f) form h = tested (bytes_eq (form_entry number f) e) 
     tested : (b : Bool) → bytes_eq (form_entry number f) e ≡ b → cond b (Some f) None ≡ Some form → (Some f ≡ Some form) × (form_entry number form ≡ e)
     tested true is held =
         let same : f ≡ form = cc in
-        (held, ap (form_entry number) (sym same) ∙ eq_same (form_entry number f) e is)
+        (held, ap (form_entry number) (sym same) ∙ (bytes_eq-Decides (form_entry number f) e).0 is)
     tested false is held = cc
 
 gives_this : (number : ℕ) (e : List ℕ) (o : Option Form) (form : Form) → o ≡ Some form → form_entry number form ≡ e → that_gives number e o ≡ Some form
 gives_this number e o form h same =
-    let equal : bytes_eq (form_entry number form) e ≡ true = subst (λ xs. bytes_eq (form_entry number form) xs ≡ true) same (eq_refl (form_entry number form)) in
+    let equal : bytes_eq (form_entry number form) e ≡ true =
+    subst (λ xs. bytes_eq (form_entry number form) xs ≡ true) same ((bytes_eq-Decides (form_entry number form) (form_entry number form)).1 refl) in
     ap (that_gives number e) h ∙ rw equal refl
 
 -- the form that a named line says is the one that the entry has
@@ -105,13 +78,7 @@ said_by form bytes h fits few = record { name = form_name form; operands = form_
 
 few_bytes : (form : Form) (bytes : List ℕ) → IsForm form bytes → length bytes < 2 ^ 32
 few_bytes (Store key size options) bytes h = omega (arith, h.1, h.2)
-few_bytes (Retrieve key size) bytes h = let none = ap length h.2 in omega arith
-few_bytes (Delete key) bytes h = let none = ap length h.1 in omega arith
-few_bytes (Exist key) bytes h = let none = ap length h.1 in omega arith
-few_bytes (ListFrom from size) bytes h = let none = ap length h.2 in omega arith
-few_bytes Flush bytes h = let none = ap length h in omega arith
-few_bytes Report bytes h = let none = ap length h in omega arith
-few_bytes (Tick steps) bytes h = let none = ap length h.1 in omega arith
+few_bytes form bytes h = let none = ap length h.0 in omega arith
 
 prints_form : (number : ℕ) (e bytes : List ℕ) (form : Form) → length e ≡ 64 → AreBytes e → AreBytes bytes
     → that_gives number e (candidate (command e bytes)) ≡ Some form → Prints number e bytes (form_line form bytes)

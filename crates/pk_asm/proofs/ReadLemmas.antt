@@ -1,13 +1,14 @@
 -- The fields of an entry that a form gives, read again.
 use Rattle.std.proofs.Common.{◌≡◌, ℕ, zero, suc, ◌+◌, ◌-◌, ◌%◌, ◌^◌, ◌<◌, ◌≤◌, Bool, true, false, cond, List, [], ◌∷◌, ◌++◌, length, take, drop, refl, sym, ap, ◌∙◌, subst, arith, Option, Some, None}
-use Rattle.std.proofs.Common.{length-append, length-drop}
+use Rattle.std.proofs.Common.{eq-eqb, length-append, length-drop}
 use Rattle.std.proofs.lemmas.List.{take_at, take_all, take-append-drop, length-take-le, get_or-drop}
 use Rattle.std.{specs.Prelude.nat_le, specs.Prelude.◌==◌, specs.Prelude.◌&&◌, specs.Prelude.not, specs.Prelude.option_map, proofs.lemmas.Bool.and_parts, proofs.lemmas.Bool.Decides.nat_tests}
 use Rattle.pk_base.{specs.Fields.AreBytes, specs.Fields.padded, specs.Fields.zeros, specs.Fields.u16, specs.Fields.u32, specs.Key.Key, specs.Key.IsKey, specs.Key.bytes_of, specs.Key.space_of}
 use Rattle.pk_base.proofs.Tables.{spelled_stand, stands_byte, stands_number, length-padded, number_fits, ◌⊕◌}
 use Rattle.pk_nvme.specs.Command.{Command, command}
 use Rattle.pk_asm.{specs.Form.entry_with, specs.Form.form_entry, specs.declared.form.Form.Form}
-use Rattle.pk_asm.{proofs.FormLemmas.IsByteKey, proofs.FormLemmas.IsForm, proofs.FormLemmas.picked, proofs.FormLemmas.held, proofs.FormLemmas.some_is, proofs.TextLemmas.in_first}
+use Rattle.pk_asm.{proofs.FormLemmas.IsByteKey, proofs.FormLemmas.IsBare, proofs.FormLemmas.IsForm, proofs.FormLemmas.bare_form, proofs.FormLemmas.made_is, proofs.FormLemmas.picked}
+use Rattle.pk_asm.{proofs.FormLemmas.held, proofs.FormLemmas.some_is, proofs.TextLemmas.in_first}
 use Rattle.pk_asm.specs.Printed.{candidate, key_at, store_candidate, retrieve_candidate, delete_candidate, exist_candidate, list_candidate}
 use Rattle.pk_asm.specs.declared.form.Form.TheVariants.{Store, Retrieve, Delete, Exist, ListFrom, Flush, Report, Tick}
 
@@ -58,46 +59,33 @@ key_read key h first =
     let whole : take (length bytes) (padded 16 bytes) ≡ bytes = take_at bytes (zeros (16 - length bytes)) (length bytes) refl in
     rw (some, most) (ap (λ (xs : List ℕ). Some (1 ∷ xs)) whole ∙ ap Some (in_first key h first))
 
-same_number : (n m : ℕ) → n ≡ m → (n == m) ≡ true
-same_number n m e = grind (arith, nat_tests)
+-- without bytes
+bare_candidate : (number : ℕ) (form : Form) → IsBare form → candidate (command (form_entry number form) []) ≡ Some form
+unfolding candidate
+bare_candidate number (Store key size options) h = absurd h
+bare_candidate number (Retrieve key size) h =
+    let f = fields_of number 0x02 (bytes_of key) size 0 [] h.0.is_key.most h.1 in
+    rw (f.opcode_is, f.key_len_is, f.key_bytes_is, f.size_is, key_read key h.0.is_key h.0.first) refl
+bare_candidate number (Delete key) h =
+    let f = fields_of number 0x10 (bytes_of key) 0 0 [] h.is_key.most (omega arith) in rw (f.opcode_is, f.key_len_is, f.key_bytes_is, key_read key h.is_key h.first) refl
+bare_candidate number (Exist key) h =
+    let f = fields_of number 0x14 (bytes_of key) 0 0 [] h.is_key.most (omega arith) in rw (f.opcode_is, f.key_len_is, f.key_bytes_is, key_read key h.is_key h.first) refl
+bare_candidate number (ListFrom None size) h = let f = fields_of number 0x06 [] size 0 [] (omega arith) h.1 in rw (f.opcode_is, f.key_len_is, f.size_is) refl
+bare_candidate number (ListFrom (Some key) size) h =
+    let f = fields_of number 0x06 (bytes_of key) size 0 [] h.0.is_key.most h.1 in
+    let some : (length (bytes_of key) == 0) ≡ false = let le = h.0.is_key.some in grind (arith, nat_tests) in
+    rw (f.opcode_is, f.key_len_is, f.key_bytes_is, f.size_is, some, key_read key h.0.is_key h.0.first) refl
+bare_candidate number Flush h = let f = fields_of number 0x00 [] 0 0 [] (omega arith) (omega arith) in rw f.opcode_is refl
+bare_candidate number Report h = let f = fields_of number 0xC2 [] 0 0 [] (omega arith) (omega arith) in rw f.opcode_is refl
+bare_candidate number (Tick steps) h = let f = fields_of number 0xC0 [] steps 0 [] (omega arith) h in rw (f.opcode_is, f.size_is) refl
 
 pub candidate_of : (number : ℕ) (form : Form) (bytes : List ℕ) → IsForm form bytes → candidate (command (form_entry number form) bytes) ≡ Some form
 unfolding candidate
 candidate_of number (Store key size options) bytes h =
     let f = fields_of number 1 (bytes_of key) size options bytes h.0.is_key.most h.2 in
-    let sized = same_number size (length bytes) h.1 in
     let few : nat_le options 3 ≡ true = let lt = h.3 in grind (arith, nat_tests) in
-    rw (f.opcode_is, f.key_len_is, f.key_bytes_is, f.size_is, f.options_is, sized, few, key_read key h.0.is_key h.0.first) refl
-candidate_of number (Retrieve key size) bytes h =
-    let f = fields_of number 0x02 (bytes_of key) size 0 [] h.0.is_key.most h.1 in
-    subst (λ xs. candidate (command (form_entry number (Retrieve key size)) xs) ≡ Some (Retrieve key size)) (sym h.2)
-    (rw (f.opcode_is, f.key_len_is, f.key_bytes_is, f.size_is, key_read key h.0.is_key h.0.first) refl)
-candidate_of number (Delete key) bytes h =
-    let f = fields_of number 0x10 (bytes_of key) 0 0 [] h.0.is_key.most (omega arith) in
-    subst (λ xs. candidate (command (form_entry number (Delete key)) xs) ≡ Some (Delete key)) (sym h.1)
-    (rw (f.opcode_is, f.key_len_is, f.key_bytes_is, key_read key h.0.is_key h.0.first) refl)
-candidate_of number (Exist key) bytes h =
-    let f = fields_of number 0x14 (bytes_of key) 0 0 [] h.0.is_key.most (omega arith) in
-    subst (λ xs. candidate (command (form_entry number (Exist key)) xs) ≡ Some (Exist key)) (sym h.1)
-    (rw (f.opcode_is, f.key_len_is, f.key_bytes_is, key_read key h.0.is_key h.0.first) refl)
-candidate_of number (ListFrom None size) bytes h =
-    let f = fields_of number 0x06 [] size 0 [] (omega arith) h.1 in
-    subst (λ xs. candidate (command (form_entry number (ListFrom None size)) xs) ≡ Some (ListFrom None size)) (sym h.2)
-    (rw (f.opcode_is, f.key_len_is, f.size_is) refl)
-candidate_of number (ListFrom (Some key) size) bytes h =
-    let f = fields_of number 0x06 (bytes_of key) size 0 [] h.0.is_key.most h.1 in
-    let some : (length (bytes_of key) == 0) ≡ false = let le = h.0.is_key.some in grind (arith, nat_tests) in
-    subst (λ xs. candidate (command (form_entry number (ListFrom (Some key) size)) xs) ≡ Some (ListFrom (Some key) size)) (sym h.2)
-    (rw (f.opcode_is, f.key_len_is, f.key_bytes_is, f.size_is, some, key_read key h.0.is_key h.0.first) refl)
-candidate_of number Flush bytes h =
-    let f = fields_of number 0x00 [] 0 0 [] (omega arith) (omega arith) in
-    subst (λ xs. candidate (command (form_entry number Flush) xs) ≡ Some Flush) (sym h) (rw f.opcode_is refl)
-candidate_of number Report bytes h =
-    let f = fields_of number 0xC2 [] 0 0 [] (omega arith) (omega arith) in
-    subst (λ xs. candidate (command (form_entry number Report) xs) ≡ Some Report) (sym h) (rw f.opcode_is refl)
-candidate_of number (Tick steps) bytes h =
-    let f = fields_of number 0xC0 [] steps 0 [] (omega arith) h.0 in
-    subst (λ xs. candidate (command (form_entry number (Tick steps)) xs) ≡ Some (Tick steps)) (sym h.1) (rw (f.opcode_is, f.size_is) refl)
+    rw (f.opcode_is, f.key_len_is, f.key_bytes_is, f.size_is, f.options_is, eq-eqb size (length bytes) h.1, few, key_read key h.0.is_key h.0.first) refl
+candidate_of number form bytes h = subst (λ xs. candidate (command (form_entry number form) xs) ≡ Some form) (sym h.0) (bare_candidate number form h.1)
 
 -- ---- a candidate is a form
 
@@ -141,11 +129,11 @@ no_bytes : (bytes : List ℕ) → not (length bytes == 0) ≡ false → bytes �
 no_bytes [] e = refl
 no_bytes (x ∷ xs) e = let some : (suc (length xs) == 0) ≡ false = grind (arith, nat_tests) in cc
 
-list_candidate_is : (key_len : ℕ) (place : List ℕ) (size : ℕ) (form : Form) → length place ≡ 16 → AreBytes place → size < 2 ^ 32 → list_candidate key_len place size ≡ Some form → IsForm form []
+list_candidate_is : (key_len : ℕ) (place : List ℕ) (size : ℕ) (form : Form) → length place ≡ 16 → AreBytes place → size < 2 ^ 32 → list_candidate key_len place size ≡ Some form → IsBare form
 list_candidate_is key_len place size form full fits small is =
-    picked (IsForm form []) (key_len == 0) (Some (ListFrom None size)) (option_map (λ k. ListFrom (Some k) size) (key_at key_len place)) form is
-    (λ h. let same : ListFrom None size ≡ form = cc in subst (λ f. IsForm f []) same (tt, small, refl))
-    (λ h. let m = some_is (λ k. ListFrom (Some k) size) (key_at key_len place) form h in subst (λ f. IsForm f []) m.2 (key_at_is key_len place m.0 full fits m.1, small, refl))
+    picked (IsBare form) (key_len == 0) (Some (ListFrom None size)) (option_map (λ k. ListFrom (Some k) size) (key_at key_len place)) form is
+    (λ h. let same : ListFrom None size ≡ form = cc in subst IsBare same (tt, small))
+    (λ h. made_is (λ k. ListFrom (Some k) size) (key_at key_len place) form h (λ k e. (key_at_is key_len place k full fits e, small)))
 
 plain_candidate : (opcode key_len : ℕ) (place : List ℕ) (size : ℕ) (form : Form) → length place ≡ 16 → AreBytes place → size < 2 ^ 32
     → cond (opcode == 0x02) (retrieve_candidate key_len place size)
@@ -153,20 +141,17 @@ plain_candidate : (opcode key_len : ℕ) (place : List ℕ) (size : ℕ) (form :
     (cond (opcode == 0x14) (exist_candidate key_len place)
     (cond (opcode == 0x06) (list_candidate key_len place size)
     (cond (opcode == 0x00) (Some Flush) (cond (opcode == 0xC2) (Some Report) (cond (opcode == 0xC0) (Some (Tick size)) None)))))) ≡ Some form
-    → IsForm form []
+    → IsBare form
 plain_candidate opcode key_len place size form full fits small is =
-    let P : Type 0 = IsForm form [] in
+    let P : Type 0 = IsBare form in
     let key_of : (key : Key) → key_at key_len place ≡ Some key → IsByteKey key = λ key h. key_at_is key_len place key full fits h in
-    picked P (opcode == 0x02) (retrieve_candidate key_len place size) _ form is
-    (λ h. let m = some_is (λ k. Retrieve k size) (key_at key_len place) form h in subst (λ f. IsForm f []) m.2 (key_of m.0 m.1, small, refl)) (λ e1.
-    picked P (opcode == 0x10) (delete_candidate key_len place) _ form e1
-    (λ h. let m = some_is Delete (key_at key_len place) form h in subst (λ f. IsForm f []) m.2 (key_of m.0 m.1, refl)) (λ e2.
-    picked P (opcode == 0x14) (exist_candidate key_len place) _ form e2
-    (λ h. let m = some_is Exist (key_at key_len place) form h in subst (λ f. IsForm f []) m.2 (key_of m.0 m.1, refl)) (λ e3.
+    picked P (opcode == 0x02) (retrieve_candidate key_len place size) _ form is (λ h. made_is (λ k. Retrieve k size) (key_at key_len place) form h (λ k e. (key_of k e, small))) (λ e1.
+    picked P (opcode == 0x10) (delete_candidate key_len place) _ form e1 (λ h. made_is Delete (key_at key_len place) form h key_of) (λ e2.
+    picked P (opcode == 0x14) (exist_candidate key_len place) _ form e2 (λ h. made_is Exist (key_at key_len place) form h key_of) (λ e3.
     picked P (opcode == 0x06) (list_candidate key_len place size) _ form e3 (list_candidate_is key_len place size form full fits small) (λ e4.
-    picked P (opcode == 0x00) (Some Flush) _ form e4 (λ h. let same : Flush ≡ form = cc in subst (λ f. IsForm f []) same refl) (λ e5.
-    picked P (opcode == 0xC2) (Some Report) _ form e5 (λ h. let same : Report ≡ form = cc in subst (λ f. IsForm f []) same refl) (λ e6.
-    let h = (held (opcode == 0xC0) (Some (Tick size)) form e6).1 in let same : Tick size ≡ form = cc in subst (λ f. IsForm f []) same (small, refl)))))))
+    picked P (opcode == 0x00) (Some Flush) _ form e4 (λ h. let same : Flush ≡ form = cc in subst IsBare same tt) (λ e5.
+    picked P (opcode == 0xC2) (Some Report) _ form e5 (λ h. let same : Report ≡ form = cc in subst IsBare same tt) (λ e6.
+    let h = (held (opcode == 0xC0) (Some (Tick size)) form e6).1 in let same : Tick size ≡ form = cc in subst IsBare same small))))))
 
 pub candidate_is : (e bytes : List ℕ) (form : Form) → length e ≡ 64 → AreBytes e → candidate (command e bytes) ≡ Some form → IsForm form bytes
 unfolding candidate
@@ -186,4 +171,4 @@ candidate_is e bytes form sized fits is =
     subst (λ f. IsForm f bytes) m.2 (key_at_is c.key_len place m.0 full of_bytes m.1, same, small, few))
     (λ more.
     let rest = unheld (not (length bytes == 0)) _ form more in
-    subst (λ xs. IsForm form xs) (sym (no_bytes bytes rest.0)) (plain_candidate c.opcode c.key_len place c.size form full of_bytes small rest.1))
+    bare_form form bytes (no_bytes bytes rest.0) (plain_candidate c.opcode c.key_len place c.size form full of_bytes small rest.1))

@@ -3,4 +3,3 @@ pub mod SaidLemmas
 pub mod ReportLemmas
 pub mod RankLemmas
 pub mod ListLemmas
-pub mod PieceLemmas

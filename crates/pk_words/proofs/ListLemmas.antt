@@ -9,7 +9,7 @@ use Rattle.pk_nand.specs.Calls.{Rose}
 use Rattle.pk_nvme.{specs.Command.Command, specs.Command.key_or_none, specs.declared.opcode.Opcode.TheVariants.Exist}
 use Rattle.pk_nvme.specs.declared.status.TheConstants.{KEY_DOES_NOT_EXIST, UNRECOVERED_ERROR}
 use Rattle.pk_model.proofs.MapLemmas.{key_total, key_antisymm}
-use Rattle.pk_host.{specs.declared.types.HostError.HostError, specs.declared.types.HostError.TheVariants.Refused, specs.declared.types.HostError.TheVariants.Port, specs.Port.PortState}
+use Rattle.pk_host.{specs.declared.types.HostError.HostError, specs.declared.types.HostError.TheVariants.Refused, specs.Port.PortState}
 use Rattle.pk_host.{specs.Calls.IsOwnKey, specs.Calls.exist_of, specs.Outcomes.Gives, specs.Outcomes.Tests, specs.Outcomes.existed, proofs.PageLemmas.next_page, proofs.PageLemmas.nothing_above}
 use Rattle.pk_host.{specs.Listing.above, specs.Listing.Pages, specs.Listing.Follows, specs.Listing.TellsKeys, specs.Listing.listed_by, proofs.CommandLemmas.keyed_fault, proofs.CommandLemmas.exist_by}
 use Rattle.pk_host.proofs.RisingLemmas.{all_middle, snoc_of, keys_rising, second_above}
@@ -25,8 +25,7 @@ not_below a b e = by (key_cmp a b) refl e
   where
     by : (o : Ordering) → key_cmp a b ≡ o → is_lt o ≡ true → is_lt (key_cmp b a) ≡ false
     by Less is e = ap is_lt (key_total.antisymm b a ∙ ap ordering_reverse is)
-    by Equal is e = cc
-    by Greater is e = cc
+    by o is e = cc
 
 -- of keys above a key, none is missing
 all_kept : (key : Key) (ks : List Key) → AllByRecursion (λ k. is_lt (key_cmp key k) ≡ true) ks
@@ -41,8 +40,7 @@ all_kept key (k ∷ ks) h =
 -- nor is the key among them
 none_by : (key : Key) (e : Key × List ℕ) (es : List (Key × List ℕ)) (o : Ordering) → find key_cmp key es ≡ None → key_cmp key e.0 ≡ o → is_lt o ≡ true → find key_cmp key (e ∷ es) ≡ None
 none_by key e es Less rest is l = ap (λ o. cond (is_eq o) (Some e.1) (find key_cmp key es)) is ∙ rest
-none_by key e es Equal rest is l = cc
-none_by key e es Greater rest is l = cc
+none_by key e es o rest is l = cc
 
 none_found : (key : Key) (es : List (Key × List ℕ)) → AllByRecursion (λ k. is_lt (key_cmp key k) ≡ true) (map (λ e. e.0) es) → find key_cmp key es ≡ None
 none_found key [] h = refl
@@ -82,8 +80,7 @@ module _ (key : Key) (e : Key × List ℕ) (es : List (Key × List ℕ)) where
     where
       by : (o : Ordering) → key_cmp e.0 key ≡ o → is_lt o ≡ true → key_cmp key e.0 ≡ Greater
       by Less is l = key_total.antisymm key e.0 ∙ ap ordering_reverse is
-      by Equal is l = cc
-      by Greater is l = cc
+      by o is l = cc
 
   -- it is not
   split_above : (o : Ordering) → key_cmp key e.0 ≡ o → is_lt (key_cmp e.0 key) ≡ false → IsRising (names (e ∷ es)) → Splits
@@ -170,59 +167,47 @@ says_end old new o more text stop follows known none m told =
 
 -- a page that was given has a key
 pub page_some : (old new : PortState) (c : Command) (page : List Key) (more : Bool) → more ≡ true → Gives old new c (listed_by page) (Ok more) → 0 < length page
-page_some old new c page more yes_more (inr fault) = absurd (let clash : ◌≡◌ {A = Result Bool HostError} (Ok more) (Err Port) = fault.0 in cc)
+page_some old new c page more yes_more (inr fault) = absurd (cc fault.0)
 page_some old new c page more yes_more (inl (a, x, e)) =
     elim (a.status == 0) as (λ b. (Ok more ≡ (if b then Ok (nat_lt 0 (length page)) else Err (Refused a.status))) → 0 < length page) [
       | true ↦ λ h. ltb-true 0 (length page) (let same : more ≡ nat_lt 0 (length page) = cc in sym same ∙ yes_more)
-      | false ↦ λ h. absurd (let clash : ◌≡◌ {A = Result Bool HostError} (Ok more) (Err (Refused a.status)) = h in cc)
+      | false ↦ λ h. cc
     ] e
 
 -- ---- the key at which a list begins
 
-pub says_there : (old : PortState) (key : Key) (there : Bool) (text : List ℕ) → there ≡ true → Tests old key there → text ≡ key_line key → Continues old (From key) (After key) text
-says_there old key there text yes_there tests spelled = record {
-  lines = λ m told. (
-    key ∷ [],
-    keys_from_split key m ∙ ap (λ b. (if b then key ∷ [] else []) ++ above key (keys m)) (sym (tests m told) ∙ yes_there),
-    spelled ∙ sym (append-nil (key_line key)),
-  );
+says_key : (old : PortState) (key : Key) (there : Bool) (page : List Key) (text : List ℕ) → (if there then key ∷ [] else []) ≡ page → Tests old key there → text ≡ key_lines page
+    → Continues old (From key) (After key) text
+says_key old key there page text is tests spelled = record {
+  lines = λ m told. (page, keys_from_split key m ∙ ap (λ b. (if b then key ∷ [] else []) ++ above key (keys m)) (sym (tests m told)) ∙ ap (λ ks. ks ++ above key (keys m)) is, spelled);
   falls = omega arith;
 }
+
+pub says_there : (old : PortState) (key : Key) (there : Bool) (text : List ℕ) → there ≡ true → Tests old key there → text ≡ key_line key → Continues old (From key) (After key) text
+says_there old key there text e tests spelled = says_key old key there (key ∷ []) text (ap (λ b. if b then key ∷ [] else []) e) tests (spelled ∙ sym (append-nil (key_line key)))
 
 pub says_missing : (old : PortState) (key : Key) (there : Bool) (text : List ℕ) → there ≡ false → Tests old key there → text ≡ [] → Continues old (From key) (After key) text
-says_missing old key there text not_there tests spelled = record {
-  lines = λ m told. (
-    [],
-    keys_from_split key m ∙ ap (λ b. (if b then key ∷ [] else []) ++ above key (keys m)) (sym (tests m told) ∙ not_there),
-    spelled,
-  );
-  falls = omega arith;
-}
-
-err_same : (e f : HostError) → ◌≡◌ {A = Result Bool HostError} (Err e) (Err f) → e ≡ f
-err_same e f h = cc
+says_missing old key there text e tests spelled = says_key old key there [] text (ap (λ b. if b then key ∷ [] else []) e) tests spelled
 
 abbrev Found : PortState → PortState → Key → List ℕ → Map → Type 0
 Found old new key text m = ((text ≡ []) × (keys_left (From key) m ≡ [])) ⊎ (Rose old.read_faults new.read_faults × (text ≡ failed_line))
 
-refused_same : (s t : ℕ) → Refused s ≡ Refused t → s ≡ t
-refused_same s t h = cc
-
 -- why a look at a key has no answer
 pub exist_failed : (old new : PortState) (key : Key) (error : HostError) (status : ℕ) (text : List ℕ) → error ≡ Refused status → IsKey key → Gives old new (exist_of key) existed (Err error)
     → text ≡ status_line status → ListEnds old new (From key) text
-exist_failed old new key error status text is is_key (inr fault) spelled m told = absurd (let clash : Refused status ≡ Port = sym is ∙ err_same error Port fault.0 in cc)
+exist_failed old new key error status text is is_key (inr fault) spelled m told = absurd (cc (is, fault.0))
 exist_failed old new key error status text is is_key (inl (a, x, e)) spelled m told =
     elim (a.status == 0) as (λ b. (a.status == 0) ≡ b
     → ◌≡◌ {A = Result Bool HostError} (Err error) (if b then Ok true else if a.status == KEY_DOES_NOT_EXIST then Ok false else Err (Refused a.status)) → Found old new key text m) [
-      | true ↦ λ z h. absurd (let clash : ◌≡◌ {A = Result Bool HostError} (Err error) (Ok true) = h in cc)
+      | true ↦ λ z h. cc
       | false ↦ λ z g. elim (a.status == KEY_DOES_NOT_EXIST) as (λ b. (a.status == KEY_DOES_NOT_EXIST) ≡ b
           → ◌≡◌ {A = Result Bool HostError} (Err error) (if b then Ok false else Err (Refused a.status)) → Found old new key text m) [
-            | true ↦ λ y h. absurd (let clash : ◌≡◌ {A = Result Bool HostError} (Err error) (Ok false) = h in cc)
+            | true ↦ λ y h. cc
             | false ↦ λ y h.
                 let s = x.answers m told in
                 let read : a.status ≡ UNRECOVERED_ERROR = keyed_fault old.shape old.limit s.frames m
                 (exist_of key) Exist refl s.within.alone a s.left refl (exist_by old.shape old.limit m key is_key s.within.alone) (λ own. refl) z y s.stepped in
-                inr (x.unread read, spelled ∙ ap status_line (refused_same status a.status (sym is ∙ err_same error (Refused a.status) h) ∙ read))
+                let same : status ≡ a.status = cc in
+                inr (x.unread read, spelled ∙ ap status_line (same ∙ read))
           ] refl g
     ] refl e

@@ -1,16 +1,10 @@
 -- A key's number rises with it.
-use Rattle.std.proofs.Common.{◌≡◌, ℕ, zero, suc, ◌+◌, ◌-◌, ◌*◌, ◌^◌, ◌≤◌, ◌<◌, cond, nat_lt, ◌==◌, true, false, List, [], ◌∷◌, length, refl, ap, arith}
+use Rattle.std.proofs.Common.{◌≡◌, ℕ, zero, suc, ◌+◌, ◌-◌, ◌*◌, ◌^◌, ◌≤◌, ◌<◌, cond, nat_lt, ◌==◌, true, false, [], ◌∷◌, length, refl, ap, arith}
 use Rattle.std.{proofs.Math.Nat.pow-succ', proofs.Math.Nat.mul-le-mul_right, proofs.lemmas.Bool.ltb-true, proofs.lemmas.Bool.eqb-true, specs.declared.cmp.Ordering.Ordering}
 use Rattle.std.specs.declared.cmp.Ordering.TheVariants.{Less, Equal, Greater}
 use Rattle.std.specs.Ordering.{nat_cmp, ordering_then}
 use Rattle.pk_base.{specs.Fields.AreBytes, specs.Key.Key, specs.Key.IsKey, specs.Key.IsBelow, specs.Key.key_cmp}
 use Rattle.pk_words.specs.Listing.{rank, IsText, pieces_after, most_pieces}
-
-tail_bytes : (b : ℕ) (k : List ℕ) → AreBytes (b ∷ k) → AreBytes k
-tail_bytes b k h i = h (suc i)
-
-power : (n : ℕ) → 257 ^ suc n ≡ 257 * 257 ^ n
-power n = pow-succ' 257 n
 
 -- a first byte and all that may follow it
 byte_room : (b x : ℕ) → b < 256 → suc b * x + x ≤ 257 * x
@@ -20,8 +14,8 @@ pub rank_fits : (n : ℕ) (k : Key) → length k ≤ n → AreBytes k → rank n
 unfolding rank
 rank_fits zero [] short bytes = omega arith
 rank_fits zero (b ∷ k) short bytes = absurd (omega (arith, short))
-rank_fits (suc n) [] short bytes = omega (arith, power n, rank_fits n [] (omega arith) bytes)
-rank_fits (suc n) (b ∷ k) short bytes = omega (arith, power n, byte_room b (257 ^ n) (bytes 0), rank_fits n k (omega (arith, short)) (tail_bytes b k bytes))
+rank_fits (suc n) [] short bytes = omega (arith, pow-succ' 257 n, rank_fits n [] (omega arith) bytes)
+rank_fits (suc n) (b ∷ k) short bytes = omega (arith, pow-succ' 257 n, byte_room b (257 ^ n) (bytes 0), rank_fits n k (omega (arith, short)) (λ i. bytes (suc i)))
 
 -- the order of two bytes
 byte_cases : (x y : ℕ) (rest : Ordering) (P : Type 0) → ordering_then (nat_cmp x y) rest ≡ Less → (x < y → P) → (x ≡ y → rest ≡ Less → P) → P
@@ -42,8 +36,8 @@ rank_rises (suc n) [] (y ∷ b) sa sb ba bb h = omega (arith, mul-le-mul_right (
 rank_rises n (x ∷ a) [] sa sb ba bb h = absurd (let clash : Greater ≡ Less = h in cc)
 rank_rises zero (x ∷ a) (y ∷ b) sa sb ba bb h = absurd (omega (arith, sb))
 rank_rises (suc n) (x ∷ a) (y ∷ b) sa sb ba bb h = byte_cases x y (key_cmp a b) (rank (suc n) (x ∷ a) < rank (suc n) (y ∷ b)) h
-    (λ less. omega (arith, mul-le-mul_right (257 ^ n) (let k : suc (suc x) ≤ suc y = omega (arith, less) in k), rank_fits n a (omega (arith, sa)) (tail_bytes x a ba)))
-    (λ same rest. omega (arith, ap (λ (k : ℕ). suc k * 257 ^ n) same, rank_rises n a b (omega (arith, sa)) (omega (arith, sb)) (tail_bytes x a ba) (tail_bytes y b bb) rest))
+    (λ less. omega (arith, mul-le-mul_right (257 ^ n) (let k : suc (suc x) ≤ suc y = omega (arith, less) in k), rank_fits n a (omega (arith, sa)) (λ i. ba (suc i))))
+    (λ same rest. omega (arith, ap (λ (k : ℕ). suc k * 257 ^ n) same, rank_rises n a b (omega (arith, sa)) (omega (arith, sb)) (λ i. ba (suc i)) (λ i. bb (suc i)) rest))
 
 -- ---- the pieces of a list
 

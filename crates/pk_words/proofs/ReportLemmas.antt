@@ -1,9 +1,9 @@
 -- The lines of a Report one after another.
-use Rattle.std.proofs.Common.{◌≡◌, inl, inr, ℕ, ◌+◌, ◌*◌, ◌≤◌, ◌<◌, List, [], ◌∷◌, ◌++◌, length, drop, slice_index_or, replicate, Result, Err, refl, sym, ap, subst, ◌∙◌, arith, append_assoc, add-one}
+use Rattle.std.proofs.Common.{◌≡◌, inl, inr, ℕ, ◌+◌, ◌*◌, ◌≤◌, ◌<◌, List, [], ◌∷◌, ◌++◌, length, drop, slice_index_or, replicate, Err, refl, sym, ap, subst, ◌∙◌, arith, append_assoc, add-one}
 use Rattle.std.{proofs.Math.Seq.drop-cons, proofs.lemmas.List.append-nil, proofs.lemmas.List.drop_all}
 use Rattle.pk_base.specs.Fields.{u32_at}
 use Rattle.pk_nvme.specs.Bytes.{RoomyList}
-use Rattle.pk_host.{specs.declared.types.HostError.HostError, specs.declared.types.HostError.TheVariants.Refused, specs.declared.types.HostError.TheVariants.Port, specs.Port.PortState}
+use Rattle.pk_host.{specs.declared.types.HostError.HostError, specs.declared.types.HostError.TheVariants.Refused, specs.Port.PortState}
 use Rattle.pk_host.{specs.Calls.report, specs.Outcomes.stored, specs.Outcomes.Gives, specs.Outcomes.IsCause, specs.Outcomes.IsRefusal, specs.Outcomes.Numbers, specs.Outcomes.Leaves}
 use Rattle.pk_host.proofs.ReportLemmas.{report_leaves}
 use Rattle.pk_words.{specs.Lines.number_line, specs.Lines.number_lines, specs.Lines.report_names, specs.Lines.report_lines, specs.Lines.status_line, specs.Says.SaysNumbers, specs.Said.Said}
@@ -49,9 +49,6 @@ counted_all numbers text initial i last there =
 
 -- ---- what is said
 
-err_same : (e f : HostError) → ◌≡◌ {A = Result (Unit {0}) HostError} (Err e) (Err f) → e ≡ f
-err_same e f h = cc
-
 module _ (old new : PortState) where
   pub said_numbers : (numbers text : List ℕ) → Numbers old numbers → Leaves old new (λ m. m) → text ≡ report_lines numbers → Said SaysNumbers old new text
   said_numbers numbers text read leaves spelled m told =
@@ -70,7 +67,7 @@ module _ (old new : PortState) where
 
   pub refused_numbers : (error : HostError) (status : ℕ) (text : List ℕ) → error ≡ Refused status → Gives old new report stored (Err error) → IsCause old new stored error → text ≡ status_line status
       → Said SaysNumbers old new text
-  refused_numbers error status text is (inr fault) cause spelled m told = absurd (let clash : Refused status ≡ Port = sym is ∙ err_same error Port fault.0 in cc)
+  refused_numbers error status text is (inr fault) cause spelled m told = absurd (cc (is, fault.0))
   refused_numbers error status text is (inl (a, x, e)) cause spelled m told =
       let s = x.answers m told in
       let refusal : IsRefusal old new stored status = subst (λ (f : HostError). IsCause old new stored f) is cause in

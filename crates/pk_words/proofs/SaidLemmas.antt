@@ -52,9 +52,6 @@ whole_front (Some v) len into bound small sized h =
     let all : take (length into) v ≡ v = take_all (length into) v (omega (arith, fits, sized)) in
     ap (λ (xs : List ℕ). Some xs) (sym all ∙ sym h.1 ∙ ap (λ (k : ℕ). take k into) least)
 
-err_same : (e f : HostError) → ◌≡◌ {A = Result (Option ℕ) HostError} (Err e) (Err f) → e ≡ f
-err_same e f h = cc
-
 module _ (old new : PortState) (key : Key) (size : ℕ) where
   -- what is found on the port's map
   found_on : (text : List ℕ) (r : Result (Option ℕ) HostError) → Gives old new (retrieve_of key size) retrieved r → (r ≡ Err Port → ⊥)
@@ -90,6 +87,6 @@ module _ (old new : PortState) (key : Key) (size : ℕ) where
       → Gives old new (retrieve_of key size) retrieved (Err error) → text ≡ status_line status → Said (SaysValue key) old new text
   said_failed error status text is is_key gives spelled =
       let cause : IsRefusal old new retrieved status = subst (λ (e : HostError). IsCause old new retrieved e) is (retrieve_cause old new key size error is_key gives) in
-      found_on text (Err error) gives (λ e. let clash : Refused status ≡ Port = sym is ∙ err_same error Port e in cc) (λ m held told.
+      found_on text (Err error) gives (λ e. cc (is, e)) (λ m held told.
       let read = cause.told m told in
       inr (cause.unread read, spelled ∙ ap status_line read))
