@@ -9,7 +9,7 @@ use Rattle.pk_nand.{specs.BoardState.BoardState, specs.Crash.Reached, specs.Cras
 use Rattle.pk_nand.proofs.Pairing.{outside_pair, pair_read, read_first}
 use Rattle.pk_jrnfmt.{specs.Page.journal_entries, specs.Epoch.journal, specs.Epoch.epoch, proofs.PageLemmas.journal_entries_again, proofs.PageLemmas.length-seen}
 use Rattle.pk_jrn.specs.Epochs.{JournalEpoch, EpochOnFlash, Reads, HasCommit, left_of, next_page, pages_of}
-use Rattle.pk_jrn.specs.Appends.{next_bytes, AddsAll, AddsAllOrNone, IsCommitCut, CommitReached, CommitWent}
+use Rattle.pk_jrn.specs.Appends.{next_bytes, AddsAll, AddsAllOrNone, IsCommitCut}
 use Rattle.pk_jrn.proofs.Journals.{IsNotWhole, erased_not_whole, torn_not_whole, pair_not_whole, epoch_is, reads_on, goes_on, ends}
 
 -- an epoch with a commit left takes more
@@ -25,43 +25,48 @@ commit_left e some = elim e.takes_more as (λ b. 0 < (if b then epoch_commits e.
   | false ↦ λ none. absurd (omega (arith, none))
 ] some
 
--- the epoch's next pages with these entries are read as them
-pub next_spells : (e : JournalEpoch) (entries : List RustEntry) → IsShape e.shape → e.number < 2 ^ 64 → 0 < left_of e → 1 ≤ length entries → length entries ≤ page_entries e.shape
-    → AllByRecursion (IsEntry e.shape) (seen_all entries) → journal_entries e.shape e.number e.used (next_bytes e (seen_all entries)) ≡ Some (seen_all entries)
-next_spells e entries shape fits left some most each =
+-- the next commit of an epoch that is on a flash and has none half made: its pages are read as these entries
+pub record NextCommit (e : JournalEpoch) (flash : Flash) (es : List Entry) (bytes : List ℕ) : Type 0 where
+  pub is : IsShape e.shape
+  pub left : 0 < left_of e
+  pub whole_made : e.half ≡ false
+  pub fits : EpochOnFlash e flash
+  pub different : slice_index e.blocks 0 ≢ slice_index e.blocks 1
+  pub spells : journal_entries e.shape e.number e.used bytes ≡ Some es
+
+pub next_commit : (e : JournalEpoch) (flash : Flash) (entries : List RustEntry) → IsShape e.shape → e.number < 2 ^ 64 → 0 < left_of e → e.half ≡ false → 1 ≤ length entries
+    → length entries ≤ page_entries e.shape → AllByRecursion (IsEntry e.shape) (seen_all entries) → EpochOnFlash e flash → slice_index e.blocks 0 ≢ slice_index e.blocks 1
+    → NextCommit e flash (seen_all entries) (next_bytes e (seen_all entries))
+next_commit e flash entries shape small left whole_made some most each fits different =
     let size = length-seen entries in
-    journal_entries_again e.shape e.number e.used (seen_all entries) shape (record {
-      epoch_fits = fits;
-      index_fits = commit_left e left;
-      some = omega (arith, size, some);
-      most = omega (arith, size, most);
-      each = each;
-    })
+    record {
+      is = shape;
+      left = left;
+      whole_made = whole_made;
+      fits = fits;
+      different = different;
+      spells = journal_entries_again e.shape e.number e.used (seen_all entries) shape
+          (record { epoch_fits = small; index_fits = commit_left e left; some = omega (arith, size, some); most = omega (arith, size, most); each = each });
+    }
 
 whole_erased : (bytes : List ℕ) (page : Page) → page ≡ whole bytes → page ≡ erased → ⊥
 whole_erased bytes page is other = cc
 
--- of two neighbouring numbers from a place on, one of them, or another number
-pair_or_not : (u j : ℕ) → ((j < u) ⊎ (u + 2 ≤ j)) ⊎ ((j ≡ u) ⊎ (j ≡ u + 1))
-pair_or_not u j = elim (cases_lt j u) [
-  | inl low ↦ inl (inl low)
-  | inr high ↦ elim (cases_lt (u + 1) j) [
-    | inl past ↦ inl (inr (omega (arith, past)))
-    | inr le ↦ elim (cases_lt u j) [ inl more ↦ inr (inr (omega (arith, le, more))) | inr same ↦ inr (inl (omega (arith, high, same))) ]
-  ]
-]
+module _ {e : JournalEpoch} {flash : Flash} {es : List Entry} {bytes : List ℕ} (h : NextCommit e flash es bytes) where
+  more : e.takes_more ≡ true
+  more = takes_more e h.left
 
-module _ (e : JournalEpoch) (flash : Flash) (es : List Entry) (bytes : List ℕ) (is : IsShape e.shape)
-    (more : e.takes_more ≡ true) (whole_made : e.half ≡ false) (inside : e.used < epoch_commits e.shape)
-    (fits : EpochOnFlash e flash) (different : slice_index e.blocks 0 ≢ slice_index e.blocks 1) (spells : journal_entries e.shape e.number e.used bytes ≡ Some es) where
+  inside : e.used < epoch_commits e.shape
+  inside = commit_left e h.left
+
   pages : pages_of e ≡ 2 * e.used
-  pages = rw whole_made refl
+  pages = rw h.whole_made refl
 
   free : (j : ℕ) → 2 * e.used ≤ j → j < epoch_pages e.shape → page_at flash (page_in e.shape e.blocks j) ≡ erased
-  free j low high = fits.behind more j (omega (arith, pages, low)) high
+  free j low high = h.fits.behind more j (omega (arith, pages, low)) high
 
   next_is : page_in e.shape e.blocks (2 * e.used + 1) ≡ next_page e + 1
-  next_is = second e.shape e.blocks is e.used
+  next_is = second e.shape e.blocks h.is e.used
 
   pub first_erased : page_at flash (next_page e) ≡ erased
   first_erased = free (2 * e.used) (le_refl (2 * e.used)) (omega (arith, inside))
@@ -80,12 +85,12 @@ module _ (e : JournalEpoch) (flash : Flash) (es : List Entry) (bytes : List ℕ)
   no_page : (j : ℕ) → e.used ≤ j → j < epoch_commits e.shape → IsNotWhole (commit_at e.shape (page_at flash) e.blocks j).1
   no_page j low high = pair_not_whole _ _ _
       (erased_not_whole _ (free (2 * j) (omega (arith, low)) (omega (arith, high))))
-      (erased_not_whole _ (ap (page_at flash) (sym (second e.shape e.blocks is j)) ∙ free (2 * j + 1) (omega (arith, low)) (omega (arith, high))))
+      (erased_not_whole _ (ap (page_at flash) (sym (second e.shape e.blocks h.is j)) ∙ free (2 * j + 1) (omega (arith, low)) (omega (arith, high))))
 
   -- a flash that differs in no other page
   module _ (cut : Flash) (others : (k : ℕ) → (next_page e ≤ k → k < next_page e + 2 → ⊥) → page_at cut k ≡ page_at flash k) where
     same : (j : ℕ) → j < epoch_pages e.shape → (j < 2 * e.used) ⊎ (2 * e.used + 2 ≤ j) → page_at cut (page_in e.shape e.blocks j) ≡ page_at flash (page_in e.shape e.blocks j)
-    same j small other = others (page_in e.shape e.blocks j) (λ low high. apart other (only_commit e.shape e.blocks is e.used j different inside small low high))
+    same j small other = others (page_in e.shape e.blocks j) (λ low high. apart other (only_commit e.shape e.blocks h.is e.used j h.different inside small low high))
       where
         apart : (j < 2 * e.used) ⊎ (2 * e.used + 2 ≤ j) → (2 * e.used ≤ j) × (j < 2 * e.used + 2) → ⊥
         apart (inl less) there = omega (arith, less, there.0)
@@ -93,7 +98,7 @@ module _ (e : JournalEpoch) (flash : Flash) (es : List Entry) (bytes : List ℕ)
 
     same_commit : (j : ℕ) → j < epoch_commits e.shape → (j < e.used) ⊎ (e.used < j) → commit_at e.shape (page_at cut) e.blocks j ≡ commit_at e.shape (page_at flash) e.blocks j
     same_commit j small other =
-        let next : page_in e.shape e.blocks (2 * j + 1) ≡ commit_page e.shape e.blocks j + 1 = second e.shape e.blocks is j in
+        let next : page_in e.shape e.blocks (2 * j + 1) ≡ commit_page e.shape e.blocks j + 1 = second e.shape e.blocks h.is j in
         let one = same (2 * j) (omega (arith, small)) (twice other) in
         let two : page_at cut (commit_page e.shape e.blocks j + 1) ≡ page_at flash (commit_page e.shape e.blocks j + 1) =
         ap (page_at cut) (sym next) ∙ same (2 * j + 1) (omega (arith, small)) (twice_more other) ∙ ap (page_at flash) next in
@@ -111,11 +116,11 @@ module _ (e : JournalEpoch) (flash : Flash) (es : List Entry) (bytes : List ℕ)
         → epoch e.shape spaces (page_at cut) e.number e.blocks ≡ journal e.shape spaces e.number e.used before (commits_of e.shape (page_at cut) e.blocks e.used (suc rest))
     read_up spaces before reads =
         let first : 0 + e.used ≡ e.used = zero-add e.used in
-        epoch_is e.shape spaces (page_at cut) e.number e.blocks (e.used + suc rest) is fits.two size
-        ∙ reads_on e.shape spaces e.number e.blocks (page_at flash) (page_at cut) e.used (suc rest) 0 [] before (λ j low high. fits.before j (omega (arith, high)))
+        epoch_is e.shape spaces (page_at cut) e.number e.blocks (e.used + suc rest) h.is h.fits.two size
+        ∙ reads_on e.shape spaces e.number e.blocks (page_at flash) (page_at cut) e.used (suc rest) 0 [] before (λ j low high. h.fits.before j (omega (arith, high)))
         (λ j low high. same_commit j (omega (arith, high, inside)) (inl (omega (arith, high))))
         (no_page (0 + e.used) (omega arith) (omega (arith, inside)))
-        (sym (epoch_is e.shape spaces (page_at flash) e.number e.blocks (e.used + suc rest) is fits.two size) ∙ reads)
+        (sym (epoch_is e.shape spaces (page_at flash) e.number e.blocks (e.used + suc rest) h.is h.fits.two size) ∙ reads)
         ∙ (λ i. journal e.shape spaces e.number (first i) before (commits_of e.shape (page_at cut) e.blocks (first i) (suc rest)))
 
     -- a commit without a page that is whole adds nothing
@@ -134,7 +139,7 @@ module _ (e : JournalEpoch) (flash : Flash) (es : List Entry) (bytes : List ℕ)
     -- a page that is whole adds its entries
     with_page : (commit_at e.shape (page_at cut) e.blocks e.used).1 ≡ whole bytes → AddsAll e es flash cut
     with_page here spaces before reads follows =
-        read_up spaces before reads ∙ goes_on e.shape spaces e.number e.blocks (page_at cut) e.used before rest bytes here es spells follows ∙ ends_behind spaces (before ++ es) rest refl
+        read_up spaces before reads ∙ goes_on e.shape spaces e.number e.blocks (page_at cut) e.used before rest bytes here es h.spells follows ∙ ends_behind spaces (before ++ es) rest refl
 
     -- by the first page
     read_here : page_at cut (next_page e) ≡ whole bytes → (commit_at e.shape (page_at cut) e.blocks e.used).1 ≡ whole bytes
@@ -143,52 +148,44 @@ module _ (e : JournalEpoch) (flash : Flash) (es : List Entry) (bytes : List ℕ)
     commits_before : page_at cut (next_page e) ≡ whole bytes → (j : ℕ) → j < e.used + 1 → HasCommit e.shape cut e.blocks j
     commits_before here j small =
         let below : (j : ℕ) → j < e.used
-        → HasCommit e.shape cut e.blocks j = λ j less. let w = fits.before j less in (w.0, ap (λ (p : ℕ × Page). p.1) (same_commit j (omega (arith, less, inside)) (inl less)) ∙ w.1) in
+        → HasCommit e.shape cut e.blocks j = λ j less. let w = h.fits.before j less in (w.0, ap (λ (p : ℕ × Page). p.1) (same_commit j (omega (arith, less, inside)) (inl less)) ∙ w.1) in
         below_more (λ (j : ℕ). HasCommit e.shape cut e.blocks j) e.used below (bytes, read_here here) j (omega (arith, small))
+
+    -- the pages of the commits before it, and its first one
+    still_filled : (j : ℕ) → j < 2 * e.used → page_at cut (page_in e.shape e.blocks j) ≢ erased
+    still_filled j less now = h.fits.filled more j (omega (arith, pages, less)) (sym (same j (omega (arith, less, inside)) (inl less)) ∙ now)
+
+    first_filled : page_at cut (next_page e) ≡ whole bytes → (j : ℕ) → 2 * e.used ≡ j → page_at cut (page_in e.shape e.blocks j) ≢ erased
+    first_filled here j first now = whole_erased bytes _ (ap (λ k. page_at cut (page_in e.shape e.blocks k)) (sym first) ∙ here) now
+
+    second_is : (j : ℕ) → 2 * e.used + 1 ≡ j → page_at cut (page_in e.shape e.blocks j) ≡ page_at cut (next_page e + 1)
+    second_is j second = ap (λ k. page_at cut (page_in e.shape e.blocks k)) (sym second) ∙ ap (page_at cut) next_is
 
     -- after the first program
     EpochOnFlash-half : page_at cut (next_page e) ≡ whole bytes → page_at cut (next_page e + 1) ≡ erased → EpochOnFlash (record e { used = e.used + 1; half = true }) cut
     EpochOnFlash-half here there = record {
-      two = fits.two;
+      two = h.fits.two;
       within = omega (arith, inside);
       before = commits_before here;
-      filled = λ _ j low. elim (pair_or_not (2 * e.used) j) [
-        | inl other ↦ λ now. fits.filled more j (omega (arith, pages, low, elim_low other low)) (sym (same j (omega (arith, low, inside)) other) ∙ now)
-        | inr one ↦ elim one [
-          | inl first ↦ λ now. whole_erased bytes _ (ap (λ k. page_at cut (page_in e.shape e.blocks k)) first ∙ here) now
-          | inr next ↦ λ now. omega (arith, low, next)
-        ]
+      filled = λ _ j low. elim (cases_lt j (2 * e.used)) [ inl less ↦ still_filled j less | inr high ↦ first_filled here j (omega (arith, low, high)) ];
+      behind = λ _ j low high. elim (cases_lt (2 * e.used + 1) j) [
+        | inl past ↦ same j high (inr (omega (arith, past))) ∙ free j (omega (arith, low)) high
+        | inr le ↦ second_is j (omega (arith, low, le)) ∙ there
       ];
-      behind = λ _ j low high. elim (pair_or_not (2 * e.used) j) [
-        | inl other ↦ same j high other ∙ free j (omega (arith, low)) high
-        | inr one ↦ elim one [
-          | inl first ↦ absurd (omega (arith, low, first))
-          | inr next ↦ ap (λ k. page_at cut (page_in e.shape e.blocks k)) next ∙ ap (page_at cut) next_is ∙ there
-        ]
-      ];
-    } where
-      elim_low : {j : ℕ} → (j < 2 * e.used) ⊎ (2 * e.used + 2 ≤ j) → j < 2 * (e.used + 1) - 1 → j < 2 * e.used
-      elim_low (inl less) low = less
-      elim_low (inr past) low = absurd (omega (arith, past, low))
+    }
 
     -- after both
     EpochOnFlash-both : page_at cut (next_page e) ≡ whole bytes → page_at cut (next_page e + 1) ≡ whole bytes → EpochOnFlash (record e { used = e.used + 1; half = false }) cut
     EpochOnFlash-both here there = record {
-      two = fits.two;
+      two = h.fits.two;
       within = omega (arith, inside);
       before = commits_before here;
-      filled = λ _ j low. elim (pair_or_not (2 * e.used) j) [
-        | inl other ↦ λ now. fits.filled more j (omega (arith, pages, low, elim_low other low)) (sym (same j (omega (arith, low, inside)) other) ∙ now)
-        | inr one ↦ elim one [
-          | inl first ↦ λ now. whole_erased bytes _ (ap (λ k. page_at cut (page_in e.shape e.blocks k)) first ∙ here) now
-          | inr next ↦ λ now. whole_erased bytes _ (ap (λ k. page_at cut (page_in e.shape e.blocks k)) next ∙ ap (page_at cut) next_is ∙ there) now
-        ]
+      filled = λ _ j low. elim (cases_lt j (2 * e.used)) [
+        | inl less ↦ still_filled j less
+        | inr high ↦ elim (cases_lt (2 * e.used) j) [ inl past ↦ whole_erased bytes _ (second_is j (omega (arith, low, past)) ∙ there) | inr le ↦ first_filled here j (omega (arith, high, le)) ]
       ];
       behind = λ _ j low high. same j high (inr (omega (arith, low))) ∙ free j (omega (arith, low)) high;
-    } where
-      elim_low : {j : ℕ} → (j < 2 * e.used) ⊎ (2 * e.used + 2 ≤ j) → j < 2 * (e.used + 1) → j < 2 * e.used
-      elim_low (inl less) low = less
-      elim_low (inr past) low = absurd (omega (arith, past, low))
+    }
 
   -- what the programs may leave wherever they are cut
   all_or_none : (cut : Flash) → IsPairCut (next_page e) bytes flash cut → AddsAllOrNone e es flash cut
@@ -206,46 +203,28 @@ module _ (e : JournalEpoch) (flash : Flash) (es : List Entry) (bytes : List ℕ)
   commit_cut cut is_cut = record { outside = is_cut.outside; entries = all_or_none cut is_cut }
 
   module _ (new : Flash) (is_cut : IsPairCut (next_page e) bytes flash new) (here : page_at new (next_page e) ≡ whole bytes) where
+    outside : (k : ℕ) → (next_page e ≤ k → k < next_page e + 2 → ⊥) → page_at new k ≡ page_at flash k
+    outside = outside_pair (next_page e) flash new is_cut.outside
+
     pub adds_all : AddsAll e es flash new
-    adds_all = with_page new (outside_pair (next_page e) flash new is_cut.outside) (read_here new (outside_pair (next_page e) flash new is_cut.outside) here)
+    adds_all = with_page new outside (read_here new outside here)
 
     pub half_fits : page_at new (next_page e + 1) ≡ erased → EpochOnFlash (record e { used = e.used + 1; half = true }) new
-    half_fits there = EpochOnFlash-half new (outside_pair (next_page e) flash new is_cut.outside) here there
+    half_fits there = EpochOnFlash-half new outside here there
 
     pub both_fit : page_at new (next_page e + 1) ≡ whole bytes → EpochOnFlash (record e { used = e.used + 1; half = false }) new
-    both_fit there = EpochOnFlash-both new (outside_pair (next_page e) flash new is_cut.outside) here there
-
--- ---- the board
-
--- what every cut leaves may be weakened
-module _ (old new : BoardState) (P Q : Flash → Type 0) (weaker : (f : Flash) → P f → Q f) where
-  pub reached_by : Reached old new (λ f _. P f) → Reached old new (λ f _. Q f)
-  reached_by (marks, run) = (marks, record { trail = run.trail; posted = run.posted; same_shape = run.same_shape; cuts = λ f q c. weaker f (run.cuts f q c); stands = run.stands })
-
-  pub went_by : Went old new (λ f _. P f) → Went old new (λ f _. Q f)
-  went_by (marks, run) = (marks, record { trail = run.trail; posted = run.posted; same_shape = run.same_shape; cuts = λ f q c. weaker f (run.cuts f q c); stands = run.stands })
-
-module _ (e : JournalEpoch) (board new : BoardState) (es : List Entry) (bytes : List ℕ) (is : IsShape e.shape) (left : 0 < left_of e) (whole_made : e.half ≡ false) (fits : EpochOnFlash e board.pages)
-    (different : slice_index e.blocks 0 ≢ slice_index e.blocks 1) (spells : journal_entries e.shape e.number e.used bytes ≡ Some es) where
-  cut_is : (cut : Flash) → IsPairCut (next_page e) bytes board.pages cut → IsCommitCut e es board.pages cut
-  cut_is = commit_cut e board.pages es bytes is (takes_more e left) whole_made (commit_left e left) fits different spells
-
-  pub Commit-reached : Reached board new (λ flash _. IsPairCut (next_page e) bytes board.pages flash) → CommitReached e es board new
-  Commit-reached = reached_by board new (IsPairCut (next_page e) bytes board.pages) (IsCommitCut e es board.pages) cut_is
-
-  pub Commit-went : Went board new (λ flash _. IsPairCut (next_page e) bytes board.pages flash) → CommitWent e es board new
-  Commit-went = went_by board new (IsPairCut (next_page e) bytes board.pages) (IsCommitCut e es board.pages) cut_is
-
-  module _ (is_cut : IsPairCut (next_page e) bytes board.pages new.pages) (here : page_at new.pages (next_page e) ≡ whole bytes) where
-    pub Commit-adds : AddsAll e es board.pages new.pages
-    Commit-adds = adds_all e board.pages es bytes is (takes_more e left) whole_made (commit_left e left) fits different spells new.pages is_cut here
-
-    pub Commit-half : page_at new.pages (next_page e + 1) ≡ erased → EpochOnFlash (record e { used = e.used + 1; half = true }) new.pages
-    Commit-half = half_fits e board.pages es bytes is (takes_more e left) whole_made (commit_left e left) fits different spells new.pages is_cut here
-
-    pub Commit-both : page_at new.pages (next_page e + 1) ≡ whole bytes → EpochOnFlash (record e { used = e.used + 1; half = false }) new.pages
-    Commit-both = both_fit e board.pages es bytes is (takes_more e left) whole_made (commit_left e left) fits different spells new.pages is_cut here
+    both_fit there = EpochOnFlash-both new outside here there
 
     -- the epoch has one commit more, with both its pages
-    pub Commit-fits : page_at new.pages (next_page e + 1) ≡ whole bytes → EpochOnFlash (record e { used = e.used + 1 }) new.pages
-    Commit-fits there = subst (λ (h : Bool). EpochOnFlash (record e { used = e.used + 1; half = h }) new.pages) (sym whole_made) (Commit-both there)
+    pub commit_fits : page_at new (next_page e + 1) ≡ whole bytes → EpochOnFlash (record e { used = e.used + 1 }) new
+    commit_fits there = subst (λ (b : Bool). EpochOnFlash (record e { used = e.used + 1; half = b }) new) (sym h.whole_made) (both_fit there)
+
+  -- ---- the board
+
+  pub commit_reached : (old new : BoardState) → Reached old new (λ f _. IsPairCut (next_page e) bytes flash f) → Reached old new (λ f _. IsCommitCut e es flash f)
+  commit_reached old new (marks, run) =
+      (marks, record { trail = run.trail; posted = run.posted; same_shape = run.same_shape; cuts = λ f q c. commit_cut f (run.cuts f q c); stands = run.stands })
+
+  pub commit_went : (old new : BoardState) → Went old new (λ f _. IsPairCut (next_page e) bytes flash f) → Went old new (λ f _. IsCommitCut e es flash f)
+  commit_went old new (marks, run) =
+      (marks, record { trail = run.trail; posted = run.posted; same_shape = run.same_shape; cuts = λ f q c. commit_cut f (run.cuts f q c); stands = run.stands })

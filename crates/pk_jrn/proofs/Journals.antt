@@ -1,7 +1,7 @@
 -- The reading of an epoch, commit by commit.
-use Rattle.std.proofs.Common.{◌≡◌, ℕ, zero, suc, ◌+◌, ◌*◌, ◌/◌, ◌%◌, ◌<◌, ◌≤◌, refl, sym, ap, subst, ◌∙◌, arith, Bool, true, false, List, [], ◌∷◌, ◌++◌, length, nat_le, Option, Some, None, Result, Ok}
-use Rattle.std.proofs.Common.{Err, add-zero, le_refl}
-use Rattle.std.{specs.Prelude.⊤, proofs.lemmas.Bool.Decides.nat_tests}
+use Rattle.std.proofs.Common.{◌≡◌, ℕ, zero, suc, ◌+◌, ◌*◌, ◌/◌, ◌%◌, ◌<◌, ◌≤◌, refl, sym, ap, subst, ◌∙◌, arith, Bool, true, false, List, [], ◌∷◌, ◌++◌, length, Option, Some, None, Result, Ok, Err}
+use Rattle.std.proofs.Common.{add-zero, le_refl}
+use Rattle.std.{specs.Prelude.⊤}
 use Rattle.pk_base.{specs.Shape.Shape, specs.Shape.IsShape, specs.Shape.epoch_commits, specs.Entry.Entry, proofs.Logic.ok_same}
 use Rattle.pk_base.specs.Page.{Page, Flash, page_at, erased, whole, torn, page_of_pair, commit_at, commits_of}
 use Rattle.pk_base.specs.Refusal.{Refusal, damaged, ◌>>=◌, ensure, some_or}
@@ -26,15 +26,13 @@ torn_not_whole page is bytes e = cc
 -- a pair of which no page is whole is read by none
 pub pair_not_whole : (p : ℕ) (first next : Page) → IsNotWhole first → IsNotWhole next → IsNotWhole (page_of_pair p first next).1
 pair_not_whole p (whole bytes) next none none_next = absurd (none bytes refl)
-pair_not_whole p erased next none none_next = none_next
-pair_not_whole p torn next none none_next = none_next
+pair_not_whole p _ next none none_next = none_next
 
 module _ (shape : Shape) (spaces number : ℕ) where
   -- an epoch ends at a page that is not whole
   ends_at : (index : ℕ) (before : List Entry) (p : ℕ) (page : Page) (pages : List (ℕ × Page)) → IsNotWhole page → journal shape spaces number index before ((p, page) ∷ pages) ≡ Ok before
-  ends_at index before p erased pages not_whole = refl
-  ends_at index before p torn pages not_whole = refl
   ends_at index before p (whole bytes) pages not_whole = absurd (not_whole bytes refl)
+  ends_at index before p _ pages not_whole = refl
 
   module _ (blocks : List ℕ) where
     pub ends : (at : ℕ → Page) (index : ℕ) (before : List Entry) (n : ℕ) → IsNotWhole (commit_at shape at blocks index).1

@@ -79,9 +79,7 @@ has-append q (x ∷ xs) ys = elim (eq_by_cmp key_cmp q x.0) as (λ b. (b || has 
 
 or_turned : (a b : Bool) → (a || (b || false)) ≡ (b || a)
 or_turned true true = refl
-or_turned true false = refl
-or_turned false true = refl
-or_turned false false = refl
+or_turned _ _ = refl
 
 has-reverse : (q : Key) (xs : List Entry) → has q (reverse xs) ≡ has q xs
 unfolding has

@@ -2,9 +2,10 @@
 use Rattle.std.proofs.Common.{◌≡◌, ℕ, zero, suc, ◌+◌, ◌-◌, ◌^◌, ◌<◌, ◌≤◌, refl, sym, ap, subst, ◌∙◌, arith, Bool, true, false, T, List, [], ◌∷◌, ◌++◌, length, take, Some, None, Result, Ok, Err, ◌&&◌}
 use Rattle.std.proofs.Common.{◌⊎◌, inl, inr, nat_le, le→leb, drop, below_more, zero-add, add-zero}
 use Rattle.std.{specs.Prelude.slice_get, specs.Prelude.◌*◌, specs.Prelude.◌/◌, specs.Prelude.◌%◌, specs.List.AllByRecursion, specs.FinMap.Entries.put, specs.FinMap.Entries.is_sorted}
+use Rattle.std.{proofs.Math.Seq.take-suc, proofs.lemmas.Option.slice_get_within, proofs.lemmas.Option.get_or_from_slice_get}
 use Rattle.std.{proofs.lemmas.List.take_all, proofs.lemmas.List.take-append-drop, proofs.lemmas.Bool.Decides.nat_tests, proofs.lemmas.List.Folds.list_all-append}
 use Rattle.pk_base.{specs.Key.key_cmp, specs.Key.space_of, specs.Shape.Shape, specs.Shape.IsShape, specs.Shape.buffer, specs.Shape.epoch_commits, specs.Entry.Entry, specs.Entry.key_of}
-use Rattle.pk_base.{specs.Page.Page, specs.Page.page_at, specs.Page.erased, specs.Page.whole, specs.Page.torn, specs.Page.commit_page, specs.Page.commit_at, specs.Page.commits_of, specs.Firsts.firsts}
+use Rattle.pk_base.{specs.Page.Page, specs.Page.page_at, specs.Page.whole, specs.Page.commit_page, specs.Page.commit_at, specs.Page.commits_of, specs.Firsts.firsts}
 use Rattle.pk_base.{specs.EntryChecks.IsEntry, specs.Refusal.damaged, proofs.Logic.is_true, proofs.Logic.some_same}
 use Rattle.pk_buf.specs.Table.{Table, no_entries}
 use Rattle.pk_jrnfmt.{specs.declared.JrnHead.JrnHead, specs.declared.BadJournal.BadJournal, specs.Page.journal_entries, specs.PageChecks.IsJournalPage, proofs.PageLemmas.journal_held}
@@ -16,29 +17,26 @@ use Rattle.pk_jrn.{specs.Epochs.HasCommit, specs.EpochReads.if_whole, specs.Epoc
 use Rattle.pk_jrn.specs.Replays.{puts, PutOrFull, PutsOrFull, TakesPage, buffer_of, Replayed, reads_before, ReplayRefused}
 use Rattle.pk_jrn.proofs.Puts.{puts-snoc, puts_are_firsts, puts_too_many, firsts-reverse}
 use Rattle.pk_jrn.proofs.Journals.{IsNotWhole, ends, goes_on, refuses, epoch_is}
+use mathlib.Core.Bool.{and-true, and-false}
 
 -- ---- the namespaces of the entries of one page
 
 take_next : (es : List Entry) (i : ℕ) (e : Entry) → slice_get es i ≡ Some e → take (suc i) es ≡ take i es ++ e ∷ []
-take_next [] i e h = cc
-take_next (x ∷ es) zero e h = let same : x ≡ e = cc in ap (λ y. y ∷ []) same
-take_next (x ∷ es) (suc i) e h = ap (λ ys. x ∷ ys) (take_next es i e h)
+take_next es i e h = take-suc es i e (slice_get_within es i e h) ∙ ap (λ y. take i es ++ y ∷ []) (get_or_from_slice_get es i e e h)
+
+-- of every page of an epoch with these bytes and this many entries
+abbrev pub OfPage : Shape → List ℕ → ℕ → (List Entry → Type 0) → Type 0
+OfPage shape page count P = (epoch index : ℕ) (es : List Entry) → IsJournalPage shape page epoch index es → length es ≡ count → P es
 
 -- the first i entries of the page are of the first namespaces
 abbrev pub InSpacesTo : Shape → List ℕ → ℕ → ℕ → ℕ → Type 0
-InSpacesTo shape page spaces count i = (epoch index : ℕ) (es : List Entry) → IsJournalPage shape page epoch index es → length es ≡ count → in_spaces spaces (take i es) ≡ true
-
-no_more : (b : Bool) → (b && false) ≡ false
-no_more true = refl
-no_more false = refl
+InSpacesTo shape page spaces count i = OfPage shape page count (λ es. in_spaces spaces (take i es) ≡ true)
 
 module _ (shape : Shape) (page : List ℕ) (spaces count i : ℕ) (e : Entry) (here : (epoch index : ℕ) (es : List Entry) → IsJournalPage shape page epoch index es → slice_get es i ≡ Some e) where
   in_next : (es : List Entry) → slice_get es i ≡ Some e → in_spaces spaces (take (suc i) es) ≡ (in_spaces spaces (take i es) && nat_le (space_of e.0) spaces)
-  in_next es at = ap (in_spaces spaces) (take_next es i e at) ∙ list_all-append (λ x. nat_le (space_of x.0) spaces) (take i es) (e ∷ []) ∙ ap (λ b. in_spaces spaces (take i es) && b) (last_one (nat_le (space_of e.0) spaces))
-    where
-      last_one : (b : Bool) → (b && true) ≡ b
-      last_one true = refl
-      last_one false = refl
+  in_next es at =
+      ap (in_spaces spaces) (take_next es i e at) ∙ list_all-append (λ x. nat_le (space_of x.0) spaces) (take i es) (e ∷ [])
+      ∙ ap (λ b. in_spaces spaces (take i es) && b) (and-true (nat_le (space_of e.0) spaces))
 
   pub InSpacesTo-next : nat_le (space_of e.0) spaces ≡ true → InSpacesTo shape page spaces count i → InSpacesTo shape page spaces count (i + 1)
   InSpacesTo-next own before epoch index es is many =
@@ -46,23 +44,21 @@ module _ (shape : Shape) (page : List ℕ) (spaces count i : ℕ) (e : Entry) (h
       let was = before epoch index es is many in
       rw one (in_next es (here epoch index es is) ∙ rw (was, own) refl)
 
-  pub InSpacesTo-none : nat_le (space_of e.0) spaces ≡ false
-      → (epoch index : ℕ) (es : List Entry) → IsJournalPage shape page epoch index es → length es ≡ count → in_spaces spaces es ≡ false
+  pub InSpacesTo-none : nat_le (space_of e.0) spaces ≡ false → OfPage shape page count (λ es. in_spaces spaces es ≡ false)
   InSpacesTo-none own epoch index es is many =
-      let none : in_spaces spaces (take (suc i) es) ≡ false = in_next es (here epoch index es is) ∙ rw own (no_more (in_spaces spaces (take i es))) in
+      let none : in_spaces spaces (take (suc i) es) ≡ false = in_next es (here epoch index es is) ∙ rw own (and-false (in_spaces spaces (take i es))) in
       subst (λ (xs : List Entry). in_spaces spaces xs ≡ false) (take-append-drop (suc i) es)
       (list_all-append (λ x. nat_le (space_of x.0) spaces) (take (suc i) es) (drop (suc i) es)
       ∙ ap (λ b. b && in_spaces spaces (drop (suc i) es)) none)
 
-pub InSpacesTo-end : (shape : Shape) (page : List ℕ) (spaces count i : ℕ) → count ≤ i → InSpacesTo shape page spaces count i
-    → (epoch index : ℕ) (es : List Entry) → IsJournalPage shape page epoch index es → length es ≡ count → in_spaces spaces es ≡ true
+pub InSpacesTo-end : (shape : Shape) (page : List ℕ) (spaces count i : ℕ) → count ≤ i → InSpacesTo shape page spaces count i → OfPage shape page count (λ es. in_spaces spaces es ≡ true)
 InSpacesTo-end shape page spaces count i all before epoch index es is many = ap (in_spaces spaces) (sym (take_all i es (omega (arith, all, many)))) ∙ before epoch index es is many
 
 -- ---- the entries of one page
 
 -- the first i entries of the page were written
 abbrev pub Putting : Shape → List ℕ → ℕ → Table → Table → ℕ → Type 0
-Putting shape page count old now i = (epoch index : ℕ) (es : List Entry) → IsJournalPage shape page epoch index es → length es ≡ count → now ≡ record old { entries = puts (take i es) old.entries }
+Putting shape page count old now i = OfPage shape page count (λ es. now ≡ record old { entries = puts (take i es) old.entries })
 
 -- one more entry after the first i
 next_puts : (es table : List Entry) (i : ℕ) (e : Entry) → slice_get es i ≡ Some e → puts (take (i + 1) es) table ≡ put key_cmp (key_of e) e.1 (puts (take i es) table)
@@ -80,8 +76,7 @@ Putting-next shape page count old now new i e here p done epoch index es is many
 
 pub Putting-full : (shape : Shape) (page : List ℕ) (count : ℕ) (old now new : Table) (i : ℕ) (e : Entry) → T (is_sorted key_cmp old.entries)
     → ((epoch index : ℕ) (es : List Entry) → IsJournalPage shape page epoch index es → slice_get es i ≡ Some e)
-    → Putting shape page count old now i → PutOrFull now e false new
-    → (epoch index : ℕ) (es : List Entry) → IsJournalPage shape page epoch index es → length es ≡ count → PutsOrFull old es false new
+    → Putting shape page count old now i → PutOrFull now e false new → OfPage shape page count (λ es. PutsOrFull old es false new)
 Putting-full shape page count old now new i e up here p done epoch index es is many =
     let was = p epoch index es is many in
     let room : now.capacity ≡ old.capacity = ap (λ t. t.capacity) was in
@@ -95,7 +90,7 @@ Putting-full shape page count old now new i e up here p done epoch index es is m
     )
 
 pub Putting-end : (shape : Shape) (page : List ℕ) (count : ℕ) (old now : Table) (i : ℕ) → count ≤ i → length now.entries ≤ now.capacity → Putting shape page count old now i
-    → (epoch index : ℕ) (es : List Entry) → IsJournalPage shape page epoch index es → length es ≡ count → PutsOrFull old es true now
+    → OfPage shape page count (λ es. PutsOrFull old es true now)
 Putting-end shape page count old now i all bound p epoch index es is many =
     let was = p epoch index es is many in
     let room : now.capacity ≡ old.capacity = ap (λ t. t.capacity) was in
@@ -106,9 +101,7 @@ Putting-end shape page count old now i all bound p epoch index es is many =
 -- the page is the epoch's, and its entries were written, or there was no room
 pub page_taken : (shape : Shape) (spaces number index count : ℕ) (page : List ℕ) (old : Table) (ok : Bool) (new : Table) → number < 2 ^ 64 → index < epoch_commits shape
     → (es : List Entry) × (journal_entries shape number index page ≡ Some es) × (length es ≡ count)
-    → ((epoch index : ℕ) (es : List Entry) → IsJournalPage shape page epoch index es → length es ≡ count → in_spaces spaces es ≡ true)
-    → ((epoch index : ℕ) (es : List Entry) → IsJournalPage shape page epoch index es → length es ≡ count → PutsOrFull old es ok new)
-    → TakesPage shape spaces number index page old ok new
+    → OfPage shape page count (λ es. in_spaces spaces es ≡ true) → OfPage shape page count (λ es. PutsOrFull old es ok new) → TakesPage shape spaces number index page old ok new
 page_taken shape spaces number index count page old true new fits within reads spaced all =
     let held = journal_held shape number index page reads.0 fits within reads.1 in
     (reads.0, reads.1, spaced number index reads.0 held reads.2, all number index reads.0 held reads.2)
@@ -119,8 +112,7 @@ page_taken shape spaces number index count page old false new fits within reads 
 -- the page has an entry of another namespace
 pub page_of_others : (shape : Shape) (spaces number index count : ℕ) (page : List ℕ) (old : Table) → number < 2 ^ 64 → index < epoch_commits shape
     → (es : List Entry) × (journal_entries shape number index page ≡ Some es) × (length es ≡ count)
-    → ((epoch index : ℕ) (es : List Entry) → IsJournalPage shape page epoch index es → length es ≡ count → in_spaces spaces es ≡ false)
-    → TakesPage shape spaces number index page old false old
+    → OfPage shape page count (λ es. in_spaces spaces es ≡ false) → TakesPage shape spaces number index page old false old
 page_of_others shape spaces number index count page old fits within reads others =
     let not_in = others number index reads.0 (journal_held shape number index page reads.0 fits within reads.1) reads.2 in
     (refl, λ es is. inl (subst (λ (xs : List Entry). in_spaces spaces xs ≡ false) (some_same _ _ (sym reads.1 ∙ is)) not_in))
@@ -155,18 +147,13 @@ no_page shape spaces number index page old r bad fits within read is = (refl, λ
 
 -- the page that was found is the one by which the pair is read
 pub found_page : (p : ℕ × Page) (page : ℕ) → Some page ≡ whole_number p → (bytes : List ℕ) × (p.1 ≡ whole bytes) × (page ≡ p.0)
-found_page (q, whole bytes) page is = let same : page ≡ q = some_same is in (bytes, refl, same)
-  where
-    some_same : {x y : ℕ} → Some x ≡ Some y → x ≡ y
-    some_same e = cc
-found_page (q, erased) page is = cc
-found_page (q, torn) page is = cc
+found_page (q, whole bytes) page is = (bytes, refl, some_same page q is)
+found_page _ page is = cc
 
 -- none of its pages is whole
 pub found_none : (p : ℕ × Page) → None ≡ whole_number p → IsNotWhole p.1
 found_none (q, whole bytes) is = cc
-found_none (q, erased) is = λ bytes e. cc
-found_none (q, torn) is = λ bytes e. cc
+found_none _ is = λ bytes e. cc
 
 -- ---- consecutive pages
 
@@ -176,9 +163,8 @@ all_append P (x ∷ xs) ys front back = (front.0, all_append P xs ys front.1 bac
 
 -- a commit without a page is the last that is read
 ends_here : (page : Page) (more : ℕ) → IsNotWhole page → if_whole page more ≡ 0
-ends_here erased more not_whole = refl
-ends_here torn more not_whole = refl
 ends_here (whole bytes) more not_whole = absurd (not_whole bytes refl)
+ends_here _ more not_whole = refl
 
 -- after a page that is Whole the reads go on
 goes_here : (page : Page) (bytes : List ℕ) (more : ℕ) → page ≡ whole bytes → if_whole page more ≡ more
@@ -243,11 +229,20 @@ module _ (shape : Shape) (spaces number : ℕ) (blocks : List ℕ) (old : BoardS
     keys : (es : List Entry) → length (puts es into.entries) ≡ length (firsts (r.entries ++ es))
     keys es = ap (λ (t : Table). length (puts es t.entries)) r.held ∙ ap length (puts_are_firsts r.entries es) ∙ firsts-reverse (r.entries ++ es)
 
-    reads_here : (rest : ℕ) → epoch_commits shape - i ≡ rest → epoch_reads shape at blocks ≡ reads_before shape at blocks i + reads_to_end shape at blocks i rest
-    reads_here rest e = r.reads ∙ ap (λ k. reads_before shape at blocks i + reads_to_end shape at blocks i k) e
+    module _ (inside : i < epoch_commits shape) where
+      step : epoch_commits shape - i ≡ suc (epoch_commits shape - (i + 1))
+      step = omega (arith, inside)
 
-    left_here : (rest : ℕ) → epoch_commits shape - i ≡ rest → epoch shape spaces at number blocks ≡ journal shape spaces number i r.entries (commits_of shape at blocks i rest)
-    left_here rest e = r.left ∙ ap (λ k. journal shape spaces number i r.entries (commits_of shape at blocks i k)) e
+      -- what remains is the next commit, and the rest after it
+      left_here : epoch shape spaces at number blocks ≡ journal shape spaces number i r.entries (commits_of shape at blocks i (suc (epoch_commits shape - (i + 1))))
+      left_here = r.left ∙ ap (λ k. journal shape spaces number i r.entries (commits_of shape at blocks i k)) step
+
+      reads_here : epoch_reads shape at blocks ≡ reads_before shape at blocks (i + 1) + if_whole next.1 (reads_to_end shape at blocks (i + 1) (epoch_commits shape - (i + 1)))
+      reads_here =
+          let one : suc i ≡ i + 1 = omega arith in
+          let shifted : reads_before shape at blocks (suc i) ≡ reads_before shape at blocks (i + 1) = ap (λ k. reads_before shape at blocks k) one in
+          let all = r.reads ∙ ap (λ k. reads_before shape at blocks i + reads_to_end shape at blocks i k) step in
+          omega (arith, all, shifted)
 
     -- the board after the reads of the next commit
     read_more : (new : BoardState) → new ≡ after_reads (reads_of_pair (at (commit_page shape blocks i))) now → new ≡ after_reads (reads_before shape at blocks (i + 1)) old
@@ -267,19 +262,13 @@ module _ (shape : Shape) (spaces number : ℕ) (blocks : List ℕ) (old : BoardS
         let few : nat_le (length (firsts (r.entries ++ es))) (buffer shape) ≡ true = is_true _ (le→leb _ _ (omega (arith, size, most, c))) in
         let spaced : in_spaces spaces es ≡ true = takes.2 in
         let follows : may_follow shape spaces r.entries es ≡ true = rw (few, spaced) refl in
-        let step : epoch_commits shape - i ≡ suc (epoch_commits shape - (i + 1)) = omega (arith, inside) in
-        let one : suc i ≡ i + 1 = omega arith in
-        let more : ℕ = reads_to_end shape at blocks (i + 1) (epoch_commits shape - (i + 1)) in
-        let shifted : reads_before shape at blocks (suc i) ≡ reads_before shape at blocks (i + 1) = ap (λ k. reads_before shape at blocks k) one in
-        let all = reads_here (suc (epoch_commits shape - (i + 1))) step in
-        let gone = goes_here next.1 bytes more here in
         record {
           entries = r.entries ++ es;
           board = read_more new read;
           held = takes.3.0 ∙ ap (λ (t : Table). record t { entries = puts es t.entries }) r.held
               ∙ ap (λ (xs : List Entry). record { capacity = buffer shape; entries = xs }) (puts_are_firsts r.entries es);
-          left = left_here (suc (epoch_commits shape - (i + 1))) step ∙ goes_on shape spaces number blocks at i r.entries (epoch_commits shape - (i + 1)) bytes here es takes.1 follows;
-          reads = omega (arith, all, gone, shifted);
+          left = left_here inside ∙ goes_on shape spaces number blocks at i r.entries (epoch_commits shape - (i + 1)) bytes here es takes.1 follows;
+          reads = reads_here inside ∙ ap (λ k. reads_before shape at blocks (i + 1) + k) (goes_here next.1 bytes _ here);
           before = λ j small. below_more (λ (j : ℕ). HasCommit shape old.pages blocks j) i r.before (bytes, here) j (omega (arith, small));
           each = all_append (IsEntry shape) r.entries es r.each (journal_held shape number i bytes es fits inside takes.1).content.each;
         }
@@ -287,19 +276,17 @@ module _ (shape : Shape) (spaces number : ℕ) (blocks : List ℕ) (old : BoardS
     pub Replaying-refused : (bytes : List ℕ) (new : BoardState) (into' : Table) (page : ℕ) → i < epoch_commits shape → next.1 ≡ whole bytes
         → new ≡ after_reads (reads_of_pair (at (commit_page shape blocks i))) now → page ≡ next.0 → TakesPage shape spaces number i bytes into false into' → ReplayRefused shape spaces number blocks old new page
     Replaying-refused bytes new into' page inside here read page_is takes =
-        let step : epoch_commits shape - i ≡ suc (epoch_commits shape - (i + 1)) = omega (arith, inside) in
         record {
           index = i;
           within = inside;
           page_is = page_is;
-          read = left_here (suc (epoch_commits shape - (i + 1))) step
-              ∙ refuses shape spaces number blocks at i r.entries (epoch_commits shape - (i + 1)) bytes here (λ es is. not_followed es (takes.1 es is))
+          read = left_here inside ∙ refuses shape spaces number blocks at i r.entries (epoch_commits shape - (i + 1)) bytes here (λ es is. not_followed es (takes.1 es is))
               ∙ ap (λ p. Err (damaged p)) (sym page_is);
           board = read_more new read;
         }
       where
         not_followed : (es : List Entry) → (in_spaces spaces es ≡ false) ⊎ (into.capacity < length (puts es into.entries)) → may_follow shape spaces r.entries es ≡ false
-        not_followed es (inl other) = rw other (no_more (nat_le (length (firsts (r.entries ++ es))) (buffer shape)))
+        not_followed es (inl other) = rw other (and-false (nat_le (length (firsts (r.entries ++ es))) (buffer shape)))
         not_followed es (inr many) =
             let k = keys es in
             let c = room in
@@ -322,18 +309,14 @@ module _ (shape : Shape) (spaces number : ℕ) (blocks : List ℕ) (old : BoardS
     pub reads_to_last : (new : BoardState) → i < epoch_commits shape → IsNotWhole next.1 → new ≡ after_reads (reads_of_pair (at (commit_page shape blocks i))) now
         → new ≡ after_reads (epoch_reads shape at blocks) old
     reads_to_last new inside not_whole read =
-        let step : epoch_commits shape - i ≡ suc (epoch_commits shape - (i + 1)) = omega (arith, inside) in
-        let one : suc i ≡ i + 1 = omega arith in
-        let more : ℕ = reads_to_end shape at blocks (i + 1) (epoch_commits shape - (i + 1)) in
-        let all = reads_here (suc (epoch_commits shape - (i + 1))) step in
-        let none = ends_here next.1 more not_whole in
-        let shifted : reads_before shape at blocks (suc i) ≡ reads_before shape at blocks (i + 1) = ap (λ k. reads_before shape at blocks k) one in
-        let k : reads_before shape at blocks (i + 1) ≡ epoch_reads shape at blocks = omega (arith, all, none, shifted) in
+        let none = ends_here next.1 (reads_to_end shape at blocks (i + 1) (epoch_commits shape - (i + 1))) not_whole in
+        let k : reads_before shape at blocks (i + 1) ≡ epoch_reads shape at blocks = omega (arith, reads_here inside, none) in
         read_more new read ∙ ap (λ n. after_reads n old) k
 
     -- a full epoch has no such commit
     pub reads_all : epoch_commits shape ≤ i → now ≡ after_reads (epoch_reads shape at blocks) old
     reads_all full =
-        let all = reads_here 0 (omega (arith, full)) in
+        let none : epoch_commits shape - i ≡ 0 = omega (arith, full) in
+        let all = r.reads ∙ ap (λ k. reads_before shape at blocks i + reads_to_end shape at blocks i k) none in
         let k : reads_before shape at blocks i ≡ epoch_reads shape at blocks = omega (arith, all) in
         r.board ∙ ap (λ n. after_reads n old) k

@@ -1,4 +1,4 @@
-use Rattle.std.proofs.Common.{◌≡◌, ◌<◌, ◌∙◌, sym, ap, List, ℕ, arith, rules}
+use Rattle.std.proofs.Common.{◌<◌, ◌∙◌, sym, ap, List, ℕ, arith, rules}
 use Rattle.pk_base.{specs.Shape.epoch_commits, specs.Page.whole}
 use Rattle.pk_jrn.proofs.Replaying.{Replaying-start, Replaying-next, Replaying-refused, Replayed-ends, found_page, found_none, reads_to_last, pages_stay, reads_moved}
 use Rattle.pk_jrn.proofs.reading.replay_in.Goals as goal
