@@ -3,7 +3,8 @@ use Rattle.std.proofs.Common.{◌≡◌, inl, inr, ℕ, ◌+◌, ◌≤◌, ◌�
 use Rattle.pk_base.{specs.Shape.Shape, specs.Map.Map}
 use Rattle.pk_nvme.specs.Command.{Command}
 use Rattle.pk_nand.{specs.Calls.Rose, specs.Effects.OnlyFlash, proofs.Effects.only_then}
-use Rattle.pk_model.{specs.Growth.Goes, specs.Kept.rise, specs.Reading.Holds, specs.Run.Exchange, specs.Wear.roots, proofs.Growing.weaken_went, proofs.Growing.Goes-reaches}
+use Rattle.pk_model.{specs.Growth.Goes, specs.Kept.rise, specs.Reading.Holds, specs.Run.Exchange, specs.Wear.roots, proofs.Growing.Goes-reaches}
+use Rattle.pk_serve.proofs.Weakening.{goes_as}
 use Rattle.pk_model.specs.Spaces.{Terms, limits_at}
 use Rattle.pk_call.{specs.Calling.only_looks, specs.Exec.most_installs}
 use Rattle.pk_port.{specs.Asking.KeptSilently, specs.Asking.Asked, specs.Chained.installs_of, specs.Chained.installs, specs.Chained.AllServed, specs.Chained.HaltedAt, specs.Chained.Chained}
@@ -78,13 +79,8 @@ module _ (shape : Shape) (start : Map) (p : Standing) where
     halt = h.halt;
     is = h.is;
     cause = h.cause;
-    kept = (
-      h.kept.0,
-      weaken_went h.kept.0 p.on.board q.on.board (KeptSilently shape p.on.terms start done (rise p.on.board.read_faults q.on.board.read_faults))
-          (KeptSilently shape p.on.terms start (done ++ more) (rise p.on.board.read_faults q.on.board.read_faults))
-          (silent-more shape p.on.terms start done more (rise p.on.board.read_faults q.on.board.read_faults) (rise p.on.board.read_faults q.on.board.read_faults) (λ k few. few)) h.kept.1,
-      h.kept.2,
-    );
+    kept = goes_as shape p.on.board q.on.board
+        (silent-more shape p.on.terms start done more (rise p.on.board.read_faults q.on.board.read_faults) (rise p.on.board.read_faults q.on.board.read_faults) (λ k few. few)) h.kept;
     rose = h.rose;
     why = elim h.why [
       | inl stop ↦ inl stop

@@ -1,35 +1,23 @@
 -- Commands one after another through a port, and a text after them.
-use Rattle.std.proofs.Common.{◌≡◌, inl, inr, ℕ, ◌+◌, ◌≤◌, List, [], ◌∷◌, ◌++◌, Option, Some, refl, sym, ap, subst, ◌∙◌, arith, append-nil, append_assoc, replicate}
+use Rattle.std.proofs.Common.{◌≡◌, inl, inr, ℕ, ◌+◌, ◌≤◌, List, [], ◌∷◌, ◌++◌, Option, Some, refl, sym, ap, subst, ◌∙◌, arith, append-nil, replicate}
 use Rattle.std.proofs.lemmas.Fn.{FoldsTo-push}
 use Rattle.pk_base.{specs.Shape.Shape, specs.Page.Flash, specs.Mark.all_posted, specs.Mark.post, specs.Map.Map, proofs.Logic.ok_same}
 use Rattle.pk_nvme.specs.Command.{Command}
 use Rattle.pk_nand.{specs.BoardState.BoardState, specs.Operations.after_post, specs.Operations.PostFailed, proofs.Reaching.Reached-start, proofs.Reaching.Reached-post, proofs.Effects.only_then}
 use Rattle.pk_model.{specs.Answer.reply, specs.Answer.map_after, specs.Growth.Reaches, specs.Growth.Goes, specs.Kept.AtMost, specs.Kept.rise, specs.Reading.Holds}
 use Rattle.pk_model.{specs.Run.Step, specs.Run.Exchange, specs.Run.commands, specs.Run.faults, specs.Run.records, specs.Spaces.Terms, specs.Spaces.limits_at}
-use Rattle.pk_model.proofs.Growing.{weaken, weaken_went, at_end, Reaches-then, Goes-then, Goes-post_failed, GrowsAlong-post, Limited, Reaches-limited, Goes-limited, reached_limits}
+use Rattle.pk_model.proofs.Growing.{weaken, at_end, Reaches-then, Goes-then, Goes-post_failed, GrowsAlong-post, Limited, Reaches-limited, Goes-limited, reached_limits}
 use Rattle.pk_call.specs.Meter.{Meter, meter, Metered}
 use Rattle.pk_serve.{specs.Port.HoldsEither, specs.Port.StepCut, specs.Serving.StepWithin, proofs.Answering.reply_other, proofs.Answering.answers, proofs.Submitting.either_step}
-use Rattle.pk_serve.proofs.Counting.{at_most-zero, at_most-more, at_most-one, commands-push, faults-push, faults-one}
+pub use Rattle.pk_serve.proofs.Serves.{few_more}
+use Rattle.pk_serve.{proofs.Serves.kept-more, proofs.Serves.kept-start, proofs.Serves.kept-with, proofs.Weakening.reaches_as, proofs.Weakening.goes_as}
+use Rattle.pk_serve.proofs.Counting.{at_most-zero, at_most-more, at_most-one, commands-push, faults-one}
 use Rattle.pk_port.{specs.Asking.KeptSilently, specs.Asking.KeptWord, specs.Asking.Asked, specs.Asking.Ran, specs.Steps.Mounted, specs.Steps.Serves, specs.Steps.Stops}
 
 -- more commands, and more faults
 pub silent-more : (shape : Shape) (terms : Terms) (start : Map) (cs more : List Command) (n later : Option ℕ) → ((k : ℕ) → AtMost n k → AtMost later k)
     → (f : Flash) (q : List ℕ) → KeptSilently shape terms start cs n f q → KeptSilently shape terms start (cs ++ more) later f q
-silent-more shape terms start cs more n later up f q (none, k) = (
-  none,
-  record {
-    served = k.served;
-    unserved = k.unserved ++ more;
-    from_front = sym (append_assoc (commands k.served) k.unserved more) ∙ ap (λ l. l ++ more) k.from_front;
-    map_left = k.map_left;
-    ran = k.ran;
-    held = k.held;
-    same_limits = k.same_limits;
-    unposted = k.unposted;
-    begins = k.begins;
-    few_faults = up (faults k.served) k.few_faults;
-  },
-)
+silent-more shape terms start cs more n later up f q (none, k) = (none, kept-more shape terms start cs more n later up f [] k)
 
 -- nothing was asked
 pub asked-none : (shape : Shape) (terms : Terms) (start : Map) (a : BoardState) → a.shape ≡ Some shape
@@ -42,21 +30,8 @@ asked-none shape terms start a has holds within = record {
   shape_is = has;
   reached = (
     [],
-    Reached-start a a (KeptSilently shape terms start [] (rise a.read_faults a.read_faults)) refl refl refl refl (
-      refl,
-      record {
-        served = [];
-        unserved = [];
-        from_front = refl;
-        map_left = start;
-        ran = refl;
-        held = holds;
-        same_limits = within;
-        unposted = [];
-        begins = refl;
-        few_faults = at_most-zero (rise a.read_faults a.read_faults);
-      },
-    ),
+    Reached-start a a (KeptSilently shape terms start [] (rise a.read_faults a.read_faults)) refl refl refl refl
+        (refl, kept-start shape terms start (rise a.read_faults a.read_faults) a.pages holds within),
     tt,
   );
   rose = omega arith;
@@ -64,12 +39,8 @@ asked-none shape terms start a has holds within = record {
   rest = refl;
 }
 
--- the bound on faults for a list with one more
-pub few_more : (n : Option ℕ) (xs : List Exchange) (x : Exchange) (k : ℕ) → faults (x ∷ []) ≡ k → AtMost n (faults xs + k) → AtMost n (faults (xs ++ x ∷ []))
-few_more n xs x k e h = let T : ℕ → Type 0 = λ f. AtMost n f in subst T (sym (faults-push xs x ∙ ap (λ f. faults xs + f) e)) h
-
 pub few_same : (n : Option ℕ) (xs : List Exchange) → AtMost n (faults xs) → AtMost n (faults xs + 0)
-few_same n xs h = let T : ℕ → Type 0 = λ k. AtMost n k in let e : faults xs ≡ faults xs + 0 = omega arith in subst T e h
+few_same n xs h = subst (λ k. AtMost n k) (omega arith) h
 
 module _ (shape : Shape) (terms : Terms) (start : Map) (cs : List Command) (from mid : Meter) (m : Map) (r : Ran shape terms start cs from mid m) where
   pushed : (x : Exchange) (c : Command) → x.command ≡ c → commands (r.all ++ x ∷ []) ≡ cs ++ c ∷ []
@@ -107,31 +78,12 @@ module _ (shape : Shape) (terms : Terms) (start : Map) (a b : BoardState) (cs : 
         let other : faults (x ∷ []) ≡ 0 = elim (faults-one x) [ inl good ↦ good.1 | inr bad ↦ absurd (reply_other shape terms w.left (replicate 11 0) c bad.0) ] in (
           ap (λ t. t ++ q) quiet ∙ cut.0.0,
           elim cut.0.1 [
-            | inl before ↦ record {
-              served = w.answered.all;
-              unserved = c ∷ [];
-              from_front = ap (λ l. l ++ c ∷ []) w.answered.are;
-              map_left = w.left;
-              ran = w.answered.ran;
-              held = before;
-              same_limits = cut.1 ∙ w.same_limits;
-              unposted = records 0 w.answered.all;
-              begins = refl;
-              few_faults = few_now;
-            }
-            | inr behind ↦ record {
-              served = w.answered.all ++ x ∷ [];
-              unserved = [];
-              from_front = append-nil (commands (w.answered.all ++ x ∷ [])) ∙ pushed shape terms start cs (meter a) (meter b) w.left w.answered x c refl;
-              map_left = map_after shape terms.limits w.left c;
-              ran = FoldsTo-push (StepWithin shape terms) start w.answered.all w.left x
-                  (map_after shape terms.limits w.left c) w.answered.ran (inl (answers shape terms w.left c), λ _. omega arith);
-              held = behind;
-              same_limits = cut.1 ∙ w.same_limits;
-              unposted = records 0 (w.answered.all ++ x ∷ []);
-              begins = refl;
-              few_faults = few_more now w.answered.all x 0 other (few_same now w.answered.all few_now);
-            }
+            | inl before ↦ kept-with shape terms start (cs ++ c ∷ []) (c ∷ []) now f [] (records 0 w.answered.all) w.answered.all w.left
+                (ap (λ l. l ++ c ∷ []) w.answered.are) w.answered.ran before (cut.1 ∙ w.same_limits) refl few_now
+            | inr behind ↦ kept-with shape terms start (cs ++ c ∷ []) [] now f [] (records 0 (w.answered.all ++ x ∷ [])) (w.answered.all ++ x ∷ []) (map_after shape terms.limits w.left c)
+                (append-nil (commands (w.answered.all ++ x ∷ [])) ∙ pushed shape terms start cs (meter a) (meter b) w.left w.answered x c refl)
+                (FoldsTo-push (StepWithin shape terms) start w.answered.all w.left x (map_after shape terms.limits w.left c) w.answered.ran (inl (answers shape terms w.left c), λ _. omega arith))
+                behind (cut.1 ∙ w.same_limits) refl (few_more now w.answered.all x 0 other (few_same now w.answered.all few_now))
           ],
         )
 
@@ -155,16 +107,12 @@ module _ (shape : Shape) (start : Map) (a : BoardState) (cs : List Command) (old
   seen_cut : (map : Map) → map ≡ w.left → old.board.read_faults ≤ new.board.read_faults → (f : Flash) (q : List ℕ) → Limited shape old.board (StepCut shape old.terms.limits map c) f q
       → KeptSilently shape old.terms start (cs ++ c ∷ []) (rise a.read_faults new.board.read_faults) f (all_posted w.reached.0 ++ q)
   seen_cut map same up f q cut =
-      let T : Map → Type 0 = λ m. Limited shape old.board (StepCut shape old.terms.limits m c) f q in cut_more shape old.terms start a old.board cs w c new.board.read_faults up f q (subst T same cut)
+      cut_more shape old.terms start a old.board cs w c new.board.read_faults up f q (subst (λ m. Limited shape old.board (StepCut shape old.terms.limits m c) f q) same cut)
 
   -- cuts of a command that was served, by its step
   served_cut : (x : Exchange) (s : Serves shape old new c x) → Reaches shape old.board new.board (StepCut shape old.terms.limits s.map c)
-  served_cut x s = let C : Command → Type 0 = λ l. Step shape old.terms s.map l x.reply s.left in (
-    s.reached.0,
-    weaken s.reached.0 old.board new.board (HoldsEither shape s.map s.left) (StepCut shape old.terms.limits s.map c)
-        (either_step shape old.terms s.map c x.reply s.left (subst C s.is s.step.0)) s.reached.1,
-    s.reached.2,
-  )
+  served_cut x s =
+      reaches_as shape old.board new.board (either_step shape old.terms s.map c x.reply s.left (subst (λ (l : Command). Step shape old.terms s.map l x.reply s.left) s.is s.step.0)) s.reached
 
   -- one more command was served
   pub asked-next : (x : Exchange) → Serves shape old new c x → Asked shape old.terms start a new.board (cs ++ c ∷ [])
@@ -172,10 +120,10 @@ module _ (shape : Shape) (start : Map) (a : BoardState) (cs : List Command) (old
       let n = rise a.read_faults new.board.read_faults in
       let more = before_more shape old.terms start a old.board cs w c new.board.read_faults s.up in
       let same = same_map s.map s.held in
-      let W : Map → Type 0 = λ m. StepWithin shape old.terms m x s.left in
       record {
         left = s.left;
-        answered = ran-next shape old.terms start cs (meter a) (meter old.board) w.left w.answered (meter new.board) c x s.left w.rose s.up s.is (subst W same s.step) s.metered;
+        answered = ran-next shape old.terms start cs (meter a) (meter old.board) w.left w.answered (meter new.board) c x s.left w.rose s.up s.is
+            (subst (λ m. StepWithin shape old.terms m x s.left) same s.step) s.metered;
         held = s.holds;
         same_limits = reached_limits shape old.board new.board (HoldsEither shape s.map s.left) on_board s.reached ∙ w.same_limits;
         shape_is = w.shape_is;
@@ -204,11 +152,7 @@ module _ (Says : List Exchange → List ℕ → Map → Type 0) (shape : Shape) 
 
   pub went-silent : (from to : Meter) (a b : BoardState) → Goes shape a b (KeptSilently shape terms start cs (rise from.read_faults to.read_faults))
       → Goes shape a b (KeptWord Says shape terms start cs from to)
-  went-silent from to a b went = (
-    went.0,
-    weaken_went went.0 a b (KeptSilently shape terms start cs (rise from.read_faults to.read_faults)) (KeptWord Says shape terms start cs from to) (silent_word from to) went.1,
-    went.2,
-  )
+  went-silent from to a b went = goes_as shape a b (silent_word from to) went
 
   module _ (a b : BoardState) (w : Asked shape terms start a b cs) where
     abbrev said_at : Flash → List ℕ → Type 0

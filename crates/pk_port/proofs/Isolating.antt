@@ -1,5 +1,5 @@
 -- A command in the first namespace of a drive, as a drive answers it that has this namespace alone.
-use Rattle.std.proofs.Common.{◌≡◌, ◌≢◌, ℕ, ◌≤◌, List, [], ◌∷◌, length, Bool, true, false, ◌==◌, cond, ◌&&◌, nat_le, Option, Some, None, refl, sym, ap, subst, ◌∙◌, arith, ne_eqb}
+use Rattle.std.proofs.Common.{◌≡◌, ◌≢◌, ℕ, ◌≤◌, List, [], ◌∷◌, length, Bool, true, false, ◌==◌, cond, ◌&&◌, nat_le, Option, None, refl, sym, ap, subst, ◌∙◌, arith, ne_eqb}
 use Rattle.std.{proofs.lemmas.Bool.le-leb, specs.List.AllByRecursion, specs.FinMap.get, specs.FinMap.entries, specs.FinMap.Entries.where_key}
 use Rattle.pk_base.{specs.Shape.Shape, specs.Key.Key, specs.Key.key_cmp, specs.Key.space_of, specs.Map.Map, specs.Map.IsMap}
 use Rattle.pk_nvme.{specs.Command.Command, specs.Reply.Reply}

@@ -1,7 +1,7 @@
 -- What a command that was served leaves of a drive on its board, and what it reports to a host.
-use Rattle.std.proofs.Common.{◌≡◌, ◌≢◌, inl, inr, ℕ, ◌+◌, ◌≤◌, ◌<◌, ◌^◌, refl, sym, ap, subst, ◌∙◌, arith, List, [], ◌∷◌, length, take, Bool, true, false, ◌==◌, nat_le, Option, Some, Result, Ok, Err}
+use Rattle.std.proofs.Common.{◌≡◌, ◌≢◌, inl, inr, ℕ, ◌+◌, ◌≤◌, ◌<◌, ◌^◌, refl, sym, ap, subst, ◌∙◌, arith, List, [], length, take, Bool, true, false, ◌==◌, nat_le, Option, Some}
 use Rattle.std.{proofs.lemmas.Bool.eqb-true, proofs.lemmas.Bool.eqb-false, proofs.lemmas.Bool.Decides.nat_tests, proofs.lemmas.List.length-take-le}
-use Rattle.pk_base.{specs.Shape.Shape, specs.Page.Flash, specs.Entry.Entry, specs.Map.Map}
+use Rattle.pk_base.{specs.Shape.Shape, specs.Page.Flash, specs.Map.Map}
 use Rattle.pk_nvme.{specs.Command.Command, specs.Reply.Reply}
 use Rattle.pk_nand.{specs.BoardState.BoardState, specs.BoardState.shape_of, specs.BoardState.shape_or_none, specs.Calls.Rose, specs.Effects.OnlyFlash, specs.Effects.OnlyReading}
 use Rattle.pk_call.{specs.Calling.only_looks, specs.Drive.HoldsMap, specs.Sight.Sight, specs.Exec.most_installs, specs.Exec.IsValue, specs.Meter.reads_after}
@@ -16,14 +16,13 @@ use Rattle.pk_port.{proofs.Isolating.first_step, proofs.Isolating.others_left, p
 -- what is passed, of a board of this shape
 pub value_on : (shape : Shape) (board : BoardState) (opcode size : ℕ) (handed value : List ℕ)
     → board.shape ≡ Some shape → IsValue shape opcode size handed value → IsValue (shape_of board) opcode size handed value
-value_on shape board opcode size handed value has h = let T : Shape → Type 0 = λ s. IsValue s opcode size handed value in subst T (sym (ap shape_or_none has)) h
+value_on shape board opcode size handed value has h = subst (λ (s : Shape). IsValue s opcode size handed value) (sym (ap shape_or_none has)) h
 
 -- what a drive says of its roots is said of the board that it agrees with
 pub unworn_on : (agrees : Option Shape → Flash → Type 0) (shape : Shape) (board : BoardState) (worn : Bool) → board.shape ≡ Some shape → agrees board.shape board.pages
     → ((s : Shape) (f : Flash) → agrees (Some s) f → worn ≡ nat_le 9223372036854775808 (root_number s f)) → worn ≡ false → is_worn board ≡ false
 unworn_on agrees shape board worn has agreed says not_worn =
-    let T : Option Shape → Type 0 = λ o. agrees o board.pages in
-    ap (λ o. nat_le 9223372036854775808 (root_number (shape_or_none o) board.pages)) has ∙ (sym (says shape board.pages (subst T has agreed)) ∙ not_worn)
+    ap (λ o. nat_le 9223372036854775808 (root_number (shape_or_none o) board.pages)) has ∙ (sym (says shape board.pages (rw has at agreed)) ∙ not_worn)
 
 -- the limits of a drive on a board of this shape
 pub mounted_limits : (shape : Shape) (board : BoardState) (drive : Sight) → board.shape ≡ Some shape → limits_at shape board.pages ≡ (mount board drive).terms.limits
@@ -36,7 +35,7 @@ mounted_terms shape terms board drive m stands = λ k. record { frames = stands.
 module _ (agrees : Option Shape → Flash → Type 0) (shape : Shape) (old : BoardState) (d : Sight) (ready : Ready agrees shape old d) where
   -- the flash holds the map
   pub ready_holds : Holds shape old.pages ready.map
-  ready_holds = let M : List Entry → Type 0 = λ p. reading shape old.pages p ≡ Ok ready.map in subst M ready.none ready.stands.map_is
+  ready_holds = rw ready.none at ready.stands.map_is
 
   -- it has at least one namespace
   pub some_limit : 1 ≤ length (mount old d).terms.limits
@@ -116,8 +115,7 @@ module _ (agrees : Option Shape → Flash → Type 0) (shape : Shape) (old : Boa
         result_size = field;
         answers = λ m told.
             let same = part_held (reading shape old.pages []) ready.map m ready_holds told in
-            let T : Map → Type 0 = λ x. PortSteps (seen shape (mount old d) before) (seen shape (mount new e) behind) c rep x in
-            subst T same (record {
+            subst (λ (x : Map). PortSteps (seen shape (mount old d) before) (seen shape (mount new e) behind) c rep x) same (record {
               within = within before;
               frames = d.counts.frames;
               frames_is = refl;
@@ -162,4 +160,4 @@ module _ (agrees : Option Shape → Flash → Type 0) (shape : Shape) (old : Boa
 
 -- data at the start of a buffer, n bytes
 pub front_few : (len : ℕ) (into : List ℕ) (most : ℕ) → len ≤ length into → length (take len into) ≤ most → len ≤ most
-front_few len into most fits few = let n = length-take-le len into fits in omega (arith, n, few)
+front_few len into most fits few = omega (arith, length-take-le len into fits, few)

@@ -3,7 +3,7 @@ use Rattle.std.proofs.Common.{arith, unwrap_or, ◌≡◌, ◌≢◌, ℕ, List,
 use Rattle.std.specs.FinMap.{contains_key}
 use Rattle.pk_base.{specs.Choices.or_else, specs.Shape.Shape, specs.Shape.greatest, specs.Map.Map}
 use Rattle.pk_nvme.{specs.Command.Command, specs.Command.key, specs.Command.must_exist, specs.Command.must_be_new, specs.Opcode.op_of, specs.declared.opcode.Opcode.Opcode}
-use Rattle.pk_nvme.specs.declared.opcode.Opcode.TheVariants.{Flush, Store, Retrieve, List as ListKeys, Delete, Exist, Tick, Report}
+use Rattle.pk_nvme.specs.declared.opcode.Opcode.TheVariants.{Store, Retrieve, List as ListKeys, Delete, Exist}
 use Rattle.pk_model.specs.Answer.{check, is_namespace, is_key_length, size_fault, fault_of, early, late_of, live_after, refused, reply, reply_of, Answer, map_after}
 use Rattle.pk_model.specs.Spaces.{Terms, limit_of, in_space}
 
@@ -23,14 +23,9 @@ differ : (s t : ℕ) → s ≢ t → Some s ≢ Some t
 differ s t h e = h (ap (λ o. unwrap_or o s) e)
 
 size_other : (shape : Shape) (k : Opcode) (size : ℕ) → Other (size_fault shape k size)
-size_other shape Flush size = λ e. cc
 size_other shape Store size = check_other (nat_le size (greatest shape)) 0x85 (differ 0x85 0x88 (omega arith))
-size_other shape Retrieve size = λ e. cc
 size_other shape ListKeys size = check_other (nat_le 4 size) 0x02 (differ 0x02 0x88 (omega arith))
-size_other shape Delete size = λ e. cc
-size_other shape Exist size = λ e. cc
-size_other shape Tick size = λ e. cc
-size_other shape Report size = λ e. cc
+size_other shape k size = λ e. cc
 
 fault_other : (spaces : ℕ) (shape : Shape) (c : Command) (k : Option Opcode) → Other (fault_of spaces shape c k)
 fault_other spaces shape c None = differ 0x01 0x88 (omega arith)
@@ -42,7 +37,6 @@ missing : (b : Bool) → Other (check b 0x87)
 missing b = check_other b 0x87 (differ 0x87 0x88 (omega arith))
 
 late_other : (shape : Shape) (most : ℕ) (m : Map) (c : Command) (k : Option Opcode) → Other (late_of shape most m c k)
-late_other shape most m c None = λ e. cc
 late_other shape most m c (Some Store) =
     first_other (check (not (must_exist c) || contains_key m (key c)) 0x87) _ (missing (not (must_exist c) || contains_key m (key c)))
     (first_other (check (not (must_be_new c && contains_key m (key c))) 0x89) _ (check_other (not (must_be_new c && contains_key m (key c))) 0x89 (differ 0x89 0x88 (omega arith)))
@@ -50,21 +44,11 @@ late_other shape most m c (Some Store) =
 late_other shape most m c (Some Retrieve) = missing (contains_key m (key c))
 late_other shape most m c (Some Delete) = missing (contains_key m (key c))
 late_other shape most m c (Some Exist) = missing (contains_key m (key c))
-late_other shape most m c (Some Flush) = λ e. cc
-late_other shape most m c (Some ListKeys) = λ e. cc
-late_other shape most m c (Some Tick) = λ e. cc
-late_other shape most m c (Some Report) = λ e. cc
+late_other shape most m c k = λ e. cc
 
 success_of : (shape : Shape) (most frames : ℕ) (m : Map) (own : List ℕ) (c : Command) (k : Option Opcode) → (reply_of shape most frames m own c k).status ≡ 0
-success_of shape most frames m own c None = refl
-success_of shape most frames m own c (Some Store) = refl
 success_of shape most frames m own c (Some Retrieve) = refl
-success_of shape most frames m own c (Some Delete) = refl
-success_of shape most frames m own c (Some Exist) = refl
-success_of shape most frames m own c (Some Flush) = refl
-success_of shape most frames m own c (Some ListKeys) = refl
-success_of shape most frames m own c (Some Tick) = refl
-success_of shape most frames m own c (Some Report) = refl
+success_of shape most frames m own c k = refl
 
 differ_from_success : {n : ℕ} → n ≡ 0 → n ≢ 0x88
 differ_from_success e x = omega arith

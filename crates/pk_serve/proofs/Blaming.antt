@@ -10,12 +10,9 @@ pub quiet-then : (a b c : BoardState) → NoFaults a b → NoFaults b c → NoFa
 quiet-then a b c p q = record { output = q.output ∙ p.output; stop = q.stop ∙ p.stop }
 
 pub cause-then : (a b c : BoardState) (end : End) → NoFaults a b → HasCause b c end → HasCause a c end
-cause-then a b c Done q h = h
-cause-then a b c Truncated q h = h
-cause-then a b c Input q h = h
 cause-then a b c Output q h = rose_from q.output h
 cause-then a b c Flash q h = rose_from q.stop h
-cause-then a b c Worn q h = h
+cause-then a b c end q h = h
 
 pub quiet-flash : (a b : BoardState) → OnlyFlash a b → b.stop_faults ≡ a.stop_faults → NoFaults a b
 quiet-flash a b rest same = record { output = ap (λ (s : BoardState). s.out_faults) rest; stop = same }
@@ -26,41 +23,31 @@ quiet-post a b bytes is = record { output = ap (λ (s : BoardState). s.out_fault
 -- ---- the end of a call, as it is reported
 
 pub blames-cause : (a b : BoardState) (end : End) → HasCause a b end → Blames a b end
-blames-cause a b Done h = absurd h
-blames-cause a b Truncated h = absurd h
-blames-cause a b Input h = absurd h
 blames-cause a b Output h = h
 blames-cause a b Flash h = h
-blames-cause a b Worn h = absurd h
+blames-cause a b end h = absurd h
 
 pub blames-then : (a b c : BoardState) (end : End) → b.in_faults ≡ a.in_faults → NoFaults a b → Blames b c end → Blames a c end
-blames-then a b c Done i q h = (h.0 ∙ i, quiet-then a b c q h.1)
-blames-then a b c Truncated i q h = (h.0 ∙ i, quiet-then a b c q h.1)
 blames-then a b c Input i q h = (rose_from i h.0, quiet-then a b c q h.1)
 blames-then a b c Output i q h = rose_from q.output h
 blames-then a b c Flash i q h = rose_from q.stop h
-blames-then a b c Worn i q h = (h.0 ∙ i, quiet-then a b c q h.1)
+blames-then a b c end i q h = (h.0 ∙ i, quiet-then a b c q h.1)
 
 rose_to : (a b c : ℕ) → c ≡ b → Rose a b → Rose a c
 rose_to a b c e h = let T : ℕ → Type 0 = λ n. Rose a n in subst T (sym e) h
 
 -- what follows had no fault
 pub blames-still : (a b c : BoardState) (end : End) → Blames a b end → c.in_faults ≡ b.in_faults → NoFaults b c → Blames a c end
-blames-still a b c Done h i q = (i ∙ h.0, quiet-then a b c h.1 q)
-blames-still a b c Truncated h i q = (i ∙ h.0, quiet-then a b c h.1 q)
 blames-still a b c Input h i q = (rose_to _ _ _ i h.0, quiet-then a b c h.1 q)
 blames-still a b c Output h i q = rose_to _ _ _ q.output h
 blames-still a b c Flash h i q = rose_to _ _ _ q.stop h
-blames-still a b c Worn h i q = (i ∙ h.0, quiet-then a b c h.1 q)
+blames-still a b c end h i q = (i ∙ h.0, quiet-then a b c h.1 q)
 
 -- an end that is no fault of the output or the flash, and what failed after it
 unfailed : (a b : BoardState) (end : End) → (IsFault end → ⊥) → Blames a b end → NoFaults a b
-unfailed a b Done n h = h.1
-unfailed a b Truncated n h = h.1
-unfailed a b Input n h = h.1
 unfailed a b Output n h = absurd (n tt)
 unfailed a b Flash n h = absurd (n tt)
-unfailed a b Worn n h = h.1
+unfailed a b end n h = h.1
 
 pub blames-behind : (a b c : BoardState) (end fault : End) → (IsFault end → ⊥) → Blames a b end → HasCause b c fault → Blames a c fault
 blames-behind a b c end fault n h cause = blames-cause a c fault (cause-then a b c fault (unfailed a b end n h) cause)

@@ -14,27 +14,20 @@ counted_most (suc k) n = let rest = counted_most k n in omega (arith, rest)
 
 few_made : (most : ℕ) (b c : BoardState) → FewCalls most b c → calls_of c ≤ calls_of b + most
 few_made most b c f =
-    let reads = counted_most f.reads_made b.reads in
-    let programs = counted_most f.programs_made b.programs in
-    let erases = counted_most f.erases_made b.erases in
-    let few = f.few in
-    omega (arith, reads, programs, erases, few, f.reads, f.programs, f.erases)
+    omega (arith, counted_most f.reads_made b.reads, counted_most f.programs_made b.programs, counted_most f.erases_made b.erases, f.few, f.reads, f.programs, f.erases)
 
 -- a command on a board of this shape
 pub command_calls : (shape : Shape) (b c : BoardState) (opcode size : ℕ) → b.shape ≡ Some shape
     → FewCalls (most_calls_of (shape_of b) opcode size) b c → calls_of c ≤ calls_of b + most_calls_of shape opcode size
 command_calls shape b c opcode size has f =
-    let T : Shape → Type 0 = λ s. FewCalls (most_calls_of s opcode size) b c in
-    few_made (most_calls_of shape opcode size) b c (subst T (ap shape_or_none has) f)
+    few_made (most_calls_of shape opcode size) b c (subst (λ s. FewCalls (most_calls_of s opcode size) b c) (ap shape_or_none has) f)
 
 -- a commit, of what is pending
 pub commit_calls : (b c : BoardState) (pending : List Entry) → (pending ≡ [] → c ≡ b) → (pending ≢ [] → ProgramsOfCommit 1 b c) → calls_of c ≤ calls_of b + owed pending
 commit_calls b c [] idle made = let same = ap calls_of (idle refl) in omega (arith, same)
 commit_calls b c (entry ∷ more) idle made =
     let few = made (λ e. cc) in
-    let most = few.most in
-    let counted = counted_most few.made b.programs in
-    omega (arith, most, counted, few.reads, few.programs, few.erases)
+    omega (arith, few.most, counted_most few.made b.programs, few.reads, few.programs, few.erases)
 
 pub owed_most : (pending : List Entry) → owed pending ≤ commit_programs
 owed_most [] = omega arith
@@ -48,22 +41,14 @@ most_calls-append shape (c ∷ xs) ys = let rest = most_calls-append shape xs ys
 
 -- a prefix of them
 pub most_calls-front : (shape : Shape) (xs ys : List Command) → most_calls_of_all shape (xs ++ take 1 ys) ≤ most_calls_of_all shape (xs ++ ys)
-most_calls-front shape xs ys =
-    let front = most_calls-append shape xs (take 1 ys) in
-    let whole = most_calls-append shape xs ys in
-    let less = first shape ys in
-    omega (arith, front, whole, less)
+most_calls-front shape xs ys = omega (arith, most_calls-append shape xs (take 1 ys), most_calls-append shape xs ys, first shape ys)
   where
     first : (shape : Shape) (ys : List Command) → most_calls_of_all shape (take 1 ys) ≤ most_calls_of_all shape ys
     first shape [] = omega arith
     first shape (c ∷ ys) = omega arith
 
 pub most_calls-more : (shape : Shape) (xs ys more : List Command) → most_calls_of_all shape (xs ++ take 1 ys) ≤ most_calls_of_all shape (xs ++ take 1 (ys ++ more))
-most_calls-more shape xs ys more =
-    let front = most_calls-append shape xs (take 1 ys) in
-    let whole = most_calls-append shape xs (take 1 (ys ++ more)) in
-    let less = first shape ys more in
-    omega (arith, front, whole, less)
+most_calls-more shape xs ys more = omega (arith, most_calls-append shape xs (take 1 ys), most_calls-append shape xs (take 1 (ys ++ more)), first shape ys more)
   where
     first : (shape : Shape) (ys more : List Command) → most_calls_of_all shape (take 1 ys) ≤ most_calls_of_all shape (take 1 (ys ++ more))
     first shape [] more = omega arith

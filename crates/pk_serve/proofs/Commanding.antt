@@ -1,16 +1,16 @@
 -- One command, from what is held before it to what is held after it.
-use Rattle.std.proofs.Common.{◌≡◌, ◌≢◌, inl, inr, refl, ℕ, suc, ◌+◌, ◌≤◌, ◌<◌, List, [], ◌∷◌, ◌++◌, length, sym, ap, ◌∙◌, subst, append-nil, append_assoc, arith}
+use Rattle.std.proofs.Common.{◌≡◌, ◌≢◌, inl, inr, refl, ℕ, ◌+◌, ◌≤◌, ◌<◌, List, [], ◌∷◌, ◌++◌, length, sym, ap, ◌∙◌, subst, append-nil, append_assoc, arith}
 use Rattle.pk_base.{specs.Shape.Shape, specs.Map.Map}
 use Rattle.pk_nvme.{specs.Command.Command, specs.Reply.Reply, specs.Reply.reply_record}
 use Rattle.pk_nand.{specs.BoardState.BoardState, specs.BoardState.shape_of, specs.Calls.Rose, specs.Effects.OnlyFlash, proofs.Effects.rose_from}
-use Rattle.pk_model.{specs.Run.Exchange, specs.Run.commands, specs.Wear.roots, specs.Crashes.CrashFinds, specs.Crashes.command, specs.Growth.Reaches, specs.Growth.Goes, proofs.Growing.weaken_went}
+use Rattle.pk_model.{specs.Run.Exchange, specs.Run.commands, specs.Wear.roots, specs.Crashes.CrashFinds, specs.Crashes.command, specs.Growth.Reaches, specs.Growth.Goes}
 use Rattle.pk_model.{specs.Kept.rise, specs.Spaces.Terms}
 use Rattle.pk_call.{specs.Sight.Sight, specs.Meter.reads_after, specs.Call.CallReaches, specs.Call.CallGoes, specs.Exec.ExecStands, specs.Exec.most_installs}
 use Rattle.pk_call.specs.Calling.{FewCalls, most_calls_of}
-use Rattle.pk_serve.specs.Serving.{Serving, Cutoff, Next, ServingBroken, Keeps, CommandServed, CommandStops, KeptAt}
+use Rattle.pk_serve.specs.Serving.{Serving, Cutoff, Next, ServingBroken, Keeps, CommandServed, CommandStops}
+use Rattle.pk_serve.{proofs.Limiting.limits_on, proofs.Limiting.limits_held, proofs.Weakening.goes_as}
 use Rattle.pk_serve.{specs.Answered.Answered, specs.declared.end.End.End, specs.declared.end.End.TheVariants.Flash as FlashFailed, proofs.Counting.commands-push}
 use Rattle.pk_serve.{proofs.Serves.Serving-exec, proofs.Serves.Cutoff-exec, proofs.Serves.kept-more, proofs.Calling.command_calls, proofs.Calling.most_calls-more}
-use Rattle.pk_serve.proofs.Limiting.{limits_on, limits_held}
 
 append-some : (xs ys : List Command) → xs ≢ [] → xs ++ ys ≢ []
 append-some [] ys some e = some refl
@@ -37,19 +37,14 @@ answered-more shape terms start a c cs more h = record {
 
 pub cutoff-more : (shape : Shape) (terms : Terms) (start : Map) (a c : BoardState) (cs more : List Command) → Cutoff shape terms start a c cs → Cutoff shape terms start a c (cs ++ more)
 cutoff-more shape terms start a c cs more h = record {
-  went = (
-    h.went.0,
-    weaken_went h.went.0 a c (KeptAt shape terms start cs (rise a.read_faults c.read_faults)) (KeptAt shape terms start (cs ++ more) (rise a.read_faults c.read_faults))
-        (kept-more shape terms start cs more (rise a.read_faults c.read_faults) (rise a.read_faults c.read_faults) (λ k h. h)) h.went.1,
-    h.went.2,
-  );
+  went = goes_as shape a c (kept-more shape terms start cs more (rise a.read_faults c.read_faults) (rise a.read_faults c.read_faults) (λ k h. h)) h.went;
   answered = answered-more shape terms start a c cs more h.answered;
 }
 
 -- what is held, with nothing after it
 bare : (shape : Shape) (terms : Terms) (start : Map) (a b : BoardState) (d : Sight) (held : List ℕ) (all : List Exchange) (m : Map)
     → Serving shape terms start a b d held all m → Serving shape terms start a b d (held ++ []) all m
-bare shape terms start a b d held all m w = let T : List ℕ → Type 0 = λ t. Serving shape terms start a b d t all m in subst T (sym (append-nil held)) w
+bare shape terms start a b d held all m w = rw append-nil w
 
 -- it fails before the command
 pub stops_before : (b c : BoardState) (d : Sight) (held : List ℕ) (taken : ℕ) (end : End) (cmd : Command) → ServingBroken b c d held end → CommandStops b c d held taken end cmd
@@ -79,9 +74,8 @@ module _ (b c f : BoardState) (d e : Sight) (held now_held : List ℕ) (taken : 
         → Next shape terms start a f g (now_held ++ reply_record count cmd.cid rep reads) all m cmd
     executed shape terms start a all m size w =
         let v = keeps shape terms start a all m w in
-        let T : ℕ → Type 0 = λ n. Next shape terms start a f g (now_held ++ reply_record n cmd.cid rep reads) all m cmd in
-        let e' : suc taken ≡ count = omega arith in
-        subst T e' (Serving-exec shape terms start a c e now_held all m v f g cmd rep reads taken size
+        subst (λ n. Next shape terms start a f g (now_held ++ reply_record n cmd.cid rep reads) all m cmd) (omega arith)
+        (Serving-exec shape terms start a c e now_held all m v f g cmd rep reads taken size
         (subst (λ (limits : List ℕ). Reaches shape c f (CrashFinds shape (command limits cmd) c.pages m)) (limits_held shape terms c e m v.stands) (reaches shape terms m v.stands))
         (stands shape terms m v.stands) rest up unread sound no_stop read unworn few_roots (command_calls shape c f cmd.opcode cmd.size v.stands.shape_is calls))
 
@@ -94,5 +88,4 @@ module _ (b c f : BoardState) (d e : Sight) (held now_held : List ℕ) (taken : 
     stops_behind h end more shape terms start a all m size w =
         let n = executed shape terms start a all m size w in
         let r = more shape terms start a [] (all ++ n.x ∷ []) n.m (bare shape terms start a f g (now_held ++ reply_record count cmd.cid rep reads) (all ++ n.x ∷ []) n.m n.serving) in
-        let C : List Command → Type 0 = λ l. Cutoff shape terms start a h l in
-        (subst C (commands-push all n.x ∙ ap (λ c. commands all ++ c ∷ []) n.is) r.0, r.1)
+        (subst (λ l. Cutoff shape terms start a h l) (commands-push all n.x ∙ ap (λ c. commands all ++ c ∷ []) n.is) r.0, r.1)

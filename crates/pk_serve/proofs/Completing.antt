@@ -1,17 +1,17 @@
 -- If nothing fails, the whole script is served.
-use Rattle.std.proofs.Common.{◌≡◌, ◌≢◌, ◌⊎◌, inl, inr, ℕ, zero, suc, ◌+◌, ◌-◌, ◌*◌, ◌≤◌, ◌<◌, List, [], ◌∷◌, ◌++◌, length, refl, sym, ◌∙◌, ap, subst, arith, length-append, Some, None, Bool, true}
-use Rattle.std.proofs.Common.{false, ◌==◌, if◌then◌else◌, nat_le, Ok}
+use Rattle.std.proofs.Common.{◌≡◌, ◌≢◌, ◌⊎◌, inl, inr, ℕ, zero, suc, ◌+◌, ◌-◌, ◌*◌, ◌≤◌, ◌<◌, List, [], ◌∷◌, ◌++◌, length, refl, sym, ◌∙◌, ap, arith, length-append, Some, None, Bool, true, false}
+use Rattle.std.proofs.Common.{◌==◌, if◌then◌else◌, nat_le}
 use Rattle.std.{proofs.lemmas.Bool.Decides.nat_tests, specs.List.FoldsTo}
 use Rattle.pk_base.{specs.Shape.Shape, specs.Map.Map}
 use Rattle.pk_nvme.{specs.Command.Command, specs.Reply.Reply, specs.Opcode.op_of, specs.declared.opcode.Opcode.TheVariants.Retrieve}
 use Rattle.pk_nand.{specs.BoardState.BoardState, specs.Calls.Rose, specs.Calls.last_count}
-use Rattle.pk_model.{specs.Answer.Answer, specs.Bounds.most_reads, specs.Run.Exchange, specs.Run.Step, specs.Run.commands, specs.Run.faults, specs.Run.map_after_all, specs.Reading.reading}
+use Rattle.pk_model.{specs.Answer.Answer, specs.Bounds.most_reads, specs.Run.Exchange, specs.Run.Step, specs.Run.commands, specs.Run.faults, specs.Run.map_after_all}
 use Rattle.pk_model.{specs.Script.script, specs.Script.commands_in, specs.Script.begins_whole, specs.Kept.AtMost, specs.Kept.rise, specs.Wear.is_worn, specs.Wear.roots, specs.Spaces.Terms}
 use Rattle.pk_call.{specs.Sight.Sight, specs.Exec.most_installs, specs.Exec.most_store_roots, specs.Meter.meter}
 use Rattle.pk_serve.{specs.Answered.installs, specs.Run.Served, specs.Complete.ticks, specs.Complete.Complete, specs.Complete.IsServable, specs.Complete.RunCompletes, specs.declared.end.End.End}
 use Rattle.pk_serve.specs.declared.end.End.TheVariants.{Done, Truncated, Input, Output, Flash, Worn}
-use Rattle.pk_serve.{proofs.Counting.faults-one, proofs.Counting.metered-roots, specs.Ends.IsFault, specs.Input.script_after, specs.Loop.Ends, specs.Loop.Finish}
 use Rattle.pk_serve.proofs.Closing.{told, script_is, front_none, served_by, size_of}
+use Rattle.pk_serve.{proofs.Counting.faults-one, proofs.Counting.metered-roots, specs.Ends.IsFault, specs.Input.script_after, specs.Loop.Ends, specs.Loop.Finish}
 
 -- ---- answers without a read error
 
@@ -93,9 +93,7 @@ module _ (shape : Shape) (terms : Terms) (start : Map) (a b : BoardState) (d : S
       let none : faults s.served ≡ 0 = none_counted a.read_faults b.read_faults (faults s.served) ok.none_rose.reads s.few_faults in
       let r = answered shape terms s.served start s.left none s.ran in
       let e : s.left ≡ map_after_all shape terms.limits start (script input).0 = r.1 ∙ ap (map_after_all shape terms.limits start) s.are in
-      let R : Map → Type 0 = λ m. FoldsTo (λ m x m'. Answer shape terms m x.command x.reply m') start s.served m in
-      let H : Map → Type 0 = λ m. reading shape b.pages [] ≡ Ok m in
-      record { served = s.served; are = s.are; ran = subst R e r.0; posted = s.posted; holds = subst H e s.holds }
+      record { served = s.served; are = s.are; ran = rw e at r.0; posted = s.posted; holds = rw e at s.holds }
 
   -- another command begins in a script that is whole: there are more commands
   one_more : (bytes part left : List ℕ) (cs : List Command) → part ≢ [] → script input ≡ script_after cs (script (part ++ left)) → length cs + 1 ≤ length (script input).0

@@ -5,20 +5,17 @@ use Rattle.pk_model.{specs.Script.script, specs.Wear.is_worn}
 use Rattle.pk_call.specs.Sight.{Sight}
 use Rattle.pk_serve.{specs.Ends.IsFault, specs.Input.InputAdvances, specs.Input.NoEntry, specs.Input.Quits, specs.Further.most_entries, specs.declared.end.End.End}
 use Rattle.pk_serve.specs.Script.{Consumed, Consumes, SaysOfScript}
-use Rattle.pk_serve.specs.declared.end.End.TheVariants.{Done, Truncated, Input, Output, Flash, Worn}
+use Rattle.pk_serve.specs.declared.end.End.TheVariants.{Done, Truncated, Output, Flash, Worn}
 use Rattle.pk_serve.proofs.Scripts.{taken-append, put_back-nil, Spells-none, Spells-append}
-use Rattle.pk_serve.proofs.Closing.{told, script_is, script_of, script_none, script_whole, front_none}
+use Rattle.pk_serve.proofs.Closing.{told, script_none, script_read, script_whole, front_none}
 
 pub consumed-none : (a : BoardState) → Consumed a a 0 []
 consumed-none a = record { cs = []; bytes = []; count = refl; input = put_back-nil a.input; spells = Spells-none }
 
 pub consumes_failed : (a b : BoardState) (end : End) → IsFault end → Consumes a b end
-consumes_failed a b Done f = absurd f
-consumes_failed a b Truncated f = absurd f
-consumes_failed a b Input f = absurd f
 consumes_failed a b Output f = tt
 consumes_failed a b Flash f = tt
-consumes_failed a b Worn f = absurd f
+consumes_failed a b end f = absurd f
 
 module _ (a b c : BoardState) (taken : ℕ) (w : Consumed a b taken []) where
   plain : a.input ≡ put_back w.bytes b.input
@@ -39,11 +36,9 @@ module _ (a b c : BoardState) (taken : ℕ) (w : Consumed a b taken []) where
   pub consumes-entry : (no_more : Bool) → (no_more ≡ true → (taken ≡ most_entries) ⊎ (is_worn b ≡ true)) → (end : End) → NoEntry b c no_more end → Consumes a c end
   consumes-entry no_more why Done n = (taken, consumed-part [] n.left.input, n.at_end)
   consumes-entry no_more why Truncated k = let n = k.0 in (taken, n.part, n.some, n.left.is_part, consumed-part n.part n.left.input, n.at_end)
-  consumes-entry no_more why Input n = tt
-  consumes-entry no_more why Output n = tt
-  consumes-entry no_more why Flash n = tt
   consumes-entry no_more why Worn k =
       let n = k.0 in (taken, n.part, n.some, consumed-part n.part n.input, elim (why k.1) [ inl full ↦ inl full | inr worn ↦ inr (ap is_worn n.rest ∙ worn) ])
+  consumes-entry no_more why end n = tt
 
   pub consumes-quits : (d : Sight) (held : List ℕ) (end : End) → Quits b c d held taken end → Consumes a c end
   consumes-quits d held end (inl n) = consumes-entry (is_worn b) (λ worn. inr worn) end n
@@ -57,26 +52,17 @@ module _ (a b c : BoardState) (same : c.input ≡ b.input) (worn : is_worn c ≡
   pub consumes-still : (end : End) → Consumes a b end → Consumes a c end
   consumes-still Done h = (h.0, consumed-still h.0 [] h.1, subst AtEnd (sym same) h.2)
   consumes-still Truncated (taken, part, some, is_part, w, at_end) = (taken, part, some, is_part, consumed-still taken part w, subst AtEnd (sym same) at_end)
-  consumes-still Input h = tt
-  consumes-still Output h = tt
-  consumes-still Flash h = tt
   consumes-still Worn (taken, part, some, w, cause) = (taken, part, some, consumed-still taken part w, elim cause [ inl full ↦ inl full | inr is ↦ inr (worn ∙ is) ])
+  consumes-still end h = tt
 
 -- ---- an input that is recorded
 
 pub says_of_script : (a b : BoardState) (end : End) → Consumes a b end → SaysOfScript a b end
 says_of_script a b Done (taken, w, at_end) input is =
-    let i = told b.input (w.bytes ++ []) input (sym is ∙ w.input) in
-    let e : script input ≡ (w.cs, []) = script_of w.cs [] ([] ++ i.0) (script input) (script_is w.bytes [] i.0 input w.cs w.spells i.2) (subst AtEnd i.1 at_end) script_none in
-    (ap (λ s. s.1) e, at_end)
+    (ap (λ s. s.1) (script_read a.input b.input input w.bytes [] w.cs is w.input at_end w.spells script_none), at_end)
 says_of_script a b Truncated (taken, part, some, is_part, w, at_end) input is =
-    let i = told b.input (w.bytes ++ part) input (sym is ∙ w.input) in
-    let left : i.0 ≡ [] = subst AtEnd i.1 at_end in
-    let e : script input ≡ (w.cs, part) = script_of w.cs part (part ++ i.0) (script input) (script_is w.bytes part i.0 input w.cs w.spells i.2) (ap (λ l. part ++ l) left ∙ append-nil part) is_part in
+    let e = script_read a.input b.input input w.bytes part w.cs is w.input at_end w.spells is_part in
     (λ z. some (sym (ap (λ s. s.1) e) ∙ z), at_end)
-says_of_script a b Input h input is = tt
-says_of_script a b Output h input is = tt
-says_of_script a b Flash h input is = tt
 says_of_script a b Worn (taken, part, some, w, cause) input is =
     let i = told b.input (w.bytes ++ part) input (sym is ∙ w.input) in
     let e : script w.bytes ≡ (w.cs, []) = script_whole w.bytes w.cs w.spells in (
@@ -87,3 +73,4 @@ says_of_script a b Worn (taken, part, some, w, cause) input is =
       ap (λ s. s.1) e,
       elim cause [ inl full ↦ inl (ap (λ s. length s.0) e ∙ (sym w.count ∙ full)) | inr worn ↦ inr worn ],
     )
+says_of_script a b end h input is = tt

@@ -25,33 +25,25 @@ record_is count cid o into entry head is_entry is_head fits =
 pub keeps_held : (b : BoardState) (d : Sight) (heads now_heads : List (List ℕ)) (head more : List ℕ) → more ≡ []
     → now_heads ≡ heads ++ head ∷ [] → Keeps b b d d (bytes_of heads ++ (head ++ more)) (bytes_of now_heads)
 keeps_held b d heads now_heads head more none is shape terms start a all m w =
-    let T : List ℕ → Type 0 = λ t. Serving shape terms start a b d t all m in
-    let e : bytes_of heads ++ (head ++ more) ≡ bytes_of now_heads =
-    ap (λ t. bytes_of heads ++ t) (ap (λ t. head ++ t) none ∙ append-nil head) ∙ (sym (bytes_of-push heads head) ∙ ap bytes_of (sym is)) in
-    subst T e w
+    rw (is, bytes_of-push) (rw (none, append-nil) at w)
 
 module _ (b c : BoardState) (d e : Sight) (heads head more : List ℕ) where
   -- the commit, or a post of what is held, failed
   pub breaks_held : (end : End) → ServingBroken b c d heads end → ServingBroken b c d (heads ++ (head ++ more)) end
   breaks_held end breaks shape terms start a behind all m w =
-      let T : List ℕ → Type 0 = λ t. Serving shape terms start a b d t all m in
-      breaks shape terms start a ((head ++ more) ++ behind) all m (subst T (append_assoc heads (head ++ more) behind) w)
+      breaks shape terms start a ((head ++ more) ++ behind) all m (rw append_assoc at w)
 
   module _ (flushed : Flushed b c d e heads) (none : e.pending ≡ []) where
     -- the head and the data are posted too
     pub posts_all : (f g : BoardState) → Posts c f head → Posts f g more → (left : List (List ℕ)) → left ≡ [] → Keeps b g d e (heads ++ (head ++ more)) (bytes_of left)
     posts_all f g p q left empty shape terms start a all m w =
-        let V : List ℕ → Type 0 = λ t. Serving shape terms start a f e t all m in
-        let L : List (List ℕ) → Type 0 = λ l. Serving shape terms start a g e (bytes_of l) all m in
-        subst L (sym empty) (q e none shape terms start a [] all m (subst V (sym (append-nil more)) (p e none shape terms start a more all m (flushed shape terms start a (head ++ more) all m w))))
+        rw empty (q e none shape terms start a [] all m (rw append-nil (p e none shape terms start a more all m (flushed shape terms start a (head ++ more) all m w))))
 
     -- what was held is posted
     behind_held : (shape : Shape) (terms : Terms) (start : Map) (a : BoardState) (behind : List ℕ) (all : List Exchange) (m : Map)
         → Serving shape terms start a b d ((heads ++ (head ++ more)) ++ behind) all m → Serving shape terms start a c e (head ++ (more ++ behind)) all m
     behind_held shape terms start a behind all m w =
-        let T : List ℕ → Type 0 = λ t. Serving shape terms start a b d t all m in
-        let U : List ℕ → Type 0 = λ t. Serving shape terms start a c e t all m in
-        subst U (append_assoc head more behind) (flushed shape terms start a ((head ++ more) ++ behind) all m (subst T (append_assoc heads (head ++ more) behind) w))
+        rw append_assoc at (flushed shape terms start a ((head ++ more) ++ behind) all m (rw append_assoc at w))
 
     pub breaks_head : (f : BoardState) (end : End) → PostBreaks c f head end → ServingBroken b f d (heads ++ (head ++ more)) end
     breaks_head f end breaks shape terms start a behind all m w = breaks e none shape terms start a (more ++ behind) all m (behind_held shape terms start a behind all m w)
@@ -63,7 +55,7 @@ module _ (b c : BoardState) (d e : Sight) (heads head more : List ℕ) where
 -- ---- a record, and its head with the data
 
 pub keeps_record : (b c : BoardState) (d e : Sight) (held last reply bytes : List ℕ) → reply ≡ bytes → Keeps b c d e (held ++ bytes) last → Keeps b c d e (held ++ reply) last
-keeps_record b c d e held last reply bytes is keeps = let T : List ℕ → Type 0 = λ t. Keeps b c d e (held ++ t) last in subst T (sym is) keeps
+keeps_record b c d e held last reply bytes is keeps = subst (λ t. Keeps b c d e (held ++ t) last) (sym is) keeps
 
 pub breaks_record : (b c : BoardState) (d : Sight) (held reply bytes : List ℕ) (end : End) → reply ≡ bytes → ServingBroken b c d (held ++ bytes) end → ServingBroken b c d (held ++ reply) end
-breaks_record b c d held reply bytes end is breaks = let T : List ℕ → Type 0 = λ t. ServingBroken b c d (held ++ t) end in subst T (sym is) breaks
+breaks_record b c d held reply bytes end is breaks = subst (λ t. ServingBroken b c d (held ++ t) end) (sym is) breaks

@@ -1,5 +1,5 @@
 -- Commits, and the posts after them.
-use Rattle.std.proofs.Common.{◌≡◌, ℕ, List, [], ◌++◌, refl, sym, subst, append_assoc, ap, arith, ◌∙◌}
+use Rattle.std.proofs.Common.{◌≡◌, ℕ, List, [], ◌++◌, refl, sym, subst, append_assoc, ap, arith}
 use Rattle.pk_base.{specs.Shape.Shape, specs.Map.Map}
 use Rattle.pk_nand.{specs.BoardState.BoardState, specs.Calls.Rose, specs.Operations.after_post, specs.Operations.PostFailed, specs.Effects.OnlyFlash, proofs.Effects.rose_from}
 use Rattle.pk_model.{specs.Run.Exchange, specs.Wear.roots, specs.Crashes.commit, specs.Spaces.Terms}
@@ -12,8 +12,7 @@ use Rattle.pk_serve.proofs.Serves.{Serving-commit, Cutoff-commit, Serving-post, 
 
 pub posts_one : (b c : BoardState) (bytes : List ℕ) → c ≡ after_post b bytes → Posts b c bytes
 posts_one b c bytes is drive idle shape terms start a behind all m w =
-    let T : BoardState → Type 0 = λ s. Serving shape terms start a s drive behind all m in
-    subst T (sym is) (Serving-post shape terms start a b drive (bytes ++ behind) all m w bytes behind idle refl)
+    subst (λ s. Serving shape terms start a s drive behind all m) (sym is) (Serving-post shape terms start a b drive (bytes ++ behind) all m w bytes behind idle refl)
 
 pub post-breaks : (b c : BoardState) (bytes : List ℕ) → PostFailed b c bytes → PostBreaks b c bytes Output
 post-breaks b c bytes failed drive idle shape terms start a behind all m w =
@@ -22,16 +21,12 @@ post-breaks b c bytes failed drive idle shape terms start a behind all m w =
 -- two consecutive posts
 pub posts_both : (b c d : BoardState) (xs ys whole : List ℕ) → whole ≡ xs ++ ys → Posts b c xs → Posts c d ys → Posts b d whole
 posts_both b c d xs ys whole is p q drive idle shape terms start a behind all m w =
-    let T : List ℕ → Type 0 = λ t. Serving shape terms start a b drive t all m in
-    q drive idle shape terms start a behind all m (p drive idle shape terms start a (ys ++ behind) all m (subst T (ap (λ t. t ++ behind) is ∙ append_assoc xs ys behind) w))
+    q drive idle shape terms start a behind all m (p drive idle shape terms start a (ys ++ behind) all m (rw (is, append_assoc) at w))
 
 -- the second failed
 pub breaks_second : (b c d : BoardState) (xs ys more whole : List ℕ) (end : End) → whole ≡ xs ++ (ys ++ more) → Posts b c xs → PostBreaks c d ys end → PostBreaks b d whole end
 breaks_second b c d xs ys more whole end is p q drive idle shape terms start a behind all m w =
-    let T : List ℕ → Type 0 = λ t. Serving shape terms start a b drive t all m in
-    let U : List ℕ → Type 0 = λ t. Serving shape terms start a c drive t all m in
-    q drive idle shape terms start a (more ++ behind) all m
-    (subst U (append_assoc ys more behind) (p drive idle shape terms start a ((ys ++ more) ++ behind) all m (subst T (ap (λ t. t ++ behind) is ∙ append_assoc xs (ys ++ more) behind) w)))
+    q drive idle shape terms start a (more ++ behind) all m (rw append_assoc at (p drive idle shape terms start a ((ys ++ more) ++ behind) all m (rw (is, append_assoc) at w)))
 
 -- ---- a commit
 

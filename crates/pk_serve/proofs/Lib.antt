@@ -20,3 +20,4 @@ pub mod Closing
 pub mod Consuming
 pub mod Completing
 pub mod Submitting
+pub mod Weakening

@@ -1,8 +1,7 @@
 -- The loop over the commands of the input.
-use Rattle.std.proofs.Common.{◌≡◌, ◌⊎◌, inl, inr, ℕ, ◌+◌, ◌<◌, List, [], ◌∷◌, ◌++◌, refl, sym, ◌∙◌, ap, subst, arith, append-nil, length-append, true, false, Bool, length}
+use Rattle.std.proofs.Common.{◌≡◌, ◌⊎◌, inl, inr, ℕ, ◌+◌, ◌<◌, List, [], ◌∷◌, ◌++◌, refl, sym, ◌∙◌, ap, subst, arith, append-nil, length-append, true, false, Bool}
 use Rattle.pk_base.{specs.Shape.Shape, specs.Map.Map}
-use Rattle.pk_nvme.specs.Command.{Command}
-use Rattle.pk_nand.{specs.BoardState.BoardState, specs.Calls.Rose, specs.Calls.put_back}
+use Rattle.pk_nand.{specs.BoardState.BoardState, specs.Calls.put_back}
 use Rattle.pk_model.{specs.Run.commands, specs.Wear.is_worn, specs.Spaces.Terms}
 use Rattle.pk_call.{specs.Sight.Sight, specs.Drive.HoldsMap}
 use Rattle.pk_serve.{specs.Ends.IsFault, specs.Serving.Serving, specs.Input.Spells, specs.Input.InputAdvances, specs.Input.InputFails, specs.Input.NoEntry, specs.Input.Quits}
@@ -13,12 +12,11 @@ use Rattle.pk_serve.{proofs.Serves.Serving-start, proofs.Serves.Serving-inputs, 
 pub Looping-start : (shape : Shape) (terms : Terms) (start : Map) (a : BoardState) (drive : Sight) (held : List ℕ)
     → held ≡ [] → HoldsMap shape terms a drive start → drive.pending ≡ [] → Looping shape terms start a a drive held 0
 Looping-start shape terms start a drive held empty stands none =
-    let T : List ℕ → Type 0 = λ t. Serving shape terms start a a drive t [] start in
     record {
       all = [];
       m = start;
       bytes = [];
-      serving = subst T (sym empty) (Serving-start shape terms start a drive stands none);
+      serving = rw empty (Serving-start shape terms start a drive stands none);
       count = refl;
       few = omega arith;
       input = put_back-nil a.input;
@@ -29,7 +27,6 @@ module _ (shape : Shape) (terms : Terms) (start : Map) (a b c : BoardState) (d e
   pub Looping-next : taken < most_entries → InputAdvances b c d e held now_held taken → Looping shape terms start a c e now_held (taken + 1)
   Looping-next few n =
       let x = n.serves shape terms start a w.all w.m w.count w.serving in
-      let S : List Command → Type 0 = λ l. Spells (w.bytes ++ n.bytes) l in
       record {
         all = w.all ++ x.x ∷ [];
         m = x.m;
@@ -38,21 +35,20 @@ module _ (shape : Shape) (terms : Terms) (start : Map) (a b c : BoardState) (d e
         count = omega (arith, w.count, length-append w.all (x.x ∷ []));
         few = omega (arith, few);
         input = taken-append a.input b.input c.input w.bytes n.bytes w.input n.input;
-        spells = subst S (sym (commands-push w.all x.x ∙ ap (λ cmd. commands w.all ++ cmd ∷ []) x.is)) (Spells-append w.bytes n.bytes (commands w.all) (n.c ∷ []) w.spells n.spells);
+        spells = subst (λ l. Spells (w.bytes ++ n.bytes) l) (sym (commands-push w.all x.x ∙ ap (λ cmd. commands w.all ++ cmd ∷ []) x.is))
+            (Spells-append w.bytes n.bytes (commands w.all) (n.c ∷ []) w.spells n.spells);
       }
 
   -- bytes after the commands were taken
   finished : (part : List ℕ) → b.input ≡ put_back part c.input → c ≡ record b { input = c.input; in_faults = c.in_faults } → e ≡ d → now_held ≡ held → Finished shape terms start a c e now_held part
   finished part more rest same_drive same_held =
-      let T : BoardState → Type 0 = λ s. Serving shape terms start a s d held w.all w.m in
-      let U : Sight → Type 0 = λ s. Serving shape terms start a c s held w.all w.m in
-      let V : List ℕ → Type 0 = λ h. Serving shape terms start a c e h w.all w.m in
+      let there : Serving shape terms start a c d held w.all w.m = rw (← rest) at (Serving-inputs shape terms start a b d held w.all w.m w.serving c.input c.in_faults) in
       record {
         all = w.all;
         m = w.m;
         bytes = w.bytes;
         few = omega (arith, w.count, w.few);
-        serving = subst V (sym same_held) (subst U (sym same_drive) (subst T (sym rest) (Serving-inputs shape terms start a b d held w.all w.m w.serving c.input c.in_faults)));
+        serving = rw (same_held, same_drive) there;
         input = taken-append a.input b.input c.input w.bytes part w.input more;
         spells = w.spells;
       }
@@ -98,10 +94,8 @@ module _ (shape : Shape) (terms : Terms) (start : Map) (a b c : BoardState) (d e
     goes_on = λ z. (let f = go (k.1 z) in (omega (arith, f.0, w.count), worn_too n.left.rest ∙ f.1));
     is_part = n.left.is_part;
     finished = finished n.part n.left.input n.left.rest sd sh;
-    rose = (let T : ℕ → Type 0 = λ i. Rose i c.in_faults in subst T same n.rose);
+    rose = rw same at n.rose;
   }
-  none_taken no_more why go Output same sd sh n = absurd n
-  none_taken no_more why go Flash same sd sh n = absurd n
   none_taken no_more why go Worn same sd sh n =
       let k = n.0 in
       let rest : c ≡ record b { input = c.input; in_faults = c.in_faults } = both_fields k.rest in
@@ -112,14 +106,12 @@ module _ (shape : Shape) (terms : Terms) (start : Map) (a b c : BoardState) (d e
         cause = elim (why n.1) [ inl full ↦ inl (sym w.count ∙ full) | inr worn ↦ inr (worn_too rest ∙ worn) ];
         same = ap (λ s. s.in_faults) k.rest ∙ same;
       }
+  none_taken no_more why go end same sd sh n = absurd n
 
   command_failed : (end : End) → InputFails b c d held taken end → Finish shape terms start a c e now_held end
-  command_failed Done f = absurd (failed Done f).cause
-  command_failed Truncated f = absurd (failed Truncated f).cause
-  command_failed Input f = absurd (failed Input f).cause
-  command_failed Worn f = absurd (failed Worn f).cause
   command_failed Output f = failed Output f
   command_failed Flash f = failed Flash f
+  command_failed end f = absurd (failed end f).cause
 
   -- a command was not served
   pub Finish-quits : taken < most_entries → (end : End) → b.in_faults ≡ a.in_faults
@@ -128,7 +120,4 @@ module _ (shape : Shape) (terms : Terms) (start : Map) (a b c : BoardState) (d e
   Finish-quits few end same (inr o) (inl n) = none_taken (is_worn b) (λ h. inr h) (λ h. (few, h)) end same o.0 o.1 n
   Finish-quits few Output same (inl o) (inl n) = absurd n
   Finish-quits few Flash same (inl o) (inl n) = absurd n
-  Finish-quits few Done same (inl o) (inl n) = absurd o
-  Finish-quits few Truncated same (inl o) (inl n) = absurd o
-  Finish-quits few Input same (inl o) (inl n) = absurd o
-  Finish-quits few Worn same (inl o) (inl n) = absurd o
+  Finish-quits few end same (inl o) (inl n) = absurd o

@@ -20,8 +20,7 @@ module _ (a m b : BoardState) (before : Sight) (same : m ≡ record a { input = 
   serving_too : (shape : Shape) (terms : Terms) (start : Map) (s : BoardState) (held : List ℕ) (all : List Exchange) (map : Map)
       → Serving shape terms start s a before held all map → Serving shape terms start s m before held all map
   serving_too shape terms start s held all map w =
-      let T : BoardState → Type 0 = λ x. Serving shape terms start s x before held all map in
-      subst T (sym same) (Serving-inputs shape terms start s a before held all map w m.input a.in_faults)
+      subst (λ x. Serving shape terms start s x before held all map) (sym same) (Serving-inputs shape terms start s a before held all map w m.input a.in_faults)
 
   serves_too : (after : Sight) (held now_held : List ℕ) (taken : ℕ) (c : Command) → CommandServed m b before after held now_held taken c → CommandServed a b before after held now_held taken c
   serves_too after held now_held taken c h shape terms start s all map size w = h shape terms start s all map size (serving_too shape terms start s held all map w)
@@ -79,18 +78,16 @@ module _ (a m n : BoardState) (entry : List ℕ) (entered : Entered a m entry) (
       is_part = IsPart-value entry h.bytes size (omega (arith, h.few, value_size entry r parsed));
       rest = failed_too a m n entered.rest h.rest;
     };
-    rose = (let T : ℕ → Type 0 = λ k. Rose k n.in_faults in subst T (ap (λ s. s.in_faults) entered.rest) h.rose);
+    rose = subst (λ k. Rose k n.in_faults) (ap (λ s. s.in_faults) entered.rest) h.rose;
   }
 
 -- a drive that reports of its flash whether it is worn
 pub worn_is : (agrees : Option Shape → Flash → Type 0) (board : BoardState) (shape : Shape) (worn : Bool) → board.shape ≡ Some shape → agrees board.shape board.pages
     → ((s : Shape) (f : Flash) → agrees (Some s) f → worn ≡ nat_le 9223372036854775808 (root_number s f)) → worn ≡ is_worn board
 worn_is agrees board shape worn has ok told =
-    let T : Option Shape → Type 0 = λ o. agrees o board.pages in
-    told shape board.pages (subst T has ok) ∙ ap (λ s. nat_le 9223372036854775808 (root_number (shape_or_none s) board.pages)) (sym has)
+    told shape board.pages (rw has at ok) ∙ ap (λ s. nat_le 9223372036854775808 (root_number (shape_or_none s) board.pages)) (sym has)
 
 -- no entry was taken
 pub Quits-entry : (a b : BoardState) (drive : Sight) (held : List ℕ) (taken : ℕ) (end : End) (worn : Bool) → worn ≡ is_worn a → NoEntry a b worn end → Quits a b drive held taken end
 Quits-entry a b drive held taken end worn is n =
-    let T : Bool → Type 0 = λ r. NoEntry a b r end in
-    inl (subst T is n)
+    inl (rw is at n)

@@ -1,5 +1,5 @@
 -- Parts of the serving loop, one after another.
-use Rattle.std.proofs.Common.{◌≡◌, sym, subst, Option}
+use Rattle.std.proofs.Common.{◌≡◌, Option}
 use Rattle.pk_base.{specs.Shape.Shape, specs.Page.Flash as Pages}
 use Rattle.pk_nand.specs.BoardState.{BoardState}
 use Rattle.pk_call.{specs.Sight.Sight, specs.Running.DriveRuns}
@@ -8,9 +8,7 @@ use Rattle.pk_serve.{specs.Ends.NoFaults, specs.Part.KeepsRunning, specs.Part.Fa
 -- the flash is unchanged
 pub running-still : (agreeing : Option Shape → Pages → Type 0) (drive : Sight) (b c : BoardState) → (c.shape ≡ b.shape) × (c.pages ≡ b.pages) → DriveRuns agreeing drive b → DriveRuns agreeing drive c
 running-still agreeing drive b c same h =
-    let T : Option Shape → Type 0 = λ s. agreeing s b.pages in
-    let U : Pages → Type 0 = λ p. agreeing c.shape p in
-    record { agrees = subst U (sym same.1) (subst T (sym same.0) h.agrees); runs = h.runs }
+    record { agrees = rw (same.1, same.0) h.agrees; runs = h.runs }
 
 pub faulted-then : (a b c : BoardState) (end : End) → NoFaults a b → Faulted b c end → Faulted a c end
 faulted-then a b c end quiet h = record { fault = h.fault; cause = cause-then a b c end quiet h.cause }

@@ -3,9 +3,9 @@ use Rattle.std.proofs.Common.{◌≡◌, ◌⊎◌, inl, inr, ℕ, List, sym, �
 use Rattle.pk_base.{specs.Shape.Shape, specs.Page.Flash, specs.Map.Map}
 use Rattle.pk_nvme.{specs.Command.Command, specs.Reply.Reply}
 use Rattle.pk_nand.specs.BoardState.{BoardState}
-use Rattle.pk_model.{specs.Answer.map_after, specs.Run.Step, specs.Spaces.Terms, specs.Crashes.CrashFinds, specs.Crashes.change, specs.Crashes.command, proofs.Growing.weaken}
+use Rattle.pk_model.{specs.Answer.map_after, specs.Run.Step, specs.Spaces.Terms, specs.Crashes.CrashFinds, specs.Crashes.change, specs.Crashes.command}
 use Rattle.pk_call.{specs.Sight.Sight, specs.Drive.HoldsMap, specs.Call.CallReaches, specs.Exec.ExecStands}
-use Rattle.pk_serve.proofs.Limiting.{limits_on, limits_held}
+use Rattle.pk_serve.{proofs.Limiting.limits_on, proofs.Limiting.limits_held, proofs.Weakening.reaches_as}
 
 module _ (a b : BoardState) (d e : Sight) (c : Command) (r : Reply) (reads : ℕ) (stands : ExecStands a b d e c r reads) where
   module _ (shape : Shape) (terms : Terms) (m : Map) (s : HoldsMap shape terms a d m) where
@@ -23,9 +23,6 @@ module _ (a b : BoardState) (d e : Sight) (c : Command) (r : Reply) (reads : ℕ
 
   -- the map before the command, or the one after it
   pub reaches_stands : CallReaches a b d (command (limits_on a) c)
-  reaches_stands shape terms m s = let x = stands shape terms m s in let w = x.reached in (
-    w.0,
-    weaken w.0 a b (CrashFinds shape (change x.left) a.pages m) (CrashFinds shape (command (limits_on a) c) a.pages m)
-        (command_cut shape terms m s x.left (left_is shape terms m s x.left x.stepped)) w.1,
-    w.2,
-  )
+  reaches_stands shape terms m s =
+      let x = stands shape terms m s in
+      reaches_as shape a b (command_cut shape terms m s x.left (left_is shape terms m s x.left x.stepped)) x.reached

@@ -2,35 +2,51 @@
 use Rattle.std.proofs.Common.{◌≡◌, ◌≢◌, ◌⊎◌, inl, inr, ℕ, suc, ◌+◌, ◌≤◌, ◌<◌, List, [], ◌∷◌, ◌++◌, length, take, Option, Some, None, Ok, refl, sym, ◌∙◌, ap, subst, arith, append_assoc, append-nil}
 use Rattle.std.proofs.Common.{replicate}
 use Rattle.std.proofs.lemmas.Fn.{FoldsTo-push}
-use Rattle.pk_base.{specs.Shape.Shape, specs.Shape.commit_programs, specs.Page.Flash, specs.Entry.Entry, specs.Mark.Mark, specs.Mark.post, specs.Mark.all_posted, specs.Map.Map}
+use Rattle.pk_base.{specs.Shape.Shape, specs.Shape.commit_programs, specs.Page.Flash, specs.Mark.Mark, specs.Mark.post, specs.Mark.all_posted, specs.Map.Map}
 use Rattle.pk_nvme.{specs.Command.Command, specs.Reply.Reply, specs.Reply.reply_record}
 use Rattle.pk_nand.{specs.BoardState.BoardState, specs.BoardState.shape_or_none, specs.Cut.Cut, specs.Calls.Rose, specs.Calls.longer, specs.Operations.after_post, specs.Operations.PostFailed}
 use Rattle.pk_nand.{specs.Crash.ReachedBy, proofs.Reaching.Reached-start, proofs.Reaching.Reached-post, proofs.Reaching.Reached-then, proofs.CutLemmas.posted-append, specs.Effects.OnlyFlash}
 use Rattle.pk_model.{specs.Answer.reply, specs.Answer.map_after, specs.Run.Exchange, specs.Run.commands, specs.Run.faults, specs.Reading.reading, specs.Kept.AtMost, specs.Kept.rise, specs.Wear.roots}
 use Rattle.pk_model.{specs.Growth.GrowsAlong, specs.Growth.Reaches, specs.Growth.Goes, specs.Crashes.CrashFinds, specs.Crashes.commit, specs.Crashes.command}
 use Rattle.pk_model.proofs.Growing.{weaken, at_end, grows_behind, Goes-then, GrowsAlong-post, Goes-post_failed, Limited, Goes-limited, cut_limits}
-use Rattle.pk_model.specs.Spaces.{Terms, limits_at}
-use Rattle.pk_call.{specs.Sight.Sight, specs.Drive.HoldsMap, specs.Meter.Meter, specs.Meter.Metered, specs.Meter.MeteredAll, specs.Meter.meter, specs.Meter.reads_after, specs.Calling.most_calls_of}
+use Rattle.pk_model.{specs.Spaces.Terms, specs.Spaces.limits_at, specs.Run.RunWithin, specs.Run.records}
+use Rattle.pk_call.{specs.Sight.Sight, specs.Drive.HoldsMap, specs.Meter.Metered, specs.Meter.meter, specs.Meter.reads_after, specs.Calling.most_calls_of}
 use Rattle.pk_call.specs.Exec.{Executed, most_installs}
 use Rattle.pk_serve.{specs.Calling.calls_of, specs.Calling.owed, specs.Calling.most_calls_of_all, specs.Answered.Answered, proofs.Calling.owed_most, proofs.Calling.most_calls-append}
 use Rattle.pk_serve.{specs.Serving.KeptAt, specs.Serving.Serving, specs.Serving.Cutoff, specs.Serving.Next, specs.Serving.StepWithin, proofs.Answering.reply_other, proofs.Answering.answers}
 use Rattle.pk_serve.proofs.Counting.{at_most-zero, at_most-more, at_most-one, commands-push, records-push, faults-push, faults-one}
 
--- more commands and more faults
+-- a flash that holds the map after these exchanges, of which a prefix of the records was posted
+pub kept-with : (shape : Shape) (terms : Terms) (start : Map) (cs more : List Command) (n : Option ℕ) (f : Flash) (posted unposted : List ℕ) (all : List Exchange) (m : Map)
+    → commands all ++ more ≡ cs → RunWithin shape terms start all m → reading shape f [] ≡ Ok m → limits_at shape f ≡ terms.limits
+    → posted ++ unposted ≡ records 0 all → AtMost n (faults all) → KeptAt shape terms start cs n f posted
+kept-with shape terms start cs more n f posted unposted all m front ran held limited begins few = record {
+  served = all;
+  unserved = more;
+  from_front = front;
+  map_left = m;
+  ran = ran;
+  held = held;
+  same_limits = limited;
+  unposted = unposted;
+  begins = begins;
+  few_faults = few;
+}
+
+-- nothing was served yet
+pub kept-start : (shape : Shape) (terms : Terms) (start : Map) (n : Option ℕ) (f : Flash) → reading shape f [] ≡ Ok start → limits_at shape f ≡ terms.limits → KeptAt shape terms start [] n f []
+kept-start shape terms start n f held limited = kept-with shape terms start [] [] n f [] [] [] start refl refl held limited refl (at_most-zero n)
+
+-- more commands, more faults, and a flash that holds the same
+kept-moved : (shape : Shape) (terms : Terms) (start : Map) (cs more : List Command) (n later : Option ℕ) → ((k : ℕ) → AtMost n k → AtMost later k)
+    → (f g : Flash) → reading shape g [] ≡ reading shape f [] → limits_at shape g ≡ limits_at shape f → (q : List ℕ)
+    → KeptAt shape terms start cs n f q → KeptAt shape terms start (cs ++ more) later g q
+kept-moved shape terms start cs more n later up f g e limited q k = kept-with shape terms start (cs ++ more) (k.unserved ++ more) later g q k.unposted k.served k.map_left
+    (sym (append_assoc (commands k.served) k.unserved more) ∙ ap (λ l. l ++ more) k.from_front) k.ran (e ∙ k.held) (limited ∙ k.same_limits) k.begins (up (faults k.served) k.few_faults)
+
 pub kept-more : (shape : Shape) (terms : Terms) (start : Map) (cs more : List Command) (n later : Option ℕ) → ((k : ℕ) → AtMost n k → AtMost later k)
     → (f : Flash) (q : List ℕ) → KeptAt shape terms start cs n f q → KeptAt shape terms start (cs ++ more) later f q
-kept-more shape terms start cs more n later up f q k = record {
-  served = k.served;
-  unserved = k.unserved ++ more;
-  from_front = sym (append_assoc (commands k.served) k.unserved more) ∙ ap (λ l. l ++ more) k.from_front;
-  map_left = k.map_left;
-  ran = k.ran;
-  held = k.held;
-  same_limits = k.same_limits;
-  unposted = k.unposted;
-  begins = k.begins;
-  few_faults = up (faults k.served) k.few_faults;
-}
+kept-more shape terms start cs more n later up f = kept-moved shape terms start cs more n later up f f refl refl
 
 -- two consecutive posts
 longer-append : (told : Option (List ℕ)) (xs ys : List ℕ) → longer (longer told xs) ys ≡ longer told (xs ++ ys)
@@ -56,106 +72,58 @@ limited_by shape b c P has reached = record {
 }
 
 -- the bound on faults for a list with one more
-few_more : (n : Option ℕ) (xs : List Exchange) (x : Exchange) (k : ℕ) → faults (x ∷ []) ≡ k → AtMost n (faults xs + k) → AtMost n (faults (xs ++ x ∷ []))
-few_more n xs x k e h = let T : ℕ → Type 0 = λ f. AtMost n f in subst T (sym (faults-push xs x ∙ ap (λ f. faults xs + f) e)) h
+pub few_more : (n : Option ℕ) (xs : List Exchange) (x : Exchange) (k : ℕ) → faults (x ∷ []) ≡ k → AtMost n (faults xs + k) → AtMost n (faults (xs ++ x ∷ []))
+few_more n xs x k e h = subst (λ f. AtMost n f) (sym (faults-push xs x ∙ ap (λ f. faults xs + f) e)) h
 
 module _ (shape : Shape) (terms : Terms) (start : Map) (a b : BoardState) (drive : Sight) (unposted : List ℕ) (all : List Exchange) (m : Map)
     (w : Serving shape terms start a b drive unposted all m) where
+  -- more faults later
+  more_faults : (later : ℕ) → b.read_faults ≤ later → (k : ℕ) → AtMost (rise a.read_faults b.read_faults) k → AtMost (rise a.read_faults later) k
+  more_faults later up k h = at_most-more a.read_faults b.read_faults later k up h
+
   -- what exists now is kept
   present : KeptAt shape terms start (commands all) (rise a.read_faults b.read_faults) b.pages (all_posted w.marks)
   present = at_end w.marks a b (KeptAt shape terms start (commands all) (rise a.read_faults b.read_faults)) w.run
 
-  -- a flash that holds what this one holds, within the same limits
-  kept_same : (f : Flash) → reading shape f [] ≡ reading shape b.pages [] → limits_at shape f ≡ limits_at shape b.pages
-      → KeptAt shape terms start (commands all) (rise a.read_faults b.read_faults) f (all_posted w.marks)
-  kept_same f e limited = let k = present in record {
-    served = k.served;
-    unserved = k.unserved;
-    from_front = k.from_front;
-    map_left = k.map_left;
-    ran = k.ran;
-    held = e ∙ k.held;
-    same_limits = limited ∙ k.same_limits;
-    unposted = k.unposted;
-    begins = k.begins;
-    few_faults = k.few_faults;
-  }
+  -- ---- a command
 
-  -- a flash that holds all that was served, if a prefix of what is not posted was sent
-  kept_all : (f : Flash) → reading shape f [] ≡ Ok m → limits_at shape f ≡ limits_at shape b.pages → (out rest : List ℕ) → out ++ rest ≡ unposted
-      → KeptAt shape terms start (commands all) (rise a.read_faults b.read_faults) f (all_posted w.marks ++ out)
-  kept_all f e limited out rest front = record {
-    served = all;
-    unserved = [];
-    from_front = append-nil (commands all);
-    map_left = m;
-    ran = w.ran;
-    held = e;
-    same_limits = limited ∙ w.stands.limits_is;
-    unposted = rest;
-    begins = append_assoc (all_posted w.marks) out rest ∙ (ap (λ t. all_posted w.marks ++ t) front ∙ w.records_are);
-    few_faults = w.few_faults;
-  }
+  -- a flash that holds what this one holds, or all that was served
+  stood : (more : List Command) (later : ℕ) → b.read_faults ≤ later → (f : Flash) → (reading shape f [] ≡ reading shape b.pages []) ⊎ (reading shape f [] ≡ Ok m)
+      → limits_at shape f ≡ limits_at shape b.pages → KeptAt shape terms start (commands all ++ more) (rise a.read_faults later) f (all_posted w.marks)
+  stood more later up f (inl same) limited = kept-moved shape terms start (commands all) more (rise a.read_faults b.read_faults)
+      (rise a.read_faults later) (more_faults later up) b.pages f same limited (all_posted w.marks) present
+  stood more later up f (inr held) limited = kept-with shape terms start (commands all ++ more) more (rise a.read_faults later) f (all_posted w.marks) unposted all m
+      refl w.ran held (limited ∙ w.stands.limits_is) w.records_are (more_faults later up (faults all) w.few_faults)
 
   -- a flash that holds the map after one more command
-  kept_next : (c : Command) (f : Flash) → reading shape f [] ≡ Ok (map_after shape terms.limits m c) → limits_at shape f ≡ limits_at shape b.pages
-      → KeptAt shape terms start (commands all ++ c ∷ []) (rise a.read_faults b.read_faults) f (all_posted w.marks)
-  kept_next c f e limited =
+  kept_next : (c : Command) (later : ℕ) → b.read_faults ≤ later → (f : Flash) → reading shape f [] ≡ Ok (map_after shape terms.limits m c) → limits_at shape f ≡ limits_at shape b.pages
+      → KeptAt shape terms start (commands all ++ c ∷ []) (rise a.read_faults later) f (all_posted w.marks)
+  kept_next c later up f e limited =
       let x : Exchange = record { command = c; reply = reply shape terms m (replicate 11 0) c; reads = 0 } in
       let r : List ℕ = reply_record (suc (length all)) c.cid (reply shape terms m (replicate 11 0) c) 0 in
-      record {
-        served = all ++ x ∷ [];
-        unserved = [];
-        from_front = append-nil (commands (all ++ x ∷ [])) ∙ commands-push all x;
-        map_left = map_after shape terms.limits m c;
-        ran = FoldsTo-push (StepWithin shape terms) start all m x (map_after shape terms.limits m c) w.ran (inl (answers shape terms m c), λ _. omega arith);
-        held = e;
-        same_limits = limited ∙ w.stands.limits_is;
-        unposted = unposted ++ r;
-        begins = sym (append_assoc (all_posted w.marks) unposted r) ∙ (ap (λ t. t ++ r) w.records_are ∙ sym (records-push 0 all x (length all) (omega arith)));
-        few_faults = elim (faults-one x) [
-          | inl good ↦ few_more (rise a.read_faults b.read_faults) all x 0 good.1
-              (let T : ℕ → Type 0 = λ k. AtMost (rise a.read_faults b.read_faults) k in let e : faults all ≡ faults all + 0 = omega arith in subst T e w.few_faults)
-          | inr bad ↦ absurd (reply_other shape terms m (replicate 11 0) c bad.0)
-        ];
-      }
-
-  -- ---- a command
+      kept-with shape terms start (commands all ++ c ∷ []) [] (rise a.read_faults later) f (all_posted w.marks) (unposted ++ r) (all ++ x ∷ []) (map_after shape terms.limits m c)
+      (append-nil (commands (all ++ x ∷ [])) ∙ commands-push all x)
+      (FoldsTo-push (StepWithin shape terms) start all m x (map_after shape terms.limits m c) w.ran (inl (answers shape terms m c), λ _. omega arith)) e (limited ∙ w.stands.limits_is)
+      (sym (append_assoc (all_posted w.marks) unposted r) ∙ (ap (λ t. t ++ r) w.records_are ∙ sym (records-push 0 all x (length all) (omega arith))))
+      (elim (faults-one x) [
+        | inl good ↦ few_more (rise a.read_faults later) all x 0 good.1 (subst (λ k. AtMost (rise a.read_faults later) k) (omega arith) (more_faults later up (faults all) w.few_faults))
+        | inr bad ↦ absurd (reply_other shape terms m (replicate 11 0) c bad.0)
+      ])
 
   -- every cut of a command
   exec_cut : (c : Command) (later : ℕ) → b.read_faults ≤ later → (f : Flash) (q : List ℕ) → Limited shape b (CrashFinds shape (command terms.limits c) b.pages m) f q
       → KeptAt shape terms start (commands all ++ c ∷ []) (rise a.read_faults later) f (all_posted w.marks ++ q)
   exec_cut c later up f q cut =
-      let P : List ℕ → Type 0 = λ t. KeptAt shape terms start (commands all ++ c ∷ []) (rise a.read_faults later) f t in
-      none_more P (all_posted w.marks) q cut.0.0 (elim cut.0.1 [
-        | inl same ↦ kept-more shape terms start (commands all) (c ∷ []) (rise a.read_faults b.read_faults)
-            (rise a.read_faults later) (λ k h. at_most-more a.read_faults b.read_faults later k up h) f (all_posted w.marks) (kept_same f same cut.1)
-        | inr more ↦ elim more [
-          | inl held ↦
-              subst P (append-nil (all_posted w.marks))
-              (kept-more shape terms start (commands all) (c ∷ []) (rise a.read_faults b.read_faults) (rise a.read_faults later)
-              (λ k h. at_most-more a.read_faults b.read_faults later k up h) f (all_posted w.marks ++ []) (kept_all f held cut.1 [] unposted refl))
-          | inr next ↦
-              let k = kept_next c f next cut.1 in
-              record {
-                served = k.served;
-                unserved = k.unserved;
-                from_front = k.from_front;
-                map_left = k.map_left;
-                ran = k.ran;
-                held = k.held;
-                same_limits = k.same_limits;
-                unposted = k.unposted;
-                begins = k.begins;
-                few_faults = at_most-more a.read_faults b.read_faults later (faults k.served) up k.few_faults;
-              }
-        ]
+      none_more (λ t. KeptAt shape terms start (commands all ++ c ∷ []) (rise a.read_faults later) f t) (all_posted w.marks) q cut.0.0 (elim cut.0.1 [
+        | inl same ↦ stood (c ∷ []) later up f (inl same) cut.1
+        | inr (inl held) ↦ stood (c ∷ []) later up f (inr held) cut.1
+        | inr (inr next) ↦ kept_next c later up f next cut.1
       ])
 
   -- what was kept so far, with more commands and more faults
   before : (more : List Command) (later : ℕ) → b.read_faults ≤ later → ReachedBy w.marks a b (KeptAt shape terms start (commands all ++ more) (rise a.read_faults later))
   before more later up = weaken w.marks a b (KeptAt shape terms start (commands all) (rise a.read_faults b.read_faults)) (KeptAt shape terms start (commands all ++ more) (rise a.read_faults later))
-      (kept-more shape terms start (commands all) more (rise a.read_faults b.read_faults) (rise a.read_faults later) (λ k h. at_most-more a.read_faults b.read_faults later k up h)) w.run
+      (kept-more shape terms start (commands all) more (rise a.read_faults b.read_faults) (rise a.read_faults later) (more_faults later up)) w.run
 
   -- the marks so far, and those of a call whose cuts are kept, with more commands
   extend : (more : List Command) (c : BoardState) (P : Flash → List ℕ → Type 0) → b.read_faults ≤ c.read_faults
@@ -164,6 +132,9 @@ module _ (shape : Shape) (terms : Terms) (start : Map) (a b : BoardState) (drive
   extend more c P up kept ms run =
       let K : Flash → List ℕ → Type 0 = KeptAt shape terms start (commands all ++ more) (rise a.read_faults c.read_faults) in
       Reached-then w.marks ms a b c K (before more c.read_faults up) (weaken ms b c P (λ f q. K f (all_posted w.marks ++ q)) kept run)
+
+  silently : (ms : List Mark) → all_posted ms ≡ [] → all_posted (w.marks ++ ms) ≡ all_posted w.marks
+  silently ms none = posted-append w.marks ms ∙ (ap (λ t. all_posted w.marks ++ t) none ∙ append-nil (all_posted w.marks))
 
   grown : (ms : List Mark) → GrowsAlong shape b.pages ms → GrowsAlong shape a.pages (w.marks ++ ms)
   grown ms more = grows_behind shape w.marks a b (KeptAt shape terms start (commands all) (rise a.read_faults b.read_faults)) w.shape_is w.run w.grows ms more
@@ -219,8 +190,6 @@ module _ (shape : Shape) (terms : Terms) (start : Map) (a b : BoardState) (drive
       let silent : all_posted reached.0 ≡ [] = (at_end reached.0 b c (CrashFinds shape (command terms.limits cmd) b.pages m) reached.1).0 in
       let limited = limited_by shape b c (CrashFinds shape (command terms.limits cmd) b.pages m) w.stands.shape_is reached in
       let more = extend (cmd ∷ []) c (Limited shape b (CrashFinds shape (command terms.limits cmd) b.pages m)) up (exec_cut cmd c.read_faults up) reached.0 limited in
-      let R : List Command → Type 0 = λ l. ReachedBy (w.marks ++ reached.0) a c (KeptAt shape terms start l (rise a.read_faults c.read_faults)) in
-      let C : List Command → Type 0 = λ l. calls_of c + owed e.pending ≤ calls_of a + most_calls_of_all shape l in
       record {
         x = x;
         is = refl;
@@ -230,22 +199,21 @@ module _ (shape : Shape) (terms : Terms) (start : Map) (a b : BoardState) (drive
           ran = FoldsTo-push (StepWithin shape terms) start all m x done.left w.ran (done.stepped, done.bounded);
           stands = done.stands;
           marks = w.marks ++ reached.0;
-          run = subst R (sym (commands-push all x)) more;
+          run = rw commands-push more;
           grows = grown reached.0 reached.2;
           shape_is = w.shape_is;
           records_are =
-              ap (λ t. t ++ (unposted ++ reply_record (suc taken) cmd.cid rep reads)) (posted-append w.marks reached.0 ∙ (ap (λ t. all_posted w.marks ++ t) silent ∙ append-nil (all_posted w.marks)))
+              ap (λ t. t ++ (unposted ++ reply_record (suc taken) cmd.cid rep reads)) (silently reached.0 silent)
               ∙ (sym (append_assoc (all_posted w.marks) unposted (reply_record (suc taken) cmd.cid rep reads))
               ∙ (ap (λ t. t ++ reply_record (suc taken) cmd.cid rep reads) w.records_are ∙ sym (records-push 0 all x taken (omega (arith, size)))));
           few_faults = elim (faults-one x) [
             | inl good ↦ few_more (rise a.read_faults c.read_faults) all x 0 good.1
-                (let T : ℕ → Type 0 = λ k. AtMost (rise a.read_faults c.read_faults) k in let e : faults all
-                ≡ faults all + 0 = omega arith in subst T e (at_most-more a.read_faults b.read_faults c.read_faults (faults all) up w.few_faults))
+                (subst (λ k. AtMost (rise a.read_faults c.read_faults) k) (omega arith) (more_faults c.read_faults up (faults all) w.few_faults))
             | inr bad ↦ few_more (rise a.read_faults c.read_faults) all x 1 bad.1 (at_most-one a.read_faults b.read_faults c.read_faults (faults all) w.rose (unread bad.0) w.few_faults)
           ];
           rose = omega (arith, w.rose, up);
           metered = FoldsTo-push Metered (meter a) all (meter b) x (meter c) w.metered (record { reads = read; failed = unread; sound = sound; unworn = unworn; installs = few_roots });
-          few_calls = subst C (sym (commands-push all x)) (calls_next c cmd (owed e.pending) (owed_most e.pending) few_calls);
+          few_calls = rw commands-push (calls_next c cmd (owed e.pending) (owed_most e.pending) few_calls);
           no_faults = record {
             output = ap (λ s. s.out_faults) rest ∙ w.no_faults.output;
             stop = no_stop ∙ w.no_faults.stop;
@@ -267,15 +235,7 @@ module _ (shape : Shape) (terms : Terms) (start : Map) (a b : BoardState) (drive
 
   commit_cut : (later : ℕ) → b.read_faults ≤ later → (f : Flash) (q : List ℕ) → Limited shape b (CrashFinds shape commit b.pages m) f q
       → KeptAt shape terms start (commands all ++ []) (rise a.read_faults later) f (all_posted w.marks ++ q)
-  commit_cut later up f q cut =
-      let P : List ℕ → Type 0 = λ t. KeptAt shape terms start (commands all ++ []) (rise a.read_faults later) f t in
-      none_more P (all_posted w.marks) q cut.0.0 (elim cut.0.1 [
-        | inl same ↦ kept-more shape terms start (commands all) [] (rise a.read_faults b.read_faults) (rise a.read_faults later)
-            (λ k h. at_most-more a.read_faults b.read_faults later k up h) f (all_posted w.marks) (kept_same f same cut.1)
-        | inr held ↦ subst P (append-nil (all_posted w.marks))
-            (kept-more shape terms start (commands all) [] (rise a.read_faults b.read_faults) (rise a.read_faults later)
-            (λ k h. at_most-more a.read_faults b.read_faults later k up h) f (all_posted w.marks ++ []) (kept_all f held cut.1 [] unposted refl))
-      ])
+  commit_cut later up f q cut = none_more (λ t. KeptAt shape terms start (commands all ++ []) (rise a.read_faults later) f t) (all_posted w.marks) q cut.0.0 (stood [] later up f cut.0.1 cut.1)
 
   -- the calls of a run that ends here, and a commit that was owed
   calls_here : (c : BoardState) → calls_of c ≤ calls_of b + owed drive.pending → calls_of c ≤ calls_of a + most_calls_of_all shape (commands all ++ [])
@@ -293,20 +253,18 @@ module _ (shape : Shape) (terms : Terms) (start : Map) (a b : BoardState) (drive
       let silent : all_posted reached.0 ≡ [] = (at_end reached.0 b c (CrashFinds shape commit b.pages m) reached.1).0 in
       let limited = limited_by shape b c (CrashFinds shape commit b.pages m) w.stands.shape_is reached in
       let more = extend [] c (Limited shape b (CrashFinds shape commit b.pages m)) up (commit_cut c.read_faults up) reached.0 limited in
-      let R : List Command → Type 0 = λ l. ReachedBy (w.marks ++ reached.0) a c (KeptAt shape terms start l (rise a.read_faults c.read_faults)) in
       let same : meter b ≡ meter c = λ k. record { reads = sym read k; read_faults = sym same_reads k; roots = sym same_roots k } in
-      let M : Meter → Type 0 = λ t. MeteredAll (meter a) all t in
       record {
         ran = w.ran;
         stands = stands;
         marks = w.marks ++ reached.0;
-        run = subst R (append-nil (commands all)) more;
+        run = rw append-nil at more;
         grows = grown reached.0 reached.2;
         shape_is = w.shape_is;
-        records_are = ap (λ t. t ++ unposted) (posted-append w.marks reached.0 ∙ (ap (λ t. all_posted w.marks ++ t) silent ∙ append-nil (all_posted w.marks))) ∙ w.records_are;
-        few_faults = at_most-more a.read_faults b.read_faults c.read_faults (faults all) up w.few_faults;
+        records_are = ap (λ t. t ++ unposted) (silently reached.0 silent) ∙ w.records_are;
+        few_faults = more_faults c.read_faults up (faults all) w.few_faults;
         rose = omega (arith, w.rose, up);
-        metered = subst M same w.metered;
+        metered = rw same at w.metered;
         few_calls = (let so_far = w.few_calls in omega (arith, so_far, few_calls));
         no_faults = record {
           output = ap (λ s. s.out_faults) rest ∙ w.no_faults.output;
@@ -318,8 +276,7 @@ module _ (shape : Shape) (terms : Terms) (start : Map) (a b : BoardState) (drive
       → Cutoff shape terms start a c (commands all)
   Cutoff-commit c went same_reads read few_calls =
       let up : b.read_faults ≤ c.read_faults = omega (arith, same_reads) in
-      let R : List Command → Type 0 = λ l. Cutoff shape terms start a c l in
-      subst R (append-nil (commands all))
+      rw append-nil at
       (extend_went [] c (Limited shape b (CrashFinds shape commit b.pages m)) up (commit_cut c.read_faults up) (λ f q cut. (unposted, ap (λ t. t ++ unposted) cut.0.0)) (inl read)
       (calls_here c few_calls) (Goes-limited shape b c (CrashFinds shape commit b.pages m) w.stands.shape_is went))
 
@@ -327,24 +284,23 @@ module _ (shape : Shape) (terms : Terms) (start : Map) (a b : BoardState) (drive
 
   -- the flash holds the map
   held_now : drive.pending ≡ [] → reading shape b.pages [] ≡ Ok m
-  held_now none = let M : List Entry → Type 0 = λ p. reading shape b.pages p ≡ Ok m in subst M none w.stands.map_is
+  held_now none = rw none at w.stands.map_is
 
   post_cut : reading shape b.pages [] ≡ Ok m → (bytes behind : List ℕ) → bytes ++ behind ≡ unposted → (out rest : List ℕ) → out ++ rest ≡ bytes
       → KeptAt shape terms start (commands all ++ []) (rise a.read_faults b.read_faults) b.pages (all_posted w.marks ++ out)
-  post_cut held bytes behind front out rest is = kept-more shape terms start (commands all) []
-      (rise a.read_faults b.read_faults) (rise a.read_faults b.read_faults) (λ k h. h) b.pages (all_posted w.marks ++ out)
-      (kept_all b.pages held refl out (rest ++ behind) (sym (append_assoc out rest behind) ∙ (ap (λ t. t ++ behind) is ∙ front)))
+  post_cut held bytes behind front out rest is = kept-with shape terms start (commands all ++ []) [] (rise a.read_faults b.read_faults) b.pages (all_posted w.marks ++ out) (rest ++ behind) all m
+      refl w.ran held w.stands.limits_is (append_assoc (all_posted w.marks) out (rest ++ behind) ∙ (ap (λ t. all_posted w.marks ++ t) (sym (append_assoc out rest behind)
+      ∙ (ap (λ t. t ++ behind) is ∙ front)) ∙ w.records_are)) w.few_faults
 
   pub Serving-post : (bytes behind : List ℕ) → drive.pending ≡ [] → bytes ++ behind ≡ unposted → Serving shape terms start a (after_post b bytes) drive behind all m
   Serving-post bytes behind none front =
       let P : Flash → List ℕ → Type 0 = λ f q. KeptAt shape terms start (commands all ++ []) (rise a.read_faults b.read_faults) f (all_posted w.marks ++ q) in
       let more = extend [] (after_post b bytes) P (omega arith) (λ f q h. h) (post bytes ∷ []) (Reached-post b bytes P (post_cut (held_now none) bytes behind front)) in
-      let R : List Command → Type 0 = λ l. ReachedBy (w.marks ++ post bytes ∷ []) a (after_post b bytes) (KeptAt shape terms start l (rise a.read_faults b.read_faults)) in
       record {
         ran = w.ran;
         stands = record { shape_is = w.stands.shape_is; frames_is = w.stands.frames_is; limits_is = w.stands.limits_is; map_is = w.stands.map_is };
         marks = w.marks ++ post bytes ∷ [];
-        run = subst R (append-nil (commands all)) more;
+        run = rw append-nil at more;
         grows = grown (post bytes ∷ []) (GrowsAlong-post shape b.pages bytes);
         shape_is = w.shape_is;
         records_are = ap (λ t. t ++ behind) (posted-append w.marks (post bytes ∷ []) ∙ ap (λ t. all_posted w.marks ++ t) (append-nil bytes))
@@ -362,9 +318,8 @@ module _ (shape : Shape) (terms : Terms) (start : Map) (a b : BoardState) (drive
       let K : Flash → List ℕ → Type 0 = λ f q. KeptAt shape terms start (commands all ++ []) (rise a.read_faults b.read_faults) f (all_posted w.marks ++ q) in
       let P : Flash → List ℕ → Type 0 = λ f q. K f q × ((rest : List ℕ) × (q ++ rest ≡ unposted)) in
       let up : b.read_faults ≤ c.read_faults = omega (arith, same) in
-      let R : List Command → Type 0 = λ l. Cutoff shape terms start a c l in
       let N : ℕ → Type 0 = λ n. (f : Flash) (q : List ℕ) → P f q → KeptAt shape terms start (commands all ++ []) (rise a.read_faults n) f (all_posted w.marks ++ q) in
-      subst R (append-nil (commands all))
+      rw append-nil at
       (extend_went [] c P up (subst N (sym same) (λ f q h. h.0)) (λ f q h. h.1) (inl (ap (λ s. s.reads) failed.rest)) (calls_here c (let none = ap calls_of failed.rest in omega (arith, none)))
       (Goes-post_failed shape b bytes P
       (λ out rest is. (post_cut (held_now none) bytes behind front out rest is, (rest ++ behind, sym (append_assoc out rest behind) ∙ (ap (λ t. t ++ behind) is ∙ front)))) c failed))
@@ -392,24 +347,12 @@ module _ (shape : Shape) (terms : Terms) (start : Map) (a b : BoardState) (drive
 pub Serving-start : (shape : Shape) (terms : Terms) (start : Map) (a : BoardState) (drive : Sight)
     → HoldsMap shape terms a drive start → drive.pending ≡ [] → Serving shape terms start a a drive [] [] start
 Serving-start shape terms start a drive stands none =
-    let M : List Entry → Type 0 = λ p. reading shape a.pages p ≡ Ok start in
-    let held : reading shape a.pages [] ≡ Ok start = subst M none stands.map_is in
     record {
       ran = refl;
       stands = stands;
       marks = [];
-      run = Reached-start a a (KeptAt shape terms start [] (rise a.read_faults a.read_faults)) refl refl refl refl (record {
-        served = [];
-        unserved = [];
-        from_front = refl;
-        map_left = start;
-        ran = refl;
-        held = held;
-        same_limits = stands.limits_is;
-        unposted = [];
-        begins = refl;
-        few_faults = at_most-zero (rise a.read_faults a.read_faults);
-      });
+      run = Reached-start a a (KeptAt shape terms start [] (rise a.read_faults a.read_faults)) refl refl refl refl
+          (kept-start shape terms start (rise a.read_faults a.read_faults) a.pages (rw none at stands.map_is) stands.limits_is);
       grows = tt;
       shape_is = stands.shape_is;
       records_are = refl;

@@ -7,7 +7,8 @@ use Rattle.pk_nvme.specs.declared.opcode.Opcode.TheVariants.{Store, Retrieve}
 use Rattle.pk_nand.specs.BoardState.{BoardState, shape_or_none}
 use Rattle.pk_model.specs.Answer.{check, is_namespace, is_key_length, fault_of, early, late_of, refused, reply, map_after}
 use Rattle.pk_model.specs.Spaces.{Terms, limit_of, in_space}
-use Rattle.pk_model.{specs.Run.Step, specs.Growth.Goes, specs.Crashes.CrashFinds, specs.Crashes.command, proofs.Growing.weaken_went}
+use Rattle.pk_model.{specs.Run.Step, specs.Growth.Goes, specs.Crashes.CrashFinds, specs.Crashes.command}
+use Rattle.pk_serve.proofs.Weakening.{goes_as}
 use Rattle.pk_call.{specs.Sight.Sight, specs.Call.CallGoes, specs.Exec.Executed, specs.Exec.ExecStands, specs.Exec.IsValue}
 
 abbrev store_early : ℕ → Shape → ℕ → ℕ → ℕ → Option ℕ
@@ -52,16 +53,9 @@ module _ (shape : Shape) (terms : Terms) (c d : Command) (s : ℕ) (ec : early (
   step_too m a m' (inr x) = absurd (let h : None ≡ Some s = sym x.not_early ∙ ec in cc)
 
   cut_too : (start : Flash) (m : Map) (f : Flash) (q : List ℕ) → CrashFinds shape (command terms.limits c) start m f q → CrashFinds shape (command terms.limits d) start m f q
-  cut_too start m f q cut = (
-    cut.0,
-    elim cut.1 [
-      | inl same ↦ inl same
-      | inr more ↦ elim more [
-        | inl all ↦ inr (inl all)
-        | inr next ↦ inr (inl (next ∙ ap (λ x. Ok x) (leaves shape terms m [] c s ec)))
-      ]
-    ],
-  )
+  cut_too start m f q (quiet, inr (inr next)) = (quiet, inr (inl (next ∙ ap (λ x. Ok x) (leaves shape terms m [] c s ec))))
+  cut_too start m f q (quiet, inl same) = (quiet, inl same)
+  cut_too start m f q (quiet, inr (inl all)) = (quiet, inr (inl all))
 
 -- a Retrieve is no Store
 no_retrieve : (opcode : ℕ) → opcode ≡ 0x01 → op_of opcode ≢ Some Retrieve
@@ -72,13 +66,12 @@ module _ (old new : BoardState) (before after : Sight) (c : Command) (v : List �
   refused_both : (spaces : ℕ) (shape : Shape) → old.shape ≡ Some shape → (c.opcode ≡ 0x01) × (greatest (shape_or_none old.shape) < c.size)
       → (s : ℕ) × (early spaces shape c ≡ Some s) × (early spaces shape (record c { value = v }) ≡ Some s)
   refused_both spaces shape same large =
-      let T : Shape → Type 0 = λ s. greatest s < c.size in
-      let r = too_large spaces shape c.namespace c.key_len c.size (subst T (ap shape_or_none same) large.1) in
+      let r = too_large spaces shape c.namespace c.key_len c.size (subst (λ s. greatest s < c.size) (ap shape_or_none same) large.1) in
       (r.0, early_is spaces shape c large.0 ∙ r.1, early_is spaces shape (record c { value = v }) large.0 ∙ r.1)
 
   pub stands_value : (rep : Reply) (reads : ℕ) → ExecStands old new before after c rep reads → ExecStands old new before after (record c { value = v }) rep reads
   stands_value rep reads h shape terms m s = elim is [
-    | inl same ↦ (let T : List ℕ → Type 0 = λ x. Executed shape terms old before new after m (record c { value = x }) rep reads in subst T (sym same) (h shape terms m s))
+    | inl same ↦ subst (λ x. Executed shape terms old before new after m (record c { value = x }) rep reads) (sym same) (h shape terms m s)
     | inr large ↦ (let r = refused_both (length terms.limits) shape s.shape_is large in let x = h shape terms m s in record {
       left = x.left;
       stepped = step_too shape terms c (record c { value = v }) r.0 r.1 r.2 m rep x.left x.stepped;
@@ -91,11 +84,8 @@ module _ (old new : BoardState) (before after : Sight) (c : Command) (v : List �
 
   pub went_value : (limits : List ℕ) → CallGoes old new before (command limits c) → CallGoes old new before (command limits (record c { value = v }))
   went_value limits h shape terms m s = elim is [
-    | inl same ↦ (let T : List ℕ → Type 0 = λ x. Goes shape old new (CrashFinds shape (command limits (record c { value = x })) old.pages m) in subst T (sym same) (h shape terms m s))
-    | inr large ↦ (let r = refused_both (length limits) shape s.shape_is large in let x = h shape terms m s in (
-      x.0,
-      weaken_went x.0 old new (CrashFinds shape (command limits c) old.pages m) (CrashFinds shape (command limits (record c { value = v })) old.pages m)
-          (cut_too shape (record { frames = terms.frames; limits = limits }) c (record c { value = v }) r.0 r.1 r.2 old.pages m) x.1,
-      x.2,
-    ))
+    | inl same ↦ subst (λ x. Goes shape old new (CrashFinds shape (command limits (record c { value = x })) old.pages m)) (sym same) (h shape terms m s)
+    | inr large ↦ (
+        let r = refused_both (length limits) shape s.shape_is large in
+        goes_as shape old new (cut_too shape (record { frames = terms.frames; limits = limits }) c (record c { value = v }) r.0 r.1 r.2 old.pages m) (h shape terms m s))
   ]
