@@ -125,28 +125,28 @@ key_length : (k : Key) → IsKey k → (nat_le 1 (length (bytes_of k)) && nat_le
 key_length k h = rw (le-leb 1 (length (bytes_of k)) h.some, le-leb (length (bytes_of k)) 16 h.most) refl
 
 module _ (shape : Shape) (most : ℕ) (m : Map) (k : Key) (h : IsKey k) (alone : in_space 1 m ≡ m) where
+  -- by the check of the key's length, and then by that the key exists
+  keyed_by : (c : Command)
+      → refused shape (most ∷ []) m c
+      ≡ or_else (or_else (check (nat_le 1 (length (bytes_of k)) && nat_le (length (bytes_of k)) 16) INVALID_KEY_SIZE) None) (check (contains_key (in_space 1 m) (key c)) KEY_DOES_NOT_EXIST)
+      → refused shape (most ∷ []) m c ≡ check (contains_key m (key c)) KEY_DOES_NOT_EXIST
+  keyed_by c is =
+      is ∙ ap (λ b. or_else (or_else (check b INVALID_KEY_SIZE) None) (check (contains_key (in_space 1 m) (key c)) KEY_DOES_NOT_EXIST)) (key_length k h)
+      ∙ ap (λ (n : Map). check (contains_key n (key c)) KEY_DOES_NOT_EXIST) alone
+
   pub delete_by : refused shape (most ∷ []) m (of_key DELETE k 0 0 []) ≡ check (contains_key m (key (of_key DELETE k 0 0 []))) KEY_DOES_NOT_EXIST
-  delete_by =
-      ap (λ b. or_else (or_else (check b INVALID_KEY_SIZE) None) (check (contains_key (in_space 1 m) (key (of_key DELETE k 0 0 []))) KEY_DOES_NOT_EXIST)) (key_length k h)
-      ∙ ap (λ (n : Map). check (contains_key n (key (of_key DELETE k 0 0 []))) KEY_DOES_NOT_EXIST) alone
+  delete_by = keyed_by (of_key DELETE k 0 0 []) refl
 
   pub exist_by : refused shape (most ∷ []) m (of_key EXIST k 0 0 []) ≡ check (contains_key m (key (of_key EXIST k 0 0 []))) KEY_DOES_NOT_EXIST
-  exist_by =
-      ap (λ b. or_else (or_else (check b INVALID_KEY_SIZE) None) (check (contains_key (in_space 1 m) (key (of_key EXIST k 0 0 []))) KEY_DOES_NOT_EXIST)) (key_length k h)
-      ∙ ap (λ (n : Map). check (contains_key n (key (of_key EXIST k 0 0 []))) KEY_DOES_NOT_EXIST) alone
+  exist_by = keyed_by (of_key EXIST k 0 0 []) refl
 
   pub retrieve_by : (size : ℕ) → refused shape (most ∷ []) m (of_key RETRIEVE k size 0 []) ≡ check (contains_key m (key (of_key RETRIEVE k size 0 []))) KEY_DOES_NOT_EXIST
-  retrieve_by size =
-      ap (λ b. or_else (or_else (check b INVALID_KEY_SIZE) None) (check (contains_key (in_space 1 m) (key (of_key RETRIEVE k size 0 []))) KEY_DOES_NOT_EXIST)) (key_length k h)
-      ∙ ap (λ (n : Map). check (contains_key n (key (of_key RETRIEVE k size 0 []))) KEY_DOES_NOT_EXIST) alone
+  retrieve_by size = keyed_by (of_key RETRIEVE k size 0 []) refl
 
   not_zero : (fits is_there is_new room : Bool)
       → or_else (check fits INVALID_VALUE_SIZE) (or_else (check is_there KEY_DOES_NOT_EXIST) (or_else (check is_new KEY_EXISTS) (check room CAPACITY_EXCEEDED))) ≡ Some 0 → ⊥
-  not_zero false is_there is_new room e = cc
-  not_zero true false is_new room e = cc
-  not_zero true true false room e = cc
   not_zero true true true false e = cc
-  not_zero true true true true e = cc
+  not_zero _ _ _ _ e = cc
 
   pub store_by : (options : ℕ) (value : List ℕ) → refused shape (most ∷ []) m (of_key STORE k (length value) options value) ≡ Some 0 → ⊥
   store_by options value e =

@@ -1,20 +1,20 @@
 -- The replies of the definition: their data fit the buffer that is asked for, and none is a read error.
-use Rattle.std.proofs.Common.{◌≡◌, ◌≢◌, ℕ, ◌-◌, ◌*◌, ◌≤◌, ◌==◌, min, refl, sym, ap, subst, ◌∙◌, arith, Bool, true, false, not, ◌&&◌, ◌||◌, nat_le, if◌then◌else◌, List, [], ◌∷◌, length, flat_map}
+use Rattle.std.proofs.Common.{◌≡◌, ◌≢◌, ℕ, ◌-◌, ◌*◌, ◌≤◌, ◌==◌, min, refl, sym, subst, ◌∙◌, arith, Bool, true, false, not, ◌&&◌, ◌||◌, nat_le, if◌then◌else◌, List, [], ◌∷◌, length, flat_map}
 use Rattle.std.proofs.Common.{Option, Some, None, unwrap_or, length-append}
 use Rattle.std.{proofs.lemmas.Bool.leb-true, proofs.lemmas.Bool.eq-eqb, proofs.lemmas.List.length-take, specs.FinMap.get, specs.FinMap.contains_key, specs.FinMap.len}
 use Rattle.pk_base.{specs.Choices.or_else, specs.Key.Key, specs.Fields.u32, specs.Shape.Shape, specs.Shape.greatest, specs.Shape.pinned, specs.Map.Map, specs.Map.keys_from, specs.Map.live}
 use Rattle.pk_nvme.{specs.declared.opcode.Opcode.Opcode, specs.declared.limits.TheConstants.COUNT_BYTES, specs.Opcode.op_of, specs.Reply.Reply}
-use Rattle.pk_nvme.specs.declared.opcode.Opcode.TheVariants.{Flush, Store, Retrieve, List as ListKeys, Delete, Exist, Tick, Report}
+use Rattle.pk_nvme.specs.declared.opcode.Opcode.TheVariants.{Flush, Store, Retrieve, List as ListKeys, Delete, Exist, Report}
 use Rattle.pk_nvme.specs.declared.status.TheConstants.{SUCCESSFUL_COMPLETION, INVALID_COMMAND_OPCODE, INVALID_FIELD_IN_COMMAND, INVALID_NAMESPACE_OR_FORMAT, CAPACITY_EXCEEDED, INVALID_VALUE_SIZE}
 use Rattle.pk_nvme.specs.declared.status.TheConstants.{INVALID_KEY_SIZE, KEY_DOES_NOT_EXIST, UNRECOVERED_ERROR, KEY_EXISTS}
 use Rattle.pk_nvme.specs.Command.{Command, key, must_exist, must_be_new}
 use Rattle.pk_model.specs.Answer.{check, is_namespace, is_key_length, size_fault, fault_of, early, late_of, live_after, refused, reply, reply_of, listed, fitting, list_bytes}
-use Rattle.pk_model.{specs.Machine.no_numbers, specs.Spaces.Terms, specs.Spaces.limit_of, specs.Spaces.in_space, proofs.Answering.refuses_with, proofs.Answering.serves, proofs.Answering.list_sized}
-use Rattle.pk_host.{specs.Port.room_for, specs.Port.room_of, proofs.LeftLemmas.first_none}
+use Rattle.pk_model.{specs.Machine.no_numbers, specs.Spaces.Terms, specs.Spaces.limit_of, specs.Spaces.in_space, proofs.Answering.list_sized}
+use Rattle.pk_host.{specs.Port.room_for, specs.Port.room_of, proofs.LeftLemmas.answered_by}
 
 -- ---- what fits
 
-length-numbers : (ns : List ℕ) → length (flat_map u32 ns) ≡ 4 * length ns
+pub length-numbers : (ns : List ℕ) → length (flat_map u32 ns) ≡ 4 * length ns
 length-numbers [] = refl
 length-numbers (n ∷ ns) = let front = length-append (u32 n) (flat_map u32 ns) in let rest = length-numbers ns in omega (arith, front, rest)
 
@@ -44,10 +44,7 @@ served_fits spaces shape most frames m own eleven c ListKeys is passed = list_fi
 served_fits spaces shape most frames m own eleven c Report is passed =
     let n = length-numbers (live shape m ∷ most ∷ len m ∷ pinned shape frames ∷ frames ∷ own) in omega (arith, n, eleven)
 served_fits spaces shape most frames m own eleven c Flush is passed = omega arith
-served_fits spaces shape most frames m own eleven c Store is passed = omega arith
-served_fits spaces shape most frames m own eleven c Delete is passed = omega arith
-served_fits spaces shape most frames m own eleven c Exist is passed = omega arith
-served_fits spaces shape most frames m own eleven c Tick is passed = omega arith
+served_fits spaces shape most frames m own eleven c _ is passed = omega arith
 
 module _ (shape : Shape) (terms : Terms) (m : Map) (own : List ℕ) (eleven : length own ≡ 11) (c : Command) where
   -- the reply of the definition
@@ -61,18 +58,10 @@ module _ (shape : Shape) (terms : Terms) (m : Map) (own : List ℕ) (eleven : le
   abbrev most : ℕ
   most = limit_of terms.limits c.namespace
 
-  fits_by : (o : Option Opcode) → op_of c.opcode ≡ o → early (length terms.limits) shape c ≡ None → late_of shape most part c o ≡ None → length answer.data_bytes ≤ room_of c
-  fits_by None is passed late = absurd (let clash : ◌≡◌ {A = Option ℕ} (Some 1) None = sym (ap (λ (o : Option Opcode). fault_of (length terms.limits) shape c o) is) ∙ passed in cc)
-  fits_by (Some k) is passed late =
-      subst (λ (a : Reply). length a.data_bytes ≤ room_of c) (sym (serves shape terms m own c k is passed late).replied)
-      (subst (λ (o : Option Opcode). length (reply_of shape most terms.frames part own c (Some k)).data_bytes ≤ room_for c.size o) (sym is)
-      (served_fits (length terms.limits) shape most terms.frames part own eleven c k is passed))
-
   pub data_fit : length answer.data_bytes ≤ room_of c
-  data_fit = elim (refused shape terms.limits m c) as (λ r. refused shape terms.limits m c ≡ r → length answer.data_bytes ≤ room_of c) [
-    | Some status ↦ λ e. subst (λ (a : Reply). length a.data_bytes ≤ room_of c) (sym (refuses_with shape terms m own c status e).replied) (omega arith)
-    | None ↦ λ e. let both = first_none (early (length terms.limits) shape c) (late_of shape most part c (op_of c.opcode)) e in fits_by (op_of c.opcode) refl both.0 both.1
-  ] refl
+  data_fit = answered_by shape terms m own c (λ a _. length a.data_bytes ≤ room_of c) (λ status e. omega arith) (λ k is passed late.
+      subst (λ (o : Option Opcode). length (reply_of shape most terms.frames part own c (Some k)).data_bytes ≤ room_for c.size o) (sym is)
+      (served_fits (length terms.limits) shape most terms.frames part own eleven c k is passed))
 
 -- ---- no read error
 
@@ -95,12 +84,7 @@ differs status other e = let same = eq-eqb status UNRECOVERED_ERROR e in let cla
 other_size : (shape : Shape) (k : Opcode) (size : ℕ) → IsOther (size_fault shape k size)
 other_size shape Store size = other_check (nat_le size (greatest shape)) INVALID_VALUE_SIZE (differs INVALID_VALUE_SIZE refl)
 other_size shape ListKeys size = other_check (nat_le COUNT_BYTES size) INVALID_FIELD_IN_COMMAND (differs INVALID_FIELD_IN_COMMAND refl)
-other_size shape Flush size = tt
-other_size shape Retrieve size = tt
-other_size shape Delete size = tt
-other_size shape Exist size = tt
-other_size shape Tick size = tt
-other_size shape Report size = tt
+other_size shape _ size = tt
 
 other_early : (spaces : ℕ) (shape : Shape) (c : Command) (o : Option Opcode) → IsOther (fault_of spaces shape c o)
 other_early spaces shape c None = differs INVALID_COMMAND_OPCODE refl
@@ -123,10 +107,7 @@ module _ (shape : Shape) (most : ℕ) (m : Map) (c : Command) where
   other_late (Some Retrieve) = other_missing
   other_late (Some Delete) = other_missing
   other_late (Some Exist) = other_missing
-  other_late (Some Flush) = tt
-  other_late (Some ListKeys) = tt
-  other_late (Some Tick) = tt
-  other_late (Some Report) = tt
+  other_late _ = tt
 
 module _ (shape : Shape) (terms : Terms) (m : Map) (c : Command) where
   abbrev part_of : Map
@@ -140,23 +121,9 @@ module _ (shape : Shape) (terms : Terms) (m : Map) (c : Command) where
 
   success_of : (k : Opcode) → (reply_of shape most_of terms.frames part_of no_numbers c (Some k)).status ≡ SUCCESSFUL_COMPLETION
   success_of Flush = refl
-  success_of Store = refl
-  success_of Retrieve = refl
-  success_of ListKeys = refl
-  success_of Delete = refl
-  success_of Exist = refl
-  success_of Tick = refl
-  success_of Report = refl
-
-  served_well : (o : Option Opcode) → op_of c.opcode ≡ o → early (length terms.limits) shape c ≡ None → late_of shape most_of part_of c o ≡ None
-      → (reply shape terms m no_numbers c).status ≢ UNRECOVERED_ERROR
-  served_well None is passed late = absurd (let clash : ◌≡◌ {A = Option ℕ} (Some 1) None = sym (ap (λ (o : Option Opcode). fault_of (length terms.limits) shape c o) is) ∙ passed in cc)
-  served_well (Some k) is passed late = λ e. differs SUCCESSFUL_COMPLETION refl
-      (sym (success_of k) ∙ sym (ap (λ (a : Reply). a.status) (serves shape terms m no_numbers c k is passed late).replied) ∙ e)
+  success_of _ = refl
 
   -- the machine never answers so
   pub no_read_error : (reply shape terms m no_numbers c).status ≢ UNRECOVERED_ERROR
-  no_read_error = elim (refused shape terms.limits m c) as (λ r. refused shape terms.limits m c ≡ r → (reply shape terms m no_numbers c).status ≢ UNRECOVERED_ERROR) [
-    | Some status ↦ λ e f. subst IsOther e other_refused (sym (ap (λ (a : Reply). a.status) (refuses_with shape terms m no_numbers c status e).replied) ∙ f)
-    | None ↦ λ e. let both = first_none (early (length terms.limits) shape c) (late_of shape most_of part_of c (op_of c.opcode)) e in served_well (op_of c.opcode) refl both.0 both.1
-  ] refl
+  no_read_error = answered_by shape terms m no_numbers c (λ a _. a.status ≢ UNRECOVERED_ERROR)
+      (λ status e. subst IsOther e other_refused) (λ k is passed late e. differs SUCCESSFUL_COMPLETION refl (sym (success_of k) ∙ e))

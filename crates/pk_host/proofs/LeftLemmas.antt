@@ -1,15 +1,17 @@
 -- The map that a command leaves: keys and values of their sizes, within the limit of live pages.
-use Rattle.std.proofs.Common.{◌≡◌, ℕ, refl, sym, ap, subst, ◌∙◌, arith, Bool, true, false, not, ◌&&◌, ◌||◌, ◌==◌, nat_le, if◌then◌else◌, [], ◌∷◌, length, Option, Some, None}
+use Rattle.std.proofs.Common.{◌≡◌, ℕ, refl, sym, ap, subst, ◌∙◌, arith, Bool, true, false, not, ◌&&◌, ◌||◌, ◌==◌, nat_le, if◌then◌else◌, List, [], ◌∷◌, length, Option, Some, None}
 use Rattle.std.{proofs.lemmas.Bool.leb-true, proofs.lemmas.List.length-take-le, specs.FinMap.get, specs.FinMap.contains_key, specs.FinMap.insert, specs.FinMap.remove, specs.FinMap.empty}
-use Rattle.pk_base.{specs.Choices.or_else, specs.Shape.Shape, specs.Shape.charge, specs.Key.IsKey, specs.Key.bytes_of, specs.Map.Map, specs.Map.live, specs.Map.pages_if_some}
+use Rattle.pk_base.{specs.Choices.or_else, specs.Shape.Shape, specs.Shape.charge, specs.Key.IsKey, specs.Key.bytes_of, specs.Map.Map, specs.Map.live, specs.Map.pages_if_some, proofs.Logic.some_same}
 use Rattle.pk_nvme.specs.declared.opcode.TheConstants.{FLUSH, STORE, RETRIEVE, LIST, DELETE, EXIST, TICK, REPORT}
 use Rattle.pk_nvme.specs.declared.opcode.Opcode.TheVariants.{Flush, Store, Retrieve, List as ListKeys, Delete, Exist, Tick, Report}
 use Rattle.pk_nvme.specs.declared.status.TheConstants.{CAPACITY_EXCEEDED, KEY_DOES_NOT_EXIST, KEY_EXISTS}
-use Rattle.pk_nvme.{specs.declared.opcode.Opcode.Opcode, specs.Opcode.op_of, specs.Command.Command, specs.Command.key, specs.Command.must_exist, specs.Command.must_be_new}
-use Rattle.pk_model.specs.Answer.{check, fault_of, early, late_of, live_after, refused, map_after, effect}
+use Rattle.pk_nvme.{specs.Reply.Reply, specs.Reply.refusal, specs.declared.opcode.Opcode.Opcode, specs.Opcode.op_of, specs.Command.Command, specs.Command.key, specs.Command.must_exist}
+use Rattle.pk_nvme.{specs.Command.must_be_new}
+use Rattle.pk_model.specs.Answer.{check, fault_of, early, late_of, live_after, refused, reply, reply_of, map_after, effect}
 use Rattle.pk_model.proofs.Answering.{refuses_with, serves, key_sized, key_spaced, store_sized}
 use Rattle.pk_model.{proofs.HeldMap.key_is_bytes, proofs.Machines.live-empty, proofs.Machines.live-remove, proofs.Machines.live_stored}
-use Rattle.pk_model.{specs.Spaces.limit_of, specs.Spaces.in_space, specs.Spaces.one_space, proofs.SpaceLemmas.in_space-empty, proofs.SpaceLemmas.in_space-insert, proofs.SpaceLemmas.in_space-remove}
+use Rattle.pk_model.{specs.Spaces.Terms, specs.Spaces.limit_of, specs.Spaces.in_space, specs.Spaces.one_space, proofs.SpaceLemmas.in_space-empty, proofs.SpaceLemmas.in_space-insert}
+use Rattle.pk_model.{proofs.SpaceLemmas.in_space-remove}
 use Rattle.pk_host.{specs.Good.IsGoodMap, specs.Good.IsHanded, proofs.EntryLemmas.map_empty, proofs.EntryLemmas.map_insert, proofs.EntryLemmas.map_remove}
 
 -- ---- checks that passed
@@ -22,41 +24,47 @@ check_none : (b : Bool) (s : ℕ) → check b s ≡ None → b ≡ true
 check_none true s h = refl
 check_none false s h = cc
 
+-- what is chosen is behind a choice that it is not
+behind : {A : Type 0} (b : Bool) (x : A) (y : Option A) (z : A) → (x ≡ z → ⊥) → (if b then Some x else y) ≡ Some z → y ≡ Some z
+behind true x y z other e = absurd (other (some_same x z e))
+behind false x y z other e = e
+
 -- no other number is that of a Store
 store_alone : (n : ℕ) → op_of n ≡ Some Store → (n == STORE) ≡ true
-store_alone n =
-    elim (n == FLUSH) as (λ b. (if b then Some Flush else if n == STORE then Some Store else if n == RETRIEVE then Some Retrieve else if n == LIST then Some ListKeys else if n
-    == DELETE then Some Delete else if n == EXIST then Some Exist else if n == TICK then Some Tick else if n == REPORT then Some Report else None) ≡ Some Store → (n == STORE) ≡ true) [
-      | true ↦ λ e. cc
-      | false ↦ elim (n == STORE) as (λ b.
-          (if b then Some Store else if n == RETRIEVE then Some Retrieve else if n == LIST then Some ListKeys else if n == DELETE then Some
-          Delete else if n == EXIST then Some Exist else if n == TICK then Some Tick else if n == REPORT then Some Report else None) ≡ Some Store → b ≡ true) [
-            | true ↦ λ e. refl
-            | false ↦ elim (n == RETRIEVE) as (λ b.
-                (if b then Some Retrieve else if n == LIST then Some ListKeys else if n == DELETE then Some Delete else if n ==
-                EXIST then Some Exist else if n == TICK then Some Tick else if n == REPORT then Some Report else None) ≡ Some Store → false ≡ true) [
-                  | true ↦ λ e. cc
-                  | false ↦ elim (n == LIST) as (λ b.
-                      (if b then Some ListKeys else if n == DELETE then Some Delete else if n == EXIST then Some Exist else if n == TICK then Some Tick else if n == REPORT then Some Report else None)
-                      ≡ Some Store → false ≡ true) [
-                        | true ↦ λ e. cc
-                        | false ↦ elim (n == DELETE) as (λ b.
-                            (if b then Some Delete else if n == EXIST then Some Exist else if n == TICK then Some Tick else if n == REPORT then Some Report else None) ≡ Some Store → false ≡ true) [
-                              | true ↦ λ e. cc
-                              | false ↦ elim (n == EXIST) as (λ b. (if b then Some Exist else if n == TICK then Some Tick else if n == REPORT then Some Report else None) ≡ Some Store → false ≡ true) [
-                                | true ↦ λ e. cc
-                                | false ↦ elim (n == TICK) as (λ b. (if b then Some Tick else if n == REPORT then Some Report else None) ≡ Some Store → false ≡ true) [
-                                  | true ↦ λ e. cc
-                                  | false ↦ elim (n == REPORT) as (λ b. (if b then Some Report else None) ≡ Some Store → false ≡ true) [ true ↦ λ e. cc | false ↦ λ e. cc ]
-                                ]
-                              ]
-                            ]
-                      ]
-                ]
-          ]
-    ]
+store_alone n e = by (n == STORE) (behind (n == FLUSH) Flush _ Store (λ h. cc) e)
+  where
+    by : (b : Bool) → (if b then Some Store else if n == RETRIEVE then Some Retrieve else if n == LIST then Some ListKeys else if n == DELETE then Some Delete
+        else if n == EXIST then Some Exist else if n == TICK then Some Tick else if n == REPORT then Some Report else None) ≡ Some Store → b ≡ true
+    by true e = refl
+    by false e =
+        let last : ◌≡◌ {A = Option Opcode} None (Some Store) = behind (n == REPORT) Report None Store (λ h. cc) (behind (n == TICK) Tick _ Store (λ h. cc)
+        (behind (n == EXIST) Exist _ Store (λ h. cc) (behind (n == DELETE) Delete _ Store (λ h. cc)
+        (behind (n == LIST) ListKeys _ Store (λ h. cc) (behind (n == RETRIEVE) Retrieve _ Store (λ h. cc) e))))) in cc
 
 -- ---- the map afterwards
+
+-- what holds of the reply and the map of each refusal, and of each command that is served, holds of those of the command
+module _ (shape : Shape) (terms : Terms) (m : Map) (own : List ℕ) (c : Command) (P : Reply → Map → Type 0)
+    (refuses : (status : ℕ) → refused shape terms.limits m c ≡ Some status → P (refusal status) m)
+    (serves_so : (k : Opcode) → op_of c.opcode ≡ Some k → early (length terms.limits) shape c ≡ None → late_of shape (limit_of terms.limits c.namespace) (in_space c.namespace m) c (Some k) ≡ None
+    → P (reply_of shape (limit_of terms.limits c.namespace) terms.frames (in_space c.namespace m) own c (Some k)) (effect m c (Some k))) where
+  served_by : (o : Option Opcode) → op_of c.opcode ≡ o → early (length terms.limits) shape c ≡ None → late_of shape (limit_of terms.limits c.namespace) (in_space c.namespace m) c o ≡ None
+      → P (reply shape terms m own c) (map_after shape terms.limits m c)
+  served_by None is passed late =
+      absurd (let clash : ◌≡◌ {A = Option ℕ} (Some 1) None = sym (ap (λ (o : Option Opcode). fault_of (length terms.limits) shape c o) is) ∙ passed in cc)
+  served_by (Some k) is passed late =
+      let s = serves shape terms m own c k is passed late in
+      subst (λ (a : Reply). P a (map_after shape terms.limits m c)) (sym s.replied) (subst (λ (n : Map). P _ n) (sym s.leaves) (serves_so k is passed late))
+
+  pub answered_by : P (reply shape terms m own c) (map_after shape terms.limits m c)
+  answered_by = elim (refused shape terms.limits m c) as (λ r. refused shape terms.limits m c ≡ r → P (reply shape terms m own c) (map_after shape terms.limits m c)) [
+    | Some status ↦ λ e.
+        let r = refuses_with shape terms m own c status e in
+        subst (λ (a : Reply). P a (map_after shape terms.limits m c)) (sym r.replied) (subst (λ (n : Map). P _ n) (sym r.leaves) (refuses status e))
+    | None ↦ λ e.
+        let both = first_none (early (length terms.limits) shape c) (late_of shape (limit_of terms.limits c.namespace) (in_space c.namespace m) c (op_of c.opcode)) e in
+        served_by (op_of c.opcode) refl both.0 both.1
+  ] refl
 
 pub good_empty : (shape : Shape) (most : ℕ) → IsGoodMap shape most empty
 good_empty shape most = let none = live-empty shape in record { sized = map_empty shape; alone = in_space-empty 1; few = omega (arith, none) }
@@ -111,21 +119,7 @@ module _ (shape : Shape) (most : ℕ) (m : Map) (c : Command) (good : IsGoodMap 
       → late_of shape (limit_of (most ∷ []) c.namespace) (in_space c.namespace m) c (Some k) ≡ None → IsGoodMap shape most (effect m c (Some k))
   good_effect Store is passed late = good_store is passed late
   good_effect Delete is passed late = good_delete is passed
-  good_effect Flush is passed late = good
-  good_effect Retrieve is passed late = good
-  good_effect ListKeys is passed late = good
-  good_effect Exist is passed late = good
-  good_effect Tick is passed late = good
-  good_effect Report is passed late = good
-
-  good_served : (o : Option Opcode) → op_of c.opcode ≡ o → early 1 shape c ≡ None
-      → late_of shape (limit_of (most ∷ []) c.namespace) (in_space c.namespace m) c o ≡ None → IsGoodMap shape most (map_after shape (most ∷ []) m c)
-  good_served None is passed late = absurd (let clash : ◌≡◌ {A = Option ℕ} (Some 1) None = sym (ap (λ (o : Option Opcode). fault_of 1 shape c o) is) ∙ passed in cc)
-  good_served (Some k) is passed late = subst (λ (x : Map). IsGoodMap shape most x) (sym (serves shape (one_space 0 most) m [] c k is passed late).leaves) (good_effect k is passed late)
+  good_effect _ is passed late = good
 
   pub good_left : IsGoodMap shape most (map_after shape (most ∷ []) m c)
-  good_left = elim (refused shape (most ∷ []) m c) as (λ r. refused shape (most ∷ []) m c ≡ r → IsGoodMap shape most (map_after shape (most ∷ []) m c)) [
-    | Some status ↦ λ e. subst (λ (x : Map). IsGoodMap shape most x) (sym (refuses_with shape (one_space 0 most) m [] c status e).leaves) good
-    | None ↦ λ e. let both = first_none (early 1 shape c)
-        (late_of shape (limit_of (most ∷ []) c.namespace) (in_space c.namespace m) c (op_of c.opcode)) e in good_served (op_of c.opcode) refl both.0 both.1
-  ] refl
+  good_left = answered_by shape (one_space 0 most) m [] c (λ a n. IsGoodMap shape most n) (λ status e. good) good_effect

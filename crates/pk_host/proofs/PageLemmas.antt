@@ -2,8 +2,8 @@
 use Rattle.std.proofs.Common.{◌≡◌, inl, inr, ℕ, ◌-◌, ◌≤◌, ◌==◌, nat_lt, if◌then◌else◌, List, [], ◌∷◌, ◌++◌, length, filter, Bool, true, false, not, nat_le, Option, Some, None, Result, Ok, Err, IfOk}
 use Rattle.std.proofs.Common.{zero, suc, IfSome, OnOk, refl, sym, ap, subst, ◌∙◌, arith, append_assoc}
 use Rattle.std.specs.FinMap.{keys}
-use Rattle.std.{proofs.lemmas.List.append-nil, proofs.lemmas.Bool.le-leb, specs.List.AllByRecursion, specs.List.slice_get, specs.Ordering.is_lt, specs.Ordering.nat_cmp, specs.Ordering.ordering_then}
-use Rattle.std.{specs.declared.cmp.Ordering.TheVariants.Less, specs.declared.cmp.Ordering.TheVariants.Equal, specs.declared.cmp.Ordering.TheVariants.Greater, proofs.lemmas.Bool.Decides.nat_tests}
+use Rattle.std.{proofs.lemmas.List.append-nil, proofs.lemmas.Bool.le-leb, specs.List.AllByRecursion, specs.List.slice_get, specs.Ordering.is_lt, specs.Ordering.ordering_then}
+use Rattle.std.{specs.declared.cmp.Ordering.TheVariants.Equal, specs.declared.cmp.Ordering.TheVariants.Greater, proofs.lemmas.Bool.Decides.nat_tests}
 use Rattle.pk_base.{specs.Key.Key, specs.Key.IsKey, specs.Key.key_cmp, specs.Key.IsBelow, specs.Key.IsRising, specs.Key.bytes_of, specs.Shape.Shape}
 use Rattle.pk_base.specs.Map.{Map, IsMap, keys_from}
 use Rattle.pk_nvme.{specs.Command.Command, specs.Command.key, specs.Command.key_or_none, specs.Reply.Reply, specs.Opcode.op_of, specs.declared.opcode.Opcode.Opcode}
@@ -15,6 +15,11 @@ use Rattle.pk_host.specs.Listing.{IsStart, list_room, above, keys_of, page_after
 use Rattle.pk_host.proofs.CommandLemmas.{success_served, list_by, key_named}
 use Rattle.pk_host.proofs.SpellingLemmas.{in_first, read_back, listed_least, are_keys, filter_all}
 use Rattle.pk_host.proofs.RisingLemmas.{above-append, above_split, above_above, above_from, are_above, rising_filter, all_middle, last_of, snoc_of, keys_rising, second_above}
+
+-- what holds of each of two lists
+pub all_append : {X : Type 0} (P : X → Type 0) (xs ys : List X) → AllByRecursion P xs → AllByRecursion P ys → AllByRecursion P (xs ++ ys)
+all_append P [] ys front back = back
+all_append P (x ∷ xs) ys front back = (front.0, all_append P xs ys front.1 back)
 
 -- ---- Lists leave the map
 
@@ -105,10 +110,6 @@ pub ok_never : {X E : Type 0} (r : Result X E) (e : E) (P : X → Type 0) → r 
 ok_never r e P is = subst (λ x. IfOk x P) (sym is) tt
 
 -- ---- keys of the namespace in which commands are passed
-
-pub own_more : (ks ls : List Key) → AllByRecursion IsOwnKey ks → AllByRecursion IsOwnKey ls → AllByRecursion IsOwnKey (ks ++ ls)
-own_more [] ls own more = more
-own_more (k ∷ ks) ls own more = (own.0, own_more ks ls own.1 more)
 
 own_at : (ks : List Key) (i : ℕ) → AllByRecursion IsOwnKey ks → IfSome (slice_get ks i) IsOwnKey
 own_at [] i own = tt
@@ -243,10 +244,6 @@ listing_ends start now all from h at more stop none known m told =
 
 -- ---- the commands of all pages
 
-lists_append : (cs ds : List Command) → AreLists cs → AreLists ds → AreLists (cs ++ ds)
-lists_append [] ds h k = k
-lists_append (c ∷ cs) ds h k = (h.0, lists_append cs ds h.1 k)
-
 pub more_lists : {P : Type 0} (took : P → List Command → P → Type 0) → ((p : P) (cs : List Command) (q : P) (ds : List Command) (r : P) → took p cs q → took q ds r → took p (cs ++ ds) r)
     → (p q r : P) (from : Key) → TookSome took AreLists p q → took q (list_of from ∷ []) r → TookSome took AreLists p r
-more_lists took both p q r from h k = (h.0 ++ list_of from ∷ [], lists_append h.0 (list_of from ∷ []) h.1 ((from, refl), tt), both p h.0 q (list_of from ∷ []) r h.2 k)
+more_lists took both p q r from h k = (h.0 ++ list_of from ∷ [], all_append (λ c. (f : Key) × (c ≡ list_of f)) h.0 (list_of from ∷ []) h.1 ((from, refl), tt), both p h.0 q (list_of from ∷ []) r h.2 k)

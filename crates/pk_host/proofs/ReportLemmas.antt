@@ -1,16 +1,12 @@
 -- The numbers of a Report.
-use Rattle.std.proofs.Common.{◌≡◌, inl, ℕ, ◌*◌, ◌≤◌, List, [], ◌∷◌, length, take, flat_map, false, ◌==◌, if◌then◌else◌, Some, None, Ok, Err, refl, sym, ap, ◌∙◌, arith}
-use Rattle.std.{proofs.lemmas.List.length-take-le, proofs.lemmas.List.length-append, proofs.lemmas.List.take_all, specs.FinMap.len as len_of}
-use Rattle.pk_base.{specs.Fields.u32, specs.Map.live, specs.Shape.pinned}
+use Rattle.std.proofs.Common.{◌≡◌, inl, ℕ, ◌≤◌, List, [], ◌∷◌, length, take, false, ◌==◌, if◌then◌else◌, Some, None, Ok, Err, refl, sym, ap, ◌∙◌, arith}
+use Rattle.std.{proofs.lemmas.List.length-take-le, proofs.lemmas.List.take_all, specs.FinMap.len as len_of}
+use Rattle.pk_base.{specs.Map.live, specs.Shape.pinned}
 use Rattle.pk_nvme.{specs.Reply.Reply, specs.declared.opcode.Opcode.TheVariants.Report}
 use Rattle.pk_model.specs.Answer.{report_bytes}
-use Rattle.pk_host.{specs.declared.types.HostError.TheVariants.Refused, specs.Port.PortState, specs.Port.Replies, specs.Calls.report, proofs.CallLemmas.leaves_map}
+use Rattle.pk_host.{specs.declared.types.HostError.TheVariants.Refused, specs.Port.PortState, specs.Port.Replies, specs.Calls.report, proofs.CallLemmas.leaves_map, proofs.DataLemmas.length-numbers}
 use Rattle.pk_host.specs.Outcomes.{stored, Gives, IsRefusal, Numbers, Leaves}
 use Rattle.pk_host.proofs.CommandLemmas.{success_served, only_fault, report_by}
-
-length-numbers : (ns : List ℕ) → length (flat_map u32 ns) ≡ 4 * length ns
-length-numbers [] = refl
-length-numbers (n ∷ ns) = omega (arith, length-append (u32 n) (flat_map u32 ns), length-numbers ns)
 
 whole : (len : ℕ) (into bytes : List ℕ) → length into ≡ 64 → len ≤ length into → take len into ≡ bytes → length bytes ≡ 64 → into ≡ bytes
 whole len into bytes sized fits e all =

@@ -4,7 +4,7 @@ use Rattle.std.{specs.FinMap.get as value_at, specs.FinMap.get-insert, specs.Fin
 use Rattle.pk_base.{specs.Key.Key, specs.Key.key_cmp, specs.Key.space_of, specs.Shape.Shape, specs.Page.Flash, specs.Map.Map}
 use Rattle.pk_nvme.{specs.Command.Command, specs.Command.key as key_of, specs.Opcode.op_of, specs.declared.opcode.TheConstants.STORE, specs.declared.opcode.TheConstants.DELETE}
 use Rattle.pk_nvme.specs.declared.opcode.Opcode.{Opcode}
-use Rattle.pk_nvme.specs.declared.opcode.Opcode.TheVariants.{Flush, Store, Retrieve, List as ListKeys, Delete, Exist, Tick, Report}
+use Rattle.pk_nvme.specs.declared.opcode.Opcode.TheVariants.{Store, Retrieve, List as ListKeys, Delete}
 use Rattle.pk_model.{specs.Answer.refused, specs.Answer.effect, specs.Answer.map_after, specs.Kept.Kept, specs.Reading.Holds, specs.Run.Exchange, specs.Run.commands, specs.Run.RunWithin}
 use Rattle.pk_model.{specs.Spaces.Terms, specs.Spaces.limit_of, specs.Spaces.in_space, proofs.MapLemmas.key_total}
 use Rattle.pk_model.proofs.SpaceLemmas.{by_keys, get_in_space, same_tied}
@@ -106,31 +106,21 @@ others_kept shape limits m c first q other =
     not_tied = elim (eq_by_cmp key_cmp q (key_of c)) as (λ b. eq_by_cmp key_cmp q (key_of c) ≡ b → eq_by_cmp key_cmp q (key_of c) ≡ false) [ true ↦ λ tie. apart tie | false ↦ λ tie. tie ] refl
 
     by_effect : (o : Option Opcode) → value_at (effect m c o) q ≡ value_at m q
-    by_effect None = refl
     by_effect (Some Store) = get-insert key_total m (key_of c) c.value q ∙ ap (λ b. cond b (Some c.value) (value_at m q)) not_tied
     by_effect (Some Delete) = get-remove key_total m (key_of c) q ∙ ap (λ b. cond b None (value_at m q)) not_tied
-    by_effect (Some Flush) = refl
-    by_effect (Some Retrieve) = refl
-    by_effect (Some ListKeys) = refl
-    by_effect (Some Exist) = refl
-    by_effect (Some Tick) = refl
-    by_effect (Some Report) = refl
+    by_effect _ = refl
 
 pub change_keeps_others : (task : PairTask) (shape : Shape) (limits : List ℕ) (m : Map) (q : Key) → (space_of q == 1) ≡ false → value_at (map_left shape limits task m) q ≡ value_at m q
 change_keeps_others (put key value) shape limits m q other = others_kept shape limits m (store_of key value Any) refl q other
-change_keeps_others (get key) shape limits m q other = refl
 change_keeps_others (delete key) shape limits m q other = others_kept shape limits m (delete_of key) refl q other
-change_keeps_others list shape limits m q other = refl
-change_keeps_others resync shape limits m q other = refl
+change_keeps_others _ shape limits m q other = refl
 
 -- what a word leaves of the first namespace is what it leaves of a drive that has this namespace alone
 pub part_left : (task : PairTask) (shape : Shape) (terms : Terms) → 1 ≤ length terms.limits → (m : Map)
     → in_space 1 (map_left shape terms.limits task m) ≡ map_left shape (limit_of terms.limits 1 ∷ []) task (in_space 1 m)
 part_left (put key value) shape terms some m = first_left shape terms some (store_of key value Any) refl m
-part_left (get key) shape terms some m = refl
 part_left (delete key) shape terms some m = first_left shape terms some (delete_of key) refl m
-part_left list shape terms some m = refl
-part_left resync shape terms some m = refl
+part_left _ shape terms some m = refl
 
 -- maps with the same first namespace and the same values of other keys are the same
 pub same_parts : (x y : Map) → in_space 1 x ≡ in_space 1 y → ((q : Key) → (space_of q == 1) ≡ false → value_at x q ≡ value_at y q) → x ≡ y

@@ -1,5 +1,5 @@
 -- What a word of a pair makes of both boards.
-use Rattle.std.proofs.Common.{◌≡◌, ◌⊎◌, inl, inr, ℕ, ◌+◌, ◌≤◌, List, [], length, Option, Some, None, refl, sym, ap, subst, ◌∙◌, true, false, arith, ◌∷◌}
+use Rattle.std.proofs.Common.{◌≡◌, ◌⊎◌, inl, inr, ℕ, ◌≤◌, List, [], length, Option, Some, None, refl, sym, ap, subst, ◌∙◌, true, false, arith, ◌∷◌}
 use Rattle.std.specs.FinMap.{get as value_at}
 use Rattle.pk_base.{specs.Shape.Shape, specs.Page.Flash, specs.Map.Map, proofs.Logic.some_same}
 use Rattle.pk_nvme.specs.Command.{Command}
@@ -48,6 +48,10 @@ left_is task shape start cs p q begun w are told =
       | inr after ↦ ap (λ (m : Map). value_at m k) after
     ])
 
+-- what holds at every cut may be weakened
+weaker : {shape : Shape} (a b : BoardState) (P Q : Flash → List ℕ → Type 0) → ((f : Flash) (posted : List ℕ) → P f posted → Q f posted) → Goes shape a b P → Goes shape a b Q
+weaker a b P Q h run = (run.0, weaken_went run.0 a b P Q h run.1, run.2)
+
 module _ (shape : Shape) (start : Map) (cs : List Command) (p q : Standing) where
   -- if the board was cut, the commands were kept
   kept_by : Chained shape start cs p q → Goes shape p.on.board q.on.board (KeptSilently shape p.on.terms start cs (rise p.on.board.read_faults q.on.board.read_faults))
@@ -83,13 +87,8 @@ module _ (shape : Shape) (start : Map) (cs : List Command) (p q : Standing) wher
 
   -- the second of a pair
   second_kept : Chained shape start cs p q → Goes shape p.on.board q.on.board (KeptSecond shape p.on.terms.limits)
-  second_kept w =
-      let run = kept_by w in (
-        run.0,
-        weaken_went run.0 p.on.board q.on.board (KeptSilently shape p.on.terms start cs (rise p.on.board.read_faults q.on.board.read_faults))
-            (KeptSecond shape p.on.terms.limits) (λ f posted k. record { map = k.1.map_left; held = k.1.held; same_limits = k.1.same_limits; silent = k.0 }) run.1,
-        run.2,
-      )
+  second_kept w = weaker p.on.board q.on.board (KeptSilently shape p.on.terms start cs (rise p.on.board.read_faults q.on.board.read_faults)) (KeptSecond shape p.on.terms.limits)
+      (λ f posted k. record { map = k.1.map_left; held = k.1.held; same_limits = k.1.same_limits; silent = k.0 }) (kept_by w)
 
 -- a drive that served a command was not worn before it
 unworn_by : (shape : Shape) (start : Map) (p q : Standing) → p.on.board.shape ≡ Some shape
@@ -136,24 +135,27 @@ module _ (task : PairTask) (shape : Shape) (m other : Map) (cs ds : List Command
   silent failed n f posted k = record { held = kept_first task shape p.on.terms m cs n [] f are k.1; same_limits = k.1.same_limits; said = inl k.0 }
 
   first_silent : (failed : Type 0) → Goes shape a b (KeptFirst task failed shape limits m)
-  first_silent failed =
-      let run = kept_by shape m cs p p' walk in (
-        run.0,
-        weaken_went run.0 a b (KeptSilently shape p.on.terms m cs (rise a.read_faults b.read_faults))
-            (KeptFirst task failed shape limits m) (silent failed (rise a.read_faults b.read_faults)) run.1,
-        run.2,
-      )
+  first_silent failed = weaker a b (KeptSilently shape p.on.terms m cs (rise a.read_faults b.read_faults)) (KeptFirst task failed shape limits m)
+      (silent failed (rise a.read_faults b.read_faults)) (kept_by shape m cs p p' walk)
 
-  ended : (end : WordEnd) → PairEnds task shape m a b c d end → PairTold task shape m other a b c d end
-  ended end ends = record {
-    first_kept = first_by b (EitherUnread a b c d) (first_silent (EitherUnread a b c d));
+  -- what is the same whatever the end is
+  told : (last : BoardState) (end : WordEnd) → Goes shape a last (KeptFirst task (EitherUnread a last c d) shape limits m) → PairEnds task shape m a last c d end
+      → UsedRoots m other a last → KeepsInput a last → PairTold task shape m other a last c d end
+  told last end kept ends used input = record {
+    first_kept = first_by last (EitherUnread a last c d) kept;
     second_kept = second_by;
     ends = ends;
-    first_used = used_by shape m cs p p' m other (first_installs task m other cs are) walk;
+    first_used = used;
     second_used = used_by shape other ds q q' m other few too;
-    first_input = keeps-flash a b (only_flash shape m cs p p' walk);
+    first_input = input;
     second_input = keeps-flash c d (only_flash shape other ds q q' too);
   }
+
+  used_first : UsedRoots m other a b
+  used_first = used_by shape m cs p p' m other (first_installs task m other cs are) walk
+
+  ended : (end : WordEnd) → PairEnds task shape m a b c d end → PairTold task shape m other a b c d end
+  ended end ends = told b end (first_silent (EitherUnread a b c d)) ends used_first (keeps-flash a b (only_flash shape m cs p p' walk))
 
   first_halted : (h : HaltedAt shape m cs p p') (halt : Halt) → h.halt ≡ halt → PairEnds task shape m a b c d (end_of halt)
   first_halted h Stopped is = inl (stopped_by shape m cs p p' h (subst (λ (x : Halt). HasCause p'.on x) is h.cause))
@@ -234,31 +236,21 @@ module _ (task : PairTask) (shape : Shape) (m other : Map) (cs ds : List Command
       | inr unread ↦ inr unread
     ]
 
-    used_too : UsedRoots m other a b
-    used_too = used_by shape m cs p p' m other (first_installs task m other cs are) walk
-
     -- it was posted
     posted : PairTold task shape m other a (after_post b text) c d Done
-    posted =
-        let run = asked-posts Says shape p.on.terms m cs a b w.asked text says in
-        let goes = Goes-reaches shape a (after_post b text) word run in
-        record {
-          first_kept = first_by (after_post b text) (EitherUnread a b c d)
-              (goes.0, weaken_went goes.0 a (after_post b text) word (KeptFirst task (EitherUnread a b c d) shape limits m) (posting (meter a) (meter b)) goes.1, goes.2);
-          second_kept = second_by;
-          ends = record {
-            text = text;
-            posted = ap (λ t. longer t text) (ap (λ (s : BoardState). s.posted) w.asked.rest);
-            says = finished_says;
-            no_output = ap (λ (s : BoardState). s.out_faults) w.asked.rest;
-            first_sound = w.asked.no_stop;
-            second_sound = v.asked.no_stop;
-          };
-          first_used = used_too;
-          second_used = used_by shape other ds q q' m other few too;
-          first_input = record { input = ap (λ (s : BoardState). s.input) w.asked.rest; in_faults = ap (λ (s : BoardState). s.in_faults) w.asked.rest };
-          second_input = keeps-flash c d (only_flash shape other ds q q' too);
-        }
+    posted = told (after_post b text) Done
+        (weaker a (after_post b text) word (KeptFirst task (EitherUnread a b c d) shape limits m) (posting (meter a) (meter b))
+        (Goes-reaches shape a (after_post b text) word (asked-posts Says shape p.on.terms m cs a b w.asked text says)))
+        (record {
+          text = text;
+          posted = ap (λ t. longer t text) (ap (λ (s : BoardState). s.posted) w.asked.rest);
+          says = finished_says;
+          no_output = ap (λ (s : BoardState). s.out_faults) w.asked.rest;
+          first_sound = w.asked.no_stop;
+          second_sound = v.asked.no_stop;
+        })
+        used_first
+        (record { input = ap (λ (s : BoardState). s.input) w.asked.rest; in_faults = ap (λ (s : BoardState). s.in_faults) w.asked.rest })
 
     pub told-posted : (last : BoardState) → last ≡ after_post b text → PairTold task shape m other a last c d Done
     told-posted last is = subst (λ (s : BoardState). PairTold task shape m other a s c d Done) (sym is) posted
@@ -266,28 +258,21 @@ module _ (task : PairTask) (shape : Shape) (m other : Map) (cs ds : List Command
     -- the output failed
     pub told-unposted : (last : BoardState) → PostFailed b last text → PairTold task shape m other a last c d Output
     told-unposted last failed =
-        let run = asked-post_failed Says shape p.on.terms m cs a b w.asked text says last failed in
         let same : last.read_faults ≡ b.read_faults = ap (λ (s : BoardState). s.read_faults) failed.rest in
         let same_stop : last.stop_faults ≡ b.stop_faults = ap (λ (s : BoardState). s.stop_faults) failed.rest in
-        let F : ℕ → Type 0 = λ k. Goes shape a last (KeptFirst task (Rose a.read_faults k ⊎ Rose c.read_faults d.read_faults) shape (limits_at shape a.pages) m) in
-        record {
-          first_kept = subst F (sym same) (first_by last (EitherUnread a b c d)
-              (run.0, weaken_went run.0 a last word (KeptFirst task (EitherUnread a b c d) shape limits m) (posting (meter a) (meter b)) run.1, run.2));
-          second_kept = second_by;
-          ends = subst (λ (k : ℕ). Rose k last.out_faults) (ap (λ (s : BoardState). s.out_faults) w.asked.rest) failed.faults;
-          first_used =
-              let R : BoardState → Type 0 = λ s. roots s ≤ roots a + most_pair_roots m other in
-              elim used_too [
-                | inl stop ↦ inl (subst (λ (k : ℕ). Rose a.stop_faults k) (sym same_stop) stop)
-                | inr most ↦ inr (let same_roots : roots last ≡ roots b = ap roots failed.rest in omega (arith, most, same_roots))
-              ];
-          second_used = used_by shape other ds q q' m other few too;
-          first_input = record {
-            input = ap (λ (s : BoardState). s.input) failed.rest ∙ ap (λ (s : BoardState). s.input) w.asked.rest;
-            in_faults = ap (λ (s : BoardState). s.in_faults) failed.rest ∙ ap (λ (s : BoardState). s.in_faults) w.asked.rest;
-          };
-          second_input = keeps-flash c d (only_flash shape other ds q q' too);
-        }
+        let F : ℕ → Type 0 = λ k. Goes shape a last (KeptFirst task (Rose a.read_faults k ⊎ Rose c.read_faults d.read_faults) shape limits m) in
+        told last Output
+        (subst F (sym same) (weaker a last word (KeptFirst task (EitherUnread a b c d) shape limits m) (posting (meter a) (meter b))
+        (asked-post_failed Says shape p.on.terms m cs a b w.asked text says last failed)))
+        (subst (λ (k : ℕ). Rose k last.out_faults) (ap (λ (s : BoardState). s.out_faults) w.asked.rest) failed.faults)
+        (elim used_first [
+          | inl stop ↦ inl (subst (λ (k : ℕ). Rose a.stop_faults k) (sym same_stop) stop)
+          | inr most ↦ inr (let same_roots : roots last ≡ roots b = ap roots failed.rest in omega (arith, most, same_roots))
+        ])
+        (record {
+          input = ap (λ (s : BoardState). s.input) failed.rest ∙ ap (λ (s : BoardState). s.input) w.asked.rest;
+          in_faults = ap (λ (s : BoardState). s.in_faults) failed.rest ∙ ap (λ (s : BoardState). s.in_faults) w.asked.rest;
+        })
 
 -- ---- from the commands that took both ports
 
@@ -296,28 +281,42 @@ both_none None None e = (refl, refl)
 both_none None (Some halt) e = let clash : ◌≡◌ {A = Option WordEnd} (Some (end_of halt)) None = e in absurd (cc)
 both_none (Some halt) two e = let clash : ◌≡◌ {A = Option WordEnd} (Some (end_of halt)) None = e in absurd (cc)
 
-module _ (task : PairTask) (shape : Shape) (m other : Map) (p p' q q' : Standing) (has : p.on.board.shape ≡ Some shape) (has' : q.on.board.shape ≡ Some shape) (holds : Holds shape p.on.board.pages m)
-    (holds' : Holds shape q.on.board.pages other) (begun : Begins shape m p) (begun' : Begins shape other q)
-    (going : p.on.stopped ≡ false) (going' : q.on.stopped ≡ false) (walk : Walk shape (AreOfFirst task) p p')
-    (too : Walk shape (AreOfSecond (seen shape p.on p.faults) (seen shape q.on q.faults)) q q') (first : p.halt ≡ None) (second : q.halt ≡ None) where
-  one : Chained shape m walk.0 p p'
-  one = chained shape m p walk.0 p' has holds begun.within going walk.2
+-- commands took two drives that serve, and no command before them was left without an answer
+pub record Walked (task : PairTask) (shape : Shape) (m other : Map) (p p' q q' : Standing) : Type 0 where
+  pub has : p.on.board.shape ≡ Some shape
+  pub has' : q.on.board.shape ≡ Some shape
+  pub holds : Holds shape p.on.board.pages m
+  pub holds' : Holds shape q.on.board.pages other
+  pub begun : Begins shape m p
+  pub begun' : Begins shape other q
+  pub going : p.on.stopped ≡ false
+  pub going' : q.on.stopped ≡ false
+  pub walk : Walk shape (AreOfFirst task) p p'
+  pub too : Walk shape (AreOfSecond (seen shape p.on p.faults) (seen shape q.on q.faults)) q q'
+  pub first : p.halt ≡ None
+  pub second : q.halt ≡ None
 
-  two : Chained shape other too.0 q q'
-  two = chained shape other q too.0 q' has' holds' begun'.within going' too.2
+module _ {task : PairTask} {shape : Shape} {m other : Map} {p p' q q' : Standing} (h : Walked task shape m other p p' q q') where
+  one : Chained shape m h.walk.0 p p'
+  one = chained shape m p h.walk.0 p' h.has h.holds h.begun.within h.going h.walk.2
 
-  few_roots : installs too.0 ≤ most_pair_roots m other
-  few_roots = second_installs (seen shape p.on p.faults) (seen shape q.on q.faults) m other too.0
-      (ap part_of holds) (ap part_of holds') too.1
+  two : Chained shape other h.too.0 q q'
+  two = chained shape other q h.too.0 q' h.has' h.holds' h.begun'.within h.going' h.too.2
+
+  few_roots : installs h.too.0 ≤ most_pair_roots m other
+  few_roots = second_installs (seen shape p.on p.faults) (seen shape q.on q.faults) m other h.too.0
+      (ap part_of h.holds) (ap part_of h.holds') h.too.1
 
   pub tells-halted : (end : WordEnd) → Some end ≡ end_by p'.halt q'.halt → PairTold task shape m other p.on.board p'.on.board q.on.board q'.on.board end
-  tells-halted end by = told-halted task shape m other walk.0 too.0 p p' q q' walk.1 few_roots begun begun' one two p'.halt q'.halt end first second refl refl (sym by)
+  tells-halted end by = told-halted task shape m other h.walk.0 h.too.0 p p' q q' h.walk.1 few_roots h.begun h.begun' one two p'.halt q'.halt end h.first h.second refl refl (sym by)
 
   -- what was said after commands was said of drives that were not worn
   unworn : p'.halt ≡ None → q'.halt ≡ None → (text : List ℕ)
       → PairSaid (BothWalked shape p p' q q') task (seen shape p.on p.faults) (seen shape p'.on p'.faults) (seen shape q.on q.faults) (seen shape q'.on q'.faults) (in_space 1 m) text
       → PairSaid (BothUnworn p.on.board q.on.board) task (seen shape p.on p.faults) (seen shape p'.on p'.faults) (seen shape q.on q.faults) (seen shape q'.on q'.faults) (in_space 1 m) text
-  unworn none nor text (inl (asked, done)) = inl ((unworn_by shape m p p' has holds begun going first none asked.0, unworn_by shape other q q' has' holds' begun' going' second nor asked.1), done)
+  unworn none nor text (inl (asked, done)) =
+      let one = unworn_by shape m p p' h.has h.holds h.begun h.going h.first none asked.0 in
+      inl ((one, unworn_by shape other q q' h.has' h.holds' h.begun' h.going' h.second nor asked.1), done)
   unworn none nor text (inr unread) = inr unread
 
   pub tells-posted : end_by p'.halt q'.halt ≡ None → (text : List ℕ)
@@ -325,18 +324,18 @@ module _ (task : PairTask) (shape : Shape) (m other : Map) (p p' q q' : Standing
       → (last : BoardState) → last ≡ after_post p'.on.board text → PairTold task shape m other p.on.board last q.on.board q'.on.board Done
   tells-posted by text said last is =
       let (none, nor) = both_none p'.halt q'.halt by in
-      told-posted task shape m other walk.0 too.0 p p' q q' walk.1 few_roots begun begun' one two (all_served shape m walk.0 p p' first none one)
-      (all_served shape other too.0 q q' second nor two) text (unworn none nor text said) last is
+      told-posted task shape m other h.walk.0 h.too.0 p p' q q' h.walk.1 few_roots h.begun h.begun' one two (all_served shape m h.walk.0 p p' h.first none one)
+      (all_served shape other h.too.0 q q' h.second nor two) text (unworn none nor text said) last is
 
   pub tells-unposted : end_by p'.halt q'.halt ≡ None → (text : List ℕ)
       → PairSaid (BothWalked shape p p' q q') task (seen shape p.on p.faults) (seen shape p'.on p'.faults) (seen shape q.on q.faults) (seen shape q'.on q'.faults) (in_space 1 m) text
       → (last : BoardState) → PostFailed p'.on.board last text → PairTold task shape m other p.on.board last q.on.board q'.on.board Output
   tells-unposted by text said last failed =
       let (none, nor) = both_none p'.halt q'.halt by in
-      told-unposted task shape m other walk.0 too.0 p p' q q' walk.1 few_roots begun begun' one two (all_served shape m walk.0 p p' first none one)
-      (all_served shape other too.0 q q' second nor two) text (unworn none nor text said) last failed
+      told-unposted task shape m other h.walk.0 h.too.0 p p' q q' h.walk.1 few_roots h.begun h.begun' one two (all_served shape m h.walk.0 p p' h.first none one)
+      (all_served shape other h.too.0 q q' h.second nor two) text (unworn none nor text said) last failed
 
   pub faults-never : end_by p'.halt q'.halt ≡ None → p.faults ≡ 0 → q.faults ≡ 0
       → PairFault (seen shape p.on p.faults) (seen shape p'.on p'.faults) (seen shape q.on q.faults) (seen shape q'.on q'.faults) → ⊥
   faults-never by zero zero' fault =
-      let (none, nor) = both_none p'.halt q'.halt by in no_fault task shape m other walk.0 too.0 p p' q q' walk.1 few_roots begun begun' one two first second none nor zero zero' fault
+      let (none, nor) = both_none p'.halt q'.halt by in no_fault task shape m other h.walk.0 h.too.0 p p' q q' h.walk.1 few_roots h.begun h.begun' one two h.first h.second none nor zero zero' fault

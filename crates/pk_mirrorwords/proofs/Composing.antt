@@ -1,17 +1,17 @@
 -- A word of a pair: the resync before it, and what it asks then.
-use Rattle.std.proofs.Common.{◌≤◌, ◌≡◌, inl, inr, ℕ, ◌+◌, ◌⊎◌, ◌==◌, if◌then◌else◌, List, [], ◌∷◌, ◌++◌, Option, Some, Err, false, refl, sym, ap, subst, ◌∙◌, arith}
-use Rattle.std.proofs.lemmas.List.{append_assoc}
-use Rattle.pk_base.{specs.Shape.Shape, specs.Shape.limit, specs.Map.Map}
+use Rattle.std.proofs.Common.{◌≡◌, inl, inr, ℕ, ◌+◌, ◌⊎◌, ◌==◌, if◌then◌else◌, List, [], ◌∷◌, ◌++◌, Some, false, refl, sym, ap, ◌∙◌, arith}
+use Rattle.std.proofs.lemmas.List.{append_assoc, append-nil}
+use Rattle.pk_base.{specs.Shape.Shape, specs.Map.Map}
 use Rattle.pk_nvme.{specs.Command.Command, specs.declared.opcode.TheConstants.STORE, specs.declared.opcode.TheConstants.DELETE}
 use Rattle.pk_host.{specs.Port.PortState, specs.Port.Took, specs.Outcomes.TookSome}
 use Rattle.pk_words.specs.Lines.{status_line}
-use Rattle.pk_mirror.{specs.declared.error.Side.TheVariants.First, specs.declared.error.Side.TheVariants.Second, specs.declared.error.MirrorError.MirrorError}
+use Rattle.pk_mirror.{specs.declared.error.MirrorError.MirrorError}
 use Rattle.pk_mirror.specs.declared.error.MirrorError.TheVariants.{Refused, Port, Split}
 use Rattle.pk_mirror.specs.Spending.{opcode_count, AreOfResync}
 use Rattle.pk_mirror.{specs.Pair.Mirrored, specs.Pair.IsPair, specs.Causes.OnlyAsks, specs.Causes.AreAsking, specs.Causes.IsCause, specs.Causes.IsReadError}
-use Rattle.pk_mirrorwords.specs.PairTasks.{PairTask, put, get, delete, list, resync, change_of, text_of, map_left}
-use Rattle.pk_mirrorwords.specs.PairAnswers.{IsToldPair, IsInStep, PairDone, PairFails, ResyncFails, AreChange, AreOfFirst, AreOfPair, HaveOneChange, AreOfSecond}
-use Rattle.pk_mirrorwords.proofs.Paging.{unread_later, fault_later}
+use Rattle.pk_mirrorwords.specs.PairTasks.{PairTask, put, delete, change_of, text_of, map_left}
+use Rattle.pk_mirrorwords.specs.PairAnswers.{IsToldPair, IsInStep, PairDone, PairFails, AreChange, AreOfFirst, AreOfPair, HaveOneChange, AreOfSecond}
+use Rattle.pk_mirrorwords.proofs.Paging.{unread_later, fault_later, failed_so, told_after}
 
 -- ---- commands
 
@@ -49,18 +49,12 @@ one_of_asking cs h = let (none, only) = asking_count cs h in record { only = onl
 -- none at all
 no_change : (task : PairTask) → AreChange (change_of task) []
 no_change (put key value) = inl refl
-no_change (get key) = refl
 no_change (delete key) = inl refl
-no_change list = refl
-no_change resync = refl
-
-append_none : (cs : List Command) → cs ≡ cs ++ []
-append_none [] = refl
-append_none (c ∷ cs) = ap (λ (ds : List Command). c ∷ ds) (append_none cs)
+no_change _ = refl
 
 -- commands that only ask, of a word
 pub first_asks : (task : PairTask) (cs : List Command) → AreAsking cs → AreOfFirst task cs
-first_asks task cs h = record { asks = cs; change = []; asking = h; changing = no_change task; are = append_none cs }
+first_asks task cs h = record { asks = cs; change = []; asking = h; changing = no_change task; are = sym (append-nil cs) }
 
 module _ {P : Type 0} (took : P → List Command → P → Type 0) (both : (p : P) (cs : List Command) (q : P) (ds : List Command) (r : P) → took p cs q → took q ds r → took p (cs ++ ds) r) where
   -- the resync asks, and then the word
@@ -117,23 +111,13 @@ module _ (task : PairTask) (p p1 p' q q1 q' : PortState) (cs ds : List Command) 
   pub fails_later : (e : MirrorError) → PairFails task p1 p' q1 q' m e → PairFails task p p' q q' m e
   fails_later (Refused side status) (inl done) = inl (done_later (status_line status) done)
   fails_later (Refused side status) (inr (unread, is)) = inr (unread_later p p1 p' q q1 q' cs ds t u unread, is)
-  fails_later (Port side) fault = fault_later p p1 p' q q1 q' cs ds t u fault
-  fails_later Split fault = fault_later p p1 p' q q1 q' cs ds t u fault
+  fails_later _ fault = fault_later p p1 p' q q1 q' cs ds t u fault
 
 -- a resync that failed
 pub resync_fails : (task : PairTask) (p p' q q' : PortState) (m : Map) (e : MirrorError) → IsCause p p' q q' e → IsReadError e → PairFails task p p' q q' m e
-resync_fails task p p' q q' m (Refused First status) cause unread = inr (inl (cause.unread unread), unread)
-resync_fails task p p' q q' m (Refused Second status) cause unread = inr (inr (cause.unread unread), unread)
-resync_fails task p p' q q' m (Port First) cause unread = inl cause
-resync_fails task p p' q q' m (Port Second) cause unread = inr cause
+resync_fails task p p' q q' m (Refused side status) cause unread = inr (failed_so p p' q q' (Refused side status) cause unread)
+resync_fails task p p' q q' m (Port side) cause unread = failed_so p p' q q' (Port side) cause unread
 resync_fails task p p' q q' m Split cause unread = absurd cause
-
-pub resync_failed : (p p' q q' : PortState) (e : MirrorError) → IsCause p p' q q' e → IsReadError e → ResyncFails p p' q q' (Err e)
-resync_failed p p' q q' (Refused First status) cause unread = (inl (cause.unread unread), unread)
-resync_failed p p' q q' (Refused Second status) cause unread = (inr (cause.unread unread), unread)
-resync_failed p p' q q' (Port First) cause unread = inl cause
-resync_failed p p' q q' (Port Second) cause unread = inr cause
-resync_failed p p' q q' Split cause unread = absurd cause
 
 -- a word that was done began after a resync
 pub asked_done : (asked : Type 0) → asked ⊎ ⊥ → asked
@@ -142,12 +126,4 @@ asked_done asked (inr never) = absurd never
 
 -- a resync leaves the pair in step
 pub in_step_after : (old new : Mirrored) (p p' q q' : PortState) (cs : List Command) → IsToldPair old p q → Took p p' cs → IsPair new p' q' → p'.map ≡ p.map → new.split ≡ false → IsInStep new p' q'
-in_step_after old new p p' q q' cs told t pair keeps off = record {
-  pair = record {
-    pair = pair;
-    limit_most = subst (λ (s : Shape). p'.limit ≤ limit s) (sym t.shape) (let most = told.limit_most in let same = t.limit in omega (arith, most, same));
-    map = told.map;
-    told = keeps ∙ told.told;
-  };
-  in_step = off;
-}
+in_step_after old new p p' q q' cs told t pair keeps off = record { pair = told_after old new p p' q q' cs told t pair keeps; in_step = off }

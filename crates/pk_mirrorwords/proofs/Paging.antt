@@ -1,25 +1,26 @@
 -- The keys of a pair, page by page into one text.
 use Rattle.std.proofs.Common.{◌≡◌, inl, inr, ℕ, ◌⊎◌, ◌+◌, ◌-◌, ◌*◌, ◌<◌, ◌≤◌, List, [], ◌∷◌, ◌++◌, length, map, take, slice_index_or, Bool, true, false, Option, Some, None, Result, Ok, Err, refl, sym}
 use Rattle.std.proofs.Common.{ap, subst, ◌∙◌, arith}
-use Rattle.std.{proofs.lemmas.List.append-nil, proofs.lemmas.List.append_assoc, proofs.lemmas.List.length-append, proofs.lemmas.List.take_all, proofs.lemmas.Grind.flat_map-append}
-use Rattle.std.{specs.FinMap.keys, specs.FinMap.entries, specs.List.AllByRecursion}
-use Rattle.pk_base.{specs.Fields.AreBytes, specs.Key.Key, specs.Key.IsKey, specs.Shape.Shape, specs.Shape.IsShape, specs.Shape.limit}
+use Rattle.std.{proofs.lemmas.List.append-nil, proofs.lemmas.List.append_assoc, proofs.lemmas.List.length-append, proofs.lemmas.Grind.flat_map-append}
+use Rattle.std.{specs.FinMap.keys, specs.FinMap.entries}
+use Rattle.pk_base.{specs.Key.Key, specs.Shape.Shape, specs.Shape.IsShape, specs.Shape.limit}
 use Rattle.pk_base.specs.Map.{Map, IsMap, live, pages_in}
 use Rattle.pk_segfmt.proofs.StoredLemmas.{charge_some}
 use Rattle.pk_nvme.{specs.Bytes.RoomyList, specs.Command.Command, specs.Command.key_or_none}
 use Rattle.pk_nand.specs.Calls.{Rose}
-use Rattle.pk_host.{specs.declared.types.HostError.HostError, specs.Port.PortState, specs.Port.Took, specs.Calls.retrieve_of}
+use Rattle.pk_host.{specs.declared.types.HostError.HostError, specs.Port.PortState, specs.Port.Took}
 use Rattle.pk_host.specs.Outcomes.{Gives, TookSome, AtMostOne, list_of}
 use Rattle.pk_host.specs.Listing.{above, Pages, Follows, listed_by}
-use Rattle.pk_host.proofs.PageLemmas.{next_page, nothing_above, all_above_none}
+use Rattle.pk_host.{proofs.PageLemmas.next_page, proofs.PageLemmas.nothing_above, proofs.PageLemmas.all_above_none, proofs.SpellingLemmas.are_keys}
 use Rattle.pk_words.{specs.Lines.key_line, specs.Lines.key_lines}
 use Rattle.pk_mirror.{specs.Ranks.IsText, specs.Ranks.keys_left, specs.declared.error.Side.Side, specs.declared.error.Side.TheVariants.First, specs.declared.error.Side.TheVariants.Second}
 use Rattle.pk_mirror.{specs.declared.error.MirrorError.MirrorError, specs.Pair.Mirrored, specs.Pair.IsPair, specs.Asks.Asks, specs.Asks.KeepsMaps, specs.Asks.StaysUnlessPort}
 use Rattle.pk_mirror.specs.declared.error.MirrorError.TheVariants.{Refused, Port, Split}
 use Rattle.pk_mirror.proofs.VisitLemmas.{asking_none, asking_more}
-use Rattle.pk_mirror.{specs.Causes.Decides, specs.Causes.IsCause, specs.Causes.IsReadError, specs.Causes.AreAsking, proofs.PairLemmas.rose_later, proofs.PageLemmas.parts, proofs.PageLemmas.page_some}
+use Rattle.pk_mirror.{specs.Causes.Decides, specs.Causes.IsCause, specs.Causes.IsReadError, specs.Causes.OnlyAsks, specs.Causes.AreAsking, proofs.PairLemmas.rose_later, proofs.PageLemmas.parts}
+use Rattle.pk_mirror.{proofs.PageLemmas.page_some}
 use Rattle.pk_mirrorwords.{specs.PairTasks.list, specs.PairPages.keys_after, specs.PairPages.IsListed, specs.PairPages.ListGoesOn, specs.PairPages.PageFails}
-use Rattle.pk_mirrorwords.specs.PairAnswers.{IsToldPair, IsInStep, PairUnread, PairFault, PairDone, PairFails}
+use Rattle.pk_mirrorwords.specs.PairAnswers.{IsToldPair, IsInStep, PairUnread, PairFault, PairDone, PairFails, ResyncFails}
 
 -- ---- lines of a page
 
@@ -55,12 +56,8 @@ asked_some old new p p' q q' c page more given w = elim w [
   | inr (inr f) ↦ page_some q q' c page more given (subst (λ (r : Result Bool HostError). Gives q q' c (listed_by page) r) (decides_ok Second f.answer more f.decides) f.gives)
 ]
 
-names_known : (es : List (Key × List ℕ)) → AllByRecursion (λ e. IsKey e.0 × AreBytes e.0) es → AllByRecursion IsKey (map (λ e. e.0) es)
-names_known [] h = tt
-names_known (e ∷ es) h = (h.0.0, names_known es h.1)
-
 left_above : (shape : Shape) (last : Option Key) (m : Map) → IsMap shape m → keys_after last m ≡ above (key_or_none last) (keys m)
-left_above shape None m is = sym (all_above_none (keys m) (names_known (entries m) is.keys))
+left_above shape None m is = sym (all_above_none (keys m) (are_keys shape m is))
 left_above shape (Some key) m is = refl
 
 module _ (p : PortState) (last : Option Key) (text : List ℕ) (listed : IsListed p last text) (sized : (m : Map) → p.map ≡ Some m → IsMap p.shape m) where
@@ -116,13 +113,19 @@ listed_none p = record { lines = λ m told. ([], refl, refl, omega arith) }
 pub listed_as : (p q : PortState) (last : Option Key) (text : List ℕ) → q.map ≡ p.map → IsListed p last text → IsListed q last text
 listed_as p q last text same h = record { lines = λ m told. h.lines m (sym same ∙ told) }
 
+-- a call that failed by a cause
+pub failed_so : (p p' q q' : PortState) (e : MirrorError) → IsCause p p' q q' e → IsReadError e → ResyncFails p p' q q' (Err e)
+failed_so p p' q q' (Refused First status) cause unread = (inl (cause.unread unread), unread)
+failed_so p p' q q' (Refused Second status) cause unread = (inr (cause.unread unread), unread)
+failed_so p p' q q' (Port First) cause unread = inl cause
+failed_so p p' q q' (Port Second) cause unread = inr cause
+failed_so p p' q q' Split cause unread = absurd cause
+
 -- why a page has no answer
 pub page_fails : (old : Mirrored) (p p' q q' : PortState) (e : MirrorError) → (◌≡◌ {A = Result Bool MirrorError} (Err e) (Err Split) → old.split ≡ true)
     → ((e ≡ Split → ⊥) → IsCause p p' q q' e) → IsReadError e → PageFails old p p' q q' e
-page_fails old p p' q q' (Refused First status) split causes unread = let h = causes (λ e. cc) in (inl (h.unread unread), unread)
-page_fails old p p' q q' (Refused Second status) split causes unread = let h = causes (λ e. cc) in (inr (h.unread unread), unread)
-page_fails old p p' q q' (Port First) split causes unread = inl (causes (λ e. cc))
-page_fails old p p' q q' (Port Second) split causes unread = inr (causes (λ e. cc))
+page_fails old p p' q q' (Refused side status) split causes unread = failed_so p p' q q' (Refused side status) (causes (λ e. cc)) unread
+page_fails old p p' q q' (Port side) split causes unread = failed_so p p' q q' (Port side) (causes (λ e. cc)) unread
 page_fails old p p' q q' Split split causes unread = split refl
 
 -- ---- all pages
@@ -142,6 +145,24 @@ fault_later p p1 p' q q1 q' cs ds t u (inr rose) = inr (rose_later q.port_faults
 fault_before : (p p1 p' q q1 q' : PortState) (cs ds : List Command) → Took p1 p' cs → Took q1 q' ds → PairFault p p1 q q1 → PairFault p p' q q'
 fault_before p p1 p' q q1 q' cs ds t u (inl rose) = inl (rose_then p.port_faults p1.port_faults p'.port_faults rose t.port_faults)
 fault_before p p1 p' q q1 q' cs ds t u (inr rose) = inr (rose_then q.port_faults q1.port_faults q'.port_faults rose u.port_faults)
+
+-- the maps of a pair that were known are known still
+pub told_after : (old new : Mirrored) (p p' q q' : PortState) (cs : List Command) → IsToldPair old p q → Took p p' cs → IsPair new p' q' → p'.map ≡ p.map → IsToldPair new p' q'
+told_after old new p p' q q' cs told t pair keeps = record {
+  pair = pair;
+  limit_most = subst (λ (s : Shape). p'.limit ≤ limit s) (sym t.shape) (let most = told.limit_most in let same = t.limit in omega (arith, most, same));
+  map = told.map;
+  told = keeps ∙ told.told;
+}
+
+-- at most one command that asks is a list of commands that ask
+pub asks_one : {P : Type 0} (took : P → List Command → P → Type 0) (p q : P) (c : Command) → OnlyAsks c → TookSome took (AtMostOne c) p q → TookSome took AreAsking p q
+asks_one took p q c asks (cs, inl none, t) = (cs, subst AreAsking (sym none) tt, t)
+asks_one took p q c asks (cs, inr one, t) = (cs, subst AreAsking (sym one) (asks, tt), t)
+
+pub asks_page : {P : Type 0} {took : P → List Command → P → Type 0} → ((p : P) (cs : List Command) (q : P) (ds : List Command) (r : P) → took p cs q → took q ds r → took p (cs ++ ds) r)
+    → (p q r : P) (from : Key) → TookSome took AreAsking p q → TookSome took (AtMostOne (list_of from)) q r → TookSome took AreAsking p r
+asks_page {took = took} both p q r from h page = asking_more took both p q r h (asks_one took q r (list_of from) (inl (from, refl)) page)
 
 module _ {P Q : Type 0} (stateP : P → PortState) (tookP : P → List Command → P → Type 0) (stateQ : Q → PortState) (tookQ : Q → List Command → Q → Type 0) where
   -- All keys up to the last are listed, from two ports on to two others.
@@ -171,36 +192,40 @@ module _ {P Q : Type 0} (stateP : P → PortState) (tookP : P → List Command �
   module _ (bothP : (p : P) (cs : List Command) (q : P) (ds : List Command) (r : P) → tookP p cs q → tookP q ds r → tookP p (cs ++ ds) r)
       (bothQ : (p : Q) (cs : List Command) (q : Q) (ds : List Command) (r : Q) → tookQ p cs q → tookQ q ds r → tookQ p (cs ++ ds) r)
       (knownP : (p : P) (cs : List Command) (q : P) → tookP p cs q → Took (stateP p) (stateP q) cs) (knownQ : (p : Q) (cs : List Command) (q : Q) → tookQ p cs q → Took (stateQ p) (stateQ q) cs)
-      (first mid first' : P) (second halfway second' : Q) (mirror after : Mirrored) (text new : List ℕ) (last : Option Key) (h : IsPaging first mid second halfway mirror text last)
-      (p : TookSome tookP AreAsking mid first') (q : TookSome tookQ AreAsking halfway second') (keeps : KeepsMaps (stateP mid) (stateP first') (stateQ halfway) (stateQ second')) where
-    still_stays : (mirror.split ≡ false → StaysUnlessPort after (stateP mid) (stateP first') (stateQ halfway) (stateQ second'))
+      {first mid first' : P} {second halfway second' : Q} {mirror : Mirrored} {text : List ℕ} {last : Option Key} (h : IsPaging first mid second halfway mirror text last)
+      (from : Key) (p : TookSome tookP (AtMostOne (list_of from)) mid first') (q : TookSome tookQ (AtMostOne (list_of from)) halfway second')
+      (keeps : KeepsMaps (stateP mid) (stateP first') (stateQ halfway) (stateQ second')) where
+    -- what failed in this page failed in the call, and what failed before it
+    later : PairFault (stateP mid) (stateP first') (stateQ halfway) (stateQ second') → PairFault (stateP first) (stateP first') (stateQ second) (stateQ second')
+    later = fault_later (stateP first) (stateP mid) (stateP first') (stateQ second) (stateQ halfway) (stateQ second') _ _
+        (knownP first h.took_first.0 mid h.took_first.2) (knownQ second h.took_second.0 halfway h.took_second.2)
+
+    before : PairFault (stateP first) (stateP mid) (stateQ second) (stateQ halfway) → PairFault (stateP first) (stateP first') (stateQ second) (stateQ second')
+    before = fault_before (stateP first) (stateP mid) (stateP first') (stateQ second) (stateQ halfway) (stateQ second') _ _ (knownP mid p.0 first' p.2) (knownQ halfway q.0 second' q.2)
+
+    still_stays : (after : Mirrored) → (mirror.split ≡ false → StaysUnlessPort after (stateP mid) (stateP first') (stateQ halfway) (stateQ second'))
         → (after.split ≡ false) ⊎ PairFault (stateP first) (stateP first') (stateQ second) (stateQ second')
-    still_stays stays = elim h.stays [
-      | inl off ↦ elim (stays off) [
-        | inl now ↦ inl now
-        | inr fault ↦ inr (fault_later (stateP first) (stateP mid) (stateP first') (stateQ second) (stateQ halfway)
-            (stateQ second') _ _ (knownP first h.took_first.0 mid h.took_first.2) (knownQ second h.took_second.0 halfway h.took_second.2) fault)
-      ]
-      | inr fault ↦ inr (fault_before (stateP first) (stateP mid) (stateP first') (stateQ second)
-          (stateQ halfway) (stateQ second') _ _ (knownP mid p.0 first' p.2) (knownQ halfway q.0 second' q.2) fault)
+    still_stays after stays = elim h.stays [
+      | inl off ↦ elim (stays off) [ inl now ↦ inl now | inr fault ↦ inr (later fault) ]
+      | inr fault ↦ inr (before fault)
     ]
 
-    pub paging_goes : (next : Key) → (mirror.split ≡ false → StaysUnlessPort after (stateP mid) (stateP first') (stateQ halfway) (stateQ second')) → IsToldPair after (stateP first') (stateQ second')
-        → ListGoesOn (stateP mid) last (Some next) text new → IsPaging first first' second second' after new (Some next)
-    paging_goes next stays pair goes = record {
-      took_first = asking_more tookP bothP first mid first' h.took_first p;
-      took_second = asking_more tookQ bothQ second halfway second' h.took_second q;
-      pair = pair;
+    pub paging_goes : (after : Mirrored) (new : List ℕ) (next : Key) → (mirror.split ≡ false → StaysUnlessPort after (stateP mid) (stateP first') (stateQ halfway) (stateQ second'))
+        → IsPair after (stateP first') (stateQ second') → ListGoesOn (stateP mid) last (Some next) text new → IsPaging first first' second second' after new (Some next)
+    paging_goes after new next stays pair goes = record {
+      took_first = asks_page {took = tookP} bothP first mid first' from h.took_first p;
+      took_second = asks_page {took = tookQ} bothQ second halfway second' from h.took_second q;
+      pair = told_after mirror after (stateP mid) (stateP first') (stateQ halfway) (stateQ second') _ h.pair (knownP mid p.0 first' p.2) pair keeps.first_keeps;
       same_first = keeps.first_keeps ∙ h.same_first;
       same_second = keeps.second_keeps ∙ h.same_second;
       listed = listed_as (stateP mid) (stateP first) (Some next) new (sym h.same_first) goes.0;
-      stays = still_stays stays;
+      stays = still_stays after stays;
       text = λ k e. subst IsText (let is : next ≡ k = cc in is) goes.1;
     }
 
-    pub paging_ends : (m : Map) → (stateP first).map ≡ Some m → (stateQ second).map ≡ Some m
+    pub paging_ends : (new : List ℕ) (m : Map) → (stateP first).map ≡ Some m → (stateQ second).map ≡ Some m
         → ListGoesOn (stateP mid) last None text new → PairDone list (stateP first) (stateP first') (stateQ second') m new
-    paging_ends m told too goes = record {
+    paging_ends new m told too goes = record {
       spelled = goes m (h.same_first ∙ told);
       first_left = keeps.first_keeps ∙ h.same_first ∙ told;
       second_left = keeps.second_keeps ∙ h.same_second ∙ too;
@@ -213,32 +238,13 @@ module _ {P Q : Type 0} (stateP : P → PortState) (tookP : P → List Command �
           (knownP first h.took_first.0 mid h.took_first.2) (knownQ second h.took_second.0 halfway h.took_second.2) unread,
       is,
     )
-    paging_fails m (Port side) fault = fault_later (stateP first) (stateP mid) (stateP first') (stateQ second) (stateQ halfway)
-        (stateQ second') _ _ (knownP first h.took_first.0 mid h.took_first.2) (knownQ second h.took_second.0 halfway h.took_second.2) fault
+    paging_fails m (Port side) fault = later fault
     paging_fails m Split split = elim h.stays [
       | inl off ↦ absurd (let clash : true ≡ false = sym split ∙ off in cc)
-      | inr fault ↦ fault_before (stateP first) (stateP mid) (stateP first') (stateQ second) (stateQ halfway) (stateQ second') _ _ (knownP mid p.0 first' p.2) (knownQ halfway q.0 second' q.2) fault
+      | inr fault ↦ before fault
     ]
 
 -- ---- in the form of calls
-
--- the maps of a pair that were known are known still
-pub told_after : (old new : Mirrored) (p p' q q' : PortState) (cs : List Command) → IsToldPair old p q → Took p p' cs → IsPair new p' q' → p'.map ≡ p.map → IsToldPair new p' q'
-told_after old new p p' q q' cs told t pair keeps = record {
-  pair = pair;
-  limit_most = subst (λ (s : Shape). p'.limit ≤ limit s) (sym t.shape) (let most = told.limit_most in let same = t.limit in omega (arith, most, same));
-  map = told.map;
-  told = keeps ∙ told.told;
-}
-
--- at most one List is a list of commands that ask
-pub lists_ask : {P : Type 0} (took : P → List Command → P → Type 0) (p q : P) (from : Key) → TookSome took (AtMostOne (list_of from)) p q → TookSome took AreAsking p q
-lists_ask took p q from (cs, inl none, t) = (cs, subst AreAsking (sym none) tt, t)
-lists_ask took p q from (cs, inr one, t) = (cs, subst AreAsking (sym one) (inl (from, refl), tt), t)
-
-pub retrieves_ask : {P : Type 0} (took : P → List Command → P → Type 0) (p q : P) (key : Key) (size : ℕ) → TookSome took (AtMostOne (retrieve_of key size)) p q → TookSome took AreAsking p q
-retrieves_ask took p q key size (cs, inl none, t) = (cs, subst AreAsking (sym none) tt, t)
-retrieves_ask took p q key size (cs, inr one, t) = (cs, subst AreAsking (sym one) (inr (key, size, refl), tt), t)
 
 pub goes_as : (p : PortState) (o last f f' : Option Key) (old new : List ℕ) → o ≡ last → f ≡ f' → ListGoesOn p o f old new → ListGoesOn p last f' old new
 goes_as p o last f f' old new e g h = subst (λ (x : Option Key). ListGoesOn p x f' old new) e (subst (λ (x : Option Key). ListGoesOn p o x old new) g h)

@@ -6,6 +6,7 @@ use Rattle.pk_nvme.{specs.Command.Command, specs.Reply.Reply, specs.Reply.refusa
 use Rattle.pk_nvme.specs.declared.status.TheConstants.{SUCCESSFUL_COMPLETION, KEY_DOES_NOT_EXIST, UNRECOVERED_ERROR}
 use Rattle.pk_model.{specs.Spaces.one_space, specs.Spaces.limit_of, specs.Spaces.in_space, specs.Answer.refused, specs.Answer.reply, specs.Answer.reply_of, specs.Answer.map_after, specs.Answer.Answer}
 use Rattle.pk_host.{specs.declared.types.HostError.HostError, specs.Port.PortState, specs.Outcomes.Fetches, specs.Outcomes.IsFront, specs.Outcomes.stored, specs.Outcomes.existed}
+use Rattle.pk_host.{proofs.CallLemmas.found_cases}
 use Rattle.pk_host.specs.declared.types.HostError.TheVariants.{Refused as HostRefused, Port as HostPort, Memory}
 use Rattle.pk_words.specs.Lines.{status_line, value_line}
 use Rattle.pk_mirror.{specs.declared.error.Side.Side, specs.declared.error.Side.TheVariants.First, specs.declared.error.Side.TheVariants.Second, specs.declared.error.MirrorError.MirrorError}
@@ -15,7 +16,7 @@ use Rattle.pk_mirror.{specs.Writes.Writes, specs.Writes.Mirrors, specs.Writes.Fi
 use Rattle.pk_mirror.proofs.WriteLemmas.{refused_or_port, on_refused, on_port, true_false}
 use Rattle.pk_mirror.proofs.KeyLemmas.{found_some, found_none}
 use Rattle.pk_mirrorwords.specs.PairTasks.{PairTask, status_by, answered_line, text_of, map_left}
-use Rattle.pk_mirrorwords.specs.PairAnswers.{PairDone, PairFails}
+use Rattle.pk_mirrorwords.{specs.PairAnswers.PairDone, specs.PairAnswers.PairFails, proofs.Paging.failed_so}
 
 refused_same : (s t : Side) (n k : ℕ) → Refused s n ≡ Refused t k → n ≡ k
 refused_same s t n k e = cc
@@ -46,20 +47,7 @@ abbrev pub there_line : Bool → List ℕ
 there_line there = status_line (if there then SUCCESSFUL_COMPLETION else KEY_DOES_NOT_EXIST)
 
 existed_line : (a : Reply) (there : Bool) → ◌≡◌ {A = Result Bool HostError} (existed a) (Ok there) → a.status ≡ (if there then 0 else KEY_DOES_NOT_EXIST)
-existed_line a there e =
-    elim (a.status == 0) as (λ b. (a.status == 0) ≡ b
-    → ◌≡◌ {A = Result Bool HostError} (if b then Ok true else if a.status == KEY_DOES_NOT_EXIST then Ok false else Err (HostRefused a.status)) (Ok there)
-    → a.status ≡ (if there then 0 else KEY_DOES_NOT_EXIST)) [
-      | true ↦ λ t h. eqb-true a.status 0 t ∙ ap (λ (b : Bool). if b then 0 else KEY_DOES_NOT_EXIST) (let same : true ≡ there = cc in same)
-      | false ↦ λ t h. missing h
-    ] refl e
-  where
-    missing : ◌≡◌ {A = Result Bool HostError} (if a.status == KEY_DOES_NOT_EXIST then Ok false else Err (HostRefused a.status)) (Ok there) → a.status ≡ (if there then 0 else KEY_DOES_NOT_EXIST)
-    missing h = elim (a.status == KEY_DOES_NOT_EXIST) as (λ b. (a.status == KEY_DOES_NOT_EXIST) ≡ b
-        → ◌≡◌ {A = Result Bool HostError} (if b then Ok false else Err (HostRefused a.status)) (Ok there) → a.status ≡ (if there then 0 else KEY_DOES_NOT_EXIST)) [
-          | true ↦ λ t h. eqb-true a.status KEY_DOES_NOT_EXIST t ∙ ap (λ (b : Bool). if b then 0 else KEY_DOES_NOT_EXIST) (let same : false ≡ there = cc in same)
-          | false ↦ λ t h. absurd (let clash : ◌≡◌ {A = Result Bool HostError} (Err (HostRefused a.status)) (Ok there) = h in cc)
-        ] refl h
+existed_line a there e = found_cases true false a (Ok there) (λ b. a.status ≡ (if b then 0 else KEY_DOES_NOT_EXIST)) (sym e) (λ z. z) (λ z. z)
 
 module _ {X : Type 0} (old new : Mirrored) (p p' q q' : PortState) (c : Command) (k : Opcode) (of : Reply → Result X HostError) (tells : Tells of) (is : op_of c.opcode ≡ Some k)
     (plain : (shape : Shape) (most frames : ℕ) (m : Map) (own : List ℕ) → (reply_of shape most frames m own c (Some k)).status ≡ 0)
@@ -152,10 +140,8 @@ false_line a there is ok = ap there_line (sym is) ∙ deleted_line there a ok
 
 -- if a read failed, or a port
 pub asked_fails : (task : PairTask) (p p' q q' : PortState) (m : Map) (e : MirrorError) → (e ≡ Split → ⊥) → (e ≢ Split → IsCause p p' q q' e) → IsReadError e → PairFails task p p' q q' m e
-asked_fails task p p' q q' m (Refused First status) off causes unread = let h = causes (λ e. cc) in inr (inl (h.unread unread), unread)
-asked_fails task p p' q q' m (Refused Second status) off causes unread = let h = causes (λ e. cc) in inr (inr (h.unread unread), unread)
-asked_fails task p p' q q' m (Port First) off causes unread = inl (causes (λ e. cc))
-asked_fails task p p' q q' m (Port Second) off causes unread = inr (causes (λ e. cc))
+asked_fails task p p' q q' m (Refused side status) off causes unread = inr (failed_so p p' q q' (Refused side status) (causes (λ e. cc)) unread)
+asked_fails task p p' q q' m (Port side) off causes unread = failed_so p p' q q' (Port side) (causes (λ e. cc)) unread
 asked_fails task p p' q q' m Split off causes unread = absurd (off refl)
 
 -- a drive that answered has a map of its shape, within its limit

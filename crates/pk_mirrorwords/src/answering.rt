@@ -113,8 +113,10 @@ fn get<P: Port, Q: Port>(
     ensures fails { IfErr result (λ e. (m : Map) → (P.state first.old).map ≡ Some m
         → PairFails (get key.now) (P.state first.old) (P.state first.new) (Q.state second.old)
         (Q.state second.new) m e) }
-    ensures took_first { TookSome P.took AreAsking first.old first.new }
-    ensures took_second { TookSome Q.took AreAsking second.old second.new }
+    ensures took_first { TookSome P.took (AtMostOne (retrieve_of key.now (length value.old)))
+        first.old first.new }
+    ensures took_second { TookSome Q.took (AtMostOne (retrieve_of key.now (length value.old)))
+        second.old second.new }
     ensures room { text.new.room ≡ text.old.room }
 {
     // so that the key is known to be one

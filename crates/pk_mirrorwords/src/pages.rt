@@ -5,12 +5,13 @@ ghost use Rattle.std.specs.Option.{option_copied};
 ghost use Rattle.pk_base.specs.Map.{Map};
 ghost use Rattle.pk_base.specs.Shape.{limit};
 ghost use Rattle.pk_nvme.specs.Bytes.{RoomyList};
-ghost use Rattle.pk_host.specs.Outcomes.{TookSome};
+ghost use Rattle.pk_nvme.specs.Command.{key_or_none};
+ghost use Rattle.pk_host.specs.Outcomes.{TookSome, AtMostOne, list_of};
 ghost use Rattle.pk_words.specs.Lines.{key_lines};
 ghost use Rattle.pk_words.specs.declared.sizes.TheConstants.{LINE_BYTES};
 ghost use Rattle.pk_mirror.specs.Asks.{KeepsMaps, StaysUnlessPort};
 ghost use Rattle.pk_mirror.specs.Causes.{AreAsking};
-ghost use Rattle.pk_mirror.specs.Pair.{Mirrored};
+ghost use Rattle.pk_mirror.specs.Pair.{Mirrored, IsPair};
 ghost use Rattle.pk_mirror.specs.Ranks.{IsText, keys_left};
 ghost use Rattle.pk_mirrorwords.specs.PairTasks.{list};
 ghost use Rattle.pk_mirrorwords.specs.PairAnswers.{IsToldPair, IsInStep, PairDone, PairFails};
@@ -52,15 +53,17 @@ fn add_page<P: Port, Q: Port>(
     requires listed { IsListed (P.state first.old) (option_copied last) text.old.items }
     ensures goes { IfOk result (λ next. ListGoesOn (P.state first.old) (option_copied last.entry) next
         text.old.items text.new.items) }
-    ensures pair { IsToldPair mirror.new (P.state first.new) (Q.state second.new) }
+    ensures pair { IsPair mirror.new (P.state first.new) (Q.state second.new) }
     ensures keeps { KeepsMaps (P.state first.old) (P.state first.new) (Q.state second.old)
         (Q.state second.new) }
     ensures stays { mirror.old.split ≡ false → StaysUnlessPort mirror.new (P.state first.old)
         (P.state first.new) (Q.state second.old) (Q.state second.new) }
     ensures fails { IfErr result (λ e. PageFails mirror.old (P.state first.old)
         (P.state first.new) (Q.state second.old) (Q.state second.new) e) }
-    ensures took_first { TookSome P.took AreAsking first.old first.new }
-    ensures took_second { TookSome Q.took AreAsking second.old second.new }
+    ensures took_first { TookSome P.took
+        (AtMostOne (list_of (key_or_none (option_copied last.entry)))) first.old first.new }
+    ensures took_second { TookSome Q.took
+        (AtMostOne (list_of (key_or_none (option_copied last.entry)))) second.old second.new }
     ensures room { text.new.room ≡ text.old.room }
 {
     shape.known();

@@ -84,35 +84,31 @@ module _ (law : RootErase) (shape : Shape) (board : BoardState) (beside : ℕ) (
 -- ---- programs
 
 -- a pair whose first page is even in its block is in it
-even_room : (shape : Shape) (page : ℕ) → IsShape shape → page % shape.block_pages % 2 ≡ 0 → page % shape.block_pages + 1 < shape.block_pages
+pub even_room : (shape : Shape) (page : ℕ) → IsShape shape → page % shape.block_pages % 2 ≡ 0 → page % shape.block_pages + 1 < shape.block_pages
 even_room shape page is even =
     let least = is.block_least in
     let eights = is.eights in
     let less : page % shape.block_pages < shape.block_pages = mod-lt page (omega (arith, least)) in
     omega (arith, less, eights, even)
 
--- cuts of the pair
-pair_install : (shape : Shape) (page : ℕ) (top : ℕ × Root) (bytes : List ℕ) (root : Root) (start : Flash) → RootPair → IsInstall shape start top page bytes root
-    → (f : Flash) → IsPairCut page bytes start f → MayInstall shape page root start f
-pair_install shape page top bytes root start law install f is_cut = record {
-  newest = elim (law shape start top page bytes root f install is_cut) [ inl former ↦ inl (former ∙ sym install.was) | inr new ↦ inr new ];
-  behind = λ k high. is_cut.outside.above k (let below = install.in_root_blocks in omega (arith, high, below));
-  size = is_cut.outside.size;
-}
+module _ {shape : Shape} {start : Flash} {top : ℕ × Root} {page : ℕ} {bytes : List ℕ} {root : Root} (law : RootPair) (install : IsInstall shape start top page bytes root) where
+  -- cuts of the pair
+  pair_install : (f : Flash) → IsPairCut page bytes start f → MayInstall shape page root start f
+  pair_install f is_cut = record {
+    newest = elim (law shape start top page bytes root f install is_cut) [ inl former ↦ inl (former ∙ sym install.was) | inr new ↦ inr new ];
+    behind = λ k high. is_cut.outside.above k (let below = install.in_root_blocks in omega (arith, high, below));
+    size = is_cut.outside.size;
+  }
 
--- the same of all cuts of a call
-pub reached_installs : (shape : Shape) (page : ℕ) (top : ℕ × Root) (bytes : List ℕ) (root : Root) (start : Flash) → RootPair → IsInstall shape start top page bytes root
-    → (old new : BoardState) → Reached old new (λ f _. IsPairCut page bytes start f) → Reached old new (λ f _. MayInstall shape page root start f)
-reached_installs shape page top bytes root start law install old new (marks, run) =
-    (marks, weaken marks old new (λ f _. IsPairCut page bytes start f) (λ f _. MayInstall shape page root start f) (λ f _ c. pair_install shape page top bytes root start law install f c) run)
+  -- the same of all cuts of a call
+  pub reached_installs : (old new : BoardState) → Reached old new (λ f _. IsPairCut page bytes start f) → Reached old new (λ f _. MayInstall shape page root start f)
+  reached_installs old new (marks, run) = (marks, weaken marks old new (λ f _. IsPairCut page bytes start f) (λ f _. MayInstall shape page root start f) (λ f _ c. pair_install f c) run)
 
-pub went_installs : (shape : Shape) (page : ℕ) (top : ℕ × Root) (bytes : List ℕ) (root : Root) (start : Flash) → RootPair → IsInstall shape start top page bytes root
-    → (old new : BoardState) → Went old new (λ f _. IsPairCut page bytes start f) → Went old new (λ f _. MayInstall shape page root start f)
-went_installs shape page top bytes root start law install old new (marks, run) =
-    (marks, weaken_went marks old new (λ f _. IsPairCut page bytes start f) (λ f _. MayInstall shape page root start f) (λ f _ c. pair_install shape page top bytes root start law install f c) run)
+  pub went_installs : (old new : BoardState) → Went old new (λ f _. IsPairCut page bytes start f) → Went old new (λ f _. MayInstall shape page root start f)
+  went_installs old new (marks, run) = (marks, weaken_went marks old new (λ f _. IsPairCut page bytes start f) (λ f _. MayInstall shape page root start f) (λ f _ c. pair_install f c) run)
 
 -- if a call stopped, its flash is a cut
-went_left : (old new : BoardState) (P : Flash → Type 0) → Went old new (λ f _. P f) → P new.pages
+pub went_left : (old new : BoardState) (P : Flash → Type 0) → Went old new (λ f _. P f) → P new.pages
 went_left old new P run = run.1.cuts new.pages _ run.1.stands
 
 pub went_behind : (shape : Shape) (page : ℕ) (bytes : List ℕ) (old new : BoardState) → page + 1 < 2 * shape.block_pages
@@ -120,41 +116,37 @@ pub went_behind : (shape : Shape) (page : ℕ) (bytes : List ℕ) (old new : Boa
 went_behind shape page bytes old new below run k high = (went_left old new (IsPairCut page bytes old.pages) run).outside.above k (omega (arith, high, below))
 
 -- a root with a greater number than the newest one's, and its bytes, for the pair that is next
-module _ (shape : Shape) (board : BoardState) (page : ℕ) (top : ℕ × Root) (bytes : List ℕ) (root : Root) (is_shape : IsShape shape) (ready : IsReady board shape)
-    (fits : InstallerOnFlash shape (Program page) top board.pages) (spells : root_page shape bytes ≡ Some root) (greater : top.1.number < root.number) where
-  pub room : page % shape.block_pages + 1 < shape.block_pages
-  room = even_room shape page is_shape fits.possible.even
+pub install : (shape : Shape) (board : BoardState) (page : ℕ) (top : ℕ × Root) (bytes : List ℕ) (root : Root) → IsShape shape → IsReady board shape
+    → InstallerOnFlash shape (Program page) top board.pages → root_page shape bytes ≡ Some root → top.1.number < root.number → IsInstall shape board.pages top page bytes root
+install shape board page top bytes root is_shape ready fits spells greater =
+    let room = even_room shape page is_shape fits.possible.even in
+    record {
+      was = fits.newest;
+      in_root_blocks = fits.possible.in_root_blocks;
+      exists = root_page_exists shape board (page + 1) is_shape ready fits.possible.in_root_blocks;
+      even = fits.possible.even;
+      first_erased = fits.possible.order.behind page (le_refl page) (omega (arith, room));
+      second_erased = fits.possible.order.behind (page + 1) (omega arith) (omega (arith, room));
+      spells = spells;
+      greater_number = greater;
+    }
 
-  pub exists : page + 1 < length board.pages
-  exists = root_page_exists shape board (page + 1) is_shape ready fits.possible.in_root_blocks
-
-  pub install : IsInstall shape board.pages top page bytes root
-  install = record {
-    was = fits.newest;
-    in_root_blocks = fits.possible.in_root_blocks;
-    exists = exists;
-    even = fits.possible.even;
-    first_erased = fits.possible.order.behind page (le_refl page) (let r = room in omega (arith, r));
-    second_erased = fits.possible.order.behind (page + 1) (omega arith) (let r = room in omega (arith, r));
-    spells = spells;
-    greater_number = greater;
-  }
-
-  -- the root is the newest in the first page, and its second program is next
-  pub program_fits : (new : BoardState) → new ≡ after_program board page bytes → bytes ≡ root_bytes shape root → IsPairCut page bytes board.pages new.pages → page_at new.pages page ≡ whole bytes
-      → InOrder shape new.pages (page + 1) → InstallerOnFlash shape (Again page) (page, root) new.pages
-  program_fits new made spelled is_cut here order = record {
-    newest = first_stands shape board.pages new.pages top page bytes root install is_cut here;
-    possible = record {
-      at_first = refl;
-      here = here ∙ ap (λ (b : List ℕ). whole b) spelled;
-      order = order;
-      former = top;
-      install = subst (λ (b : List ℕ). IsInstall shape (before_pair new.pages page) top page b root) spelled
-          (subst (λ (f : Flash). IsInstall shape f top page bytes root)
-          (sym (ap (λ (b : BoardState). before_pair b.pages page) made ∙ set_back board.pages page (whole bytes) install.first_erased)) install);
-    };
-  }
+-- the root is the newest in the first page, and its second program is next
+pub program_fits : {shape : Shape} {top : ℕ × Root} {page : ℕ} {bytes : List ℕ} {root : Root} (board new : BoardState) → IsInstall shape board.pages top page bytes root
+    → new ≡ after_program board page bytes → bytes ≡ root_bytes shape root → IsPairCut page bytes board.pages new.pages → page_at new.pages page ≡ whole bytes
+    → InOrder shape new.pages (page + 1) → InstallerOnFlash shape (Again page) (page, root) new.pages
+program_fits {shape = shape} {top = top} {page = page} {bytes = bytes} {root = root} board new begun made spelled is_cut here order = record {
+  newest = first_stands shape board.pages new.pages top page bytes root begun is_cut here;
+  possible = record {
+    at_first = refl;
+    here = here ∙ ap (λ (b : List ℕ). whole b) spelled;
+    order = order;
+    former = top;
+    install = subst (λ (b : List ℕ). IsInstall shape (before_pair new.pages page) top page b root) spelled
+        (subst (λ (f : Flash). IsInstall shape f top page bytes root)
+        (sym (ap (λ (b : BoardState). before_pair b.pages page) made ∙ set_back board.pages page (whole bytes) begun.first_erased)) begun);
+  };
+}
 
 -- after a root in a pair that was programmed
 possible_behind : (shape : Shape) (flash : Flash) (page : ℕ) (bytes : List ℕ) (root : Root) (t : Bool) → nat_lt (page % shape.block_pages + 2) shape.block_pages ≡ t → IsShape shape
@@ -227,12 +219,3 @@ module _ (shape : Shape) (board : BoardState) (page at : ℕ) (root : Root) (is_
   again_behind f is_cut k high =
       let below = again_install.in_root_blocks in
       is_cut.outside.above k (omega (arith, high, below)) ∙ page_at-slice_set board.pages page k erased (λ e. omega (arith, e, high, below))
-
-  pub again_reached : RootPair → (new : BoardState) → Reached board new (λ f _. IsPairCut page bytes start f) → Reached board new (λ f _. MayInstall shape page root start f)
-  again_reached law new run = reached_installs shape page fits.possible.former bytes root start law again_install board new run
-
-  pub again_went : RootPair → (new : BoardState) → Went board new (λ f _. IsPairCut page bytes start f) → Went board new (λ f _. MayInstall shape page root start f)
-  again_went law new run = went_installs shape page fits.possible.former bytes root start law again_install board new run
-
-  pub again_went_behind : (new : BoardState) → Went board new (λ f _. IsPairCut page bytes start f) → SameBehind shape board.pages new.pages
-  again_went_behind new run = again_behind new.pages (went_left board new (IsPairCut page bytes start) run)

@@ -1,8 +1,9 @@
 -- The newest root of pages that are read one after another.
-use Rattle.std.proofs.Common.{◌≡◌, ℕ, zero, suc, ◌+◌, ◌*◌, ◌<◌, ◌≤◌, List, Bool, true, false, ◌&&◌, nat_le, if◌then◌else◌, length, Option, Some, None, refl, sym, ap, ◌∙◌, subst, arith, T, leb→le}
-use Rattle.std.proofs.Common.{leb-false, le_refl, add-zero}
-use Rattle.std.{proofs.Math.Nat.mul-le-mul_left, specs.Prelude.bytes_eq, specs.Prelude.MatchOption, specs.Prelude.IfSome, specs.List.range_with_len}
-use Rattle.pk_base.{specs.FieldFaults.u64_at, specs.Shape.Shape, specs.Shape.IsShape, specs.Page.Page, specs.Page.Flash, specs.Page.page_at, specs.Page.erased, specs.Page.whole, specs.Page.torn}
+use Rattle.std.proofs.Common.{◌≡◌, ℕ, zero, suc, ◌+◌, ◌*◌, ◌<◌, ◌≤◌, List, Bool, true, false, ◌&&◌, nat_le, if◌then◌else◌, length, Option, Some, None, refl, sym, ap, ◌∙◌, subst, arith, leb-false}
+use Rattle.std.proofs.Common.{le_refl, add-zero}
+use Rattle.std.{proofs.lemmas.Bool.leb-true, proofs.lemmas.Bool.Decides.nat_tests, proofs.Math.Nat.mul-le-mul_left, specs.Prelude.bytes_eq, specs.Prelude.MatchOption, specs.Prelude.IfSome, specs.List.range_with_len}
+use Rattle.pk_base.{proofs.Logic.some_same, specs.FieldFaults.u64_at, specs.Shape.Shape, specs.Shape.IsShape, specs.Page.Page, specs.Page.Flash, specs.Page.page_at, specs.Page.erased}
+use Rattle.pk_base.{specs.Page.whole}
 use Rattle.pk_nand.{specs.BoardState.BoardState, specs.Calls.IsReady, specs.Operations.filled, specs.Operations.after_read, specs.Operations.ReadFailed, specs.Counts.after_reads, specs.Seen.answer}
 use Rattle.pk_nand.specs.declared.types.PageRead.{PageRead}
 use Rattle.pk_rootfmt.{specs.Held.Held, specs.Root.Root, specs.Root.root_at, specs.Root.root_bytes, specs.Root.root_page, specs.Root.is_root, proofs.RunLemmas.page_is_root}
@@ -14,18 +15,10 @@ use Rattle.pk_root.specs.Scanned.{at_page, found_at, newer, is_older, root_in}
 
 -- a later root is taken if its number is greater, and otherwise the first one is kept
 stays : (a b : ℕ × Root) → b.1.number ≤ a.1.number → newer (Some a) (Some b) ≡ Some a
-stays a b le = by_test (nat_le b.1.number a.1.number) refl
-  where
-    by_test : (t : Bool) → nat_le b.1.number a.1.number ≡ t → (if t then Some a else Some b) ≡ Some a
-    by_test true e = refl
-    by_test false e = let lt = leb-false _ _ e in absurd (omega (arith, le, lt))
+stays a b le = let kept : nat_le b.1.number a.1.number ≡ true = grind (arith, nat_tests) in ap (λ t. if t then Some a else Some b) kept
 
 yields : (a b : ℕ × Root) → a.1.number < b.1.number → newer (Some a) (Some b) ≡ Some b
-yields a b lt = by_test (nat_le b.1.number a.1.number) refl
-  where
-    by_test : (t : Bool) → nat_le b.1.number a.1.number ≡ t → (if t then Some a else Some b) ≡ Some b
-    by_test true e = let le : b.1.number ≤ a.1.number = leb→le _ _ (subst T (sym e) tt) in absurd (omega (arith, le, lt))
-    by_test false e = refl
+yields a b lt = let taken : nat_le b.1.number a.1.number ≡ false = grind (arith, nat_tests) in ap (λ t. if t then Some a else Some b) taken
 
 pub newer-none : (first : Option (ℕ × Root)) → newer first None ≡ first
 newer-none None = refl
@@ -35,32 +28,25 @@ newer-none (Some a) = refl
 newer-assoc : (first second third : Option (ℕ × Root)) → newer first (newer second third) ≡ newer (newer first second) third
 newer-assoc None second third = refl
 newer-assoc (Some a) None third = refl
-newer-assoc (Some a) (Some b) None = newer-none_right (newer (Some a) (Some b))
-  where
-    newer-none_right : (x : Option (ℕ × Root)) → x ≡ newer x None
-    newer-none_right None = refl
-    newer-none_right (Some y) = refl
+newer-assoc (Some a) (Some b) None = sym (newer-none (newer (Some a) (Some b)))
 newer-assoc (Some a) (Some b) (Some c) = by_tests (nat_le c.1.number b.1.number) (nat_le b.1.number a.1.number) refl refl
   where
     by_tests : (s t : Bool) → nat_le c.1.number b.1.number ≡ s → nat_le b.1.number a.1.number ≡ t
         → newer (Some a) (if s then Some b else Some c) ≡ newer (if t then Some a else Some b) (Some c)
     by_tests true true e f =
-        let cb : c.1.number ≤ b.1.number = leb→le _ _ (subst T (sym e) tt) in
-        let ba : b.1.number ≤ a.1.number = leb→le _ _ (subst T (sym f) tt) in
+        let cb = leb-true c.1.number b.1.number e in
+        let ba = leb-true b.1.number a.1.number f in
         stays a b ba ∙ sym (stays a c (omega (arith, cb, ba)))
-    by_tests true false e f =
-        let cb : c.1.number ≤ b.1.number = leb→le _ _ (subst T (sym e) tt) in
-        yields a b (leb-false _ _ f) ∙ sym (stays b c cb)
+    by_tests true false e f = yields a b (leb-false _ _ f) ∙ sym (stays b c (leb-true _ _ e))
     by_tests false true e f = refl
     by_tests false false e f =
-        let bc : b.1.number < c.1.number = leb-false _ _ e in
-        let ab : a.1.number < b.1.number = leb-false _ _ f in
+        let bc = leb-false c.1.number b.1.number e in
+        let ab = leb-false b.1.number a.1.number f in
         yields a c (omega (arith, bc, ab)) ∙ sym (yields b c bc)
 
 newer_of-newer : (page : ℕ) (r : Option Root) (later : Option (ℕ × Root)) → newer_of page r later ≡ newer (at_page page r) later
-newer_of-newer page None later = refl
 newer_of-newer page (Some root) None = refl
-newer_of-newer page (Some root) (Some later) = refl
+newer_of-newer page _ _ = refl
 
 -- ---- consecutive pages
 
@@ -86,30 +72,21 @@ module _ (shape : Shape) (at : ℕ → Page) where
     pub high : top.0 < a + n
     pub there : root_of shape (at top.0) ≡ Some top.1
 
-  same_top : (x y : ℕ × Root) → Some x ≡ Some y → x ≡ y
-  same_top x y e = cc
+  wider : (a n : ℕ) (top : ℕ × Root) → IsAmong (a + 1) n top → IsAmong a (suc n) top
+  wider a n top is = record { low = omega (arith, is.low); high = omega (arith, is.high); there = is.there }
+
+  here : (a n : ℕ) (top : ℕ × Root) (root : Root) → root_of shape (at a) ≡ Some root → Some (a, root) ≡ Some top → IsAmong a (suc n) top
+  here a n top root is e = subst (IsAmong a (suc n)) (some_same (a, root) top e) (record { low = le_refl a; high = omega arith; there = is })
 
   -- it is the first page's root, or is among the others
   among_step : (a n : ℕ) (top : ℕ × Root) (r : Option Root) (later : Option (ℕ × Root)) → root_of shape (at a) ≡ r → (later ≡ Some top → IsAmong (a + 1) n top)
       → newer_of a r later ≡ Some top → IsAmong a (suc n) top
-  among_step a n top r later is rest e = by_root r later is rest e
-    where
-      wider : IsAmong (a + 1) n top → IsAmong a (suc n) top
-      wider is = record { low = omega (arith, is.low); high = omega (arith, is.high); there = is.there }
-
-      here : (root : Root) → root_of shape (at a) ≡ Some root → Some (a, root) ≡ Some top → IsAmong a (suc n) top
-      here root r f = subst (IsAmong a (suc n)) (same_top (a, root) top f) (record { low = le_refl a; high = omega arith; there = r })
-
-      by_test : (root : Root) (later : ℕ × Root) (t : Bool) → root_of shape (at a) ≡ Some root → (Some later ≡ Some top → IsAmong (a + 1) n top)
-          → (if t then Some (a, root) else Some later) ≡ Some top → IsAmong a (suc n) top
-      by_test root later true r rest f = here root r f
-      by_test root later false r rest f = wider (rest f)
-
-      by_root : (r : Option Root) (later : Option (ℕ × Root)) → root_of shape (at a) ≡ r → (later ≡ Some top → IsAmong (a + 1) n top)
-          → newer_of a r later ≡ Some top → IsAmong a (suc n) top
-      by_root None later r rest f = wider (rest f)
-      by_root (Some root) None r rest f = here root r f
-      by_root (Some root) (Some later) r rest f = by_test root later (nat_le later.1.number root.number) r rest f
+  among_step a n top None later is rest e = wider a n top (rest e)
+  among_step a n top (Some root) None is rest e = here a n top root is e
+  among_step a n top (Some root) (Some later) is rest e = elim (nat_le later.1.number root.number) as (λ t. (if t then Some (a, root) else Some later) ≡ Some top → IsAmong a (suc n) top) [
+    | true ↦ λ f. here a n top root is f
+    | false ↦ λ f. wider a n top (rest f)
+  ] e
 
   pub among : (a n : ℕ) (top : ℕ × Root) → newest_of shape at (range_with_len a n) ≡ Some top → IsAmong a n top
   among a zero top e = cc
@@ -133,38 +110,28 @@ newest_root_same shape at at' same = newest_same shape at at' 0 (2 * shape.block
 -- a root page has the root's number in its bytes 24 to 31
 root_number : (shape : Shape) (bytes : List ℕ) (root : Root) → root_page shape bytes ≡ Some root → root.number ≡ u64_at bytes 24
 unfolding root_page
-root_number shape bytes root e = by_test (is_root shape (root_at shape bytes) && bytes_eq bytes (root_bytes shape (root_at shape bytes))) e
-  where
-    same_root : (x y : Root) → Some x ≡ Some y → x ≡ y
-    same_root x y f = cc
-
-    by_test : (t : Bool) → (if t then Some (root_at shape bytes) else None) ≡ Some root → root.number ≡ u64_at bytes 24
-    by_test true f = ap (λ (x : Root). x.number) (sym (same_root (root_at shape bytes) root f))
-    by_test false f = cc
+root_number shape bytes root e = elim (is_root shape (root_at shape bytes) && bytes_eq bytes (root_bytes shape (root_at shape bytes))) as (λ t.
+    (if t then Some (root_at shape bytes) else None) ≡ Some root → root.number ≡ u64_at bytes 24) [
+      | true ↦ λ f. ap (λ (x : Root). x.number) (sym (some_same (root_at shape bytes) root f))
+      | false ↦ λ f. cc
+    ] e
 
 -- a page with no greater number is passed over
 pub passed_over : (best : Option ℕ) (page : ℕ) (shape : Shape) (held : Root) (bytes : List ℕ) (number other : ℕ) → number ≡ held.number → other ≡ u64_at bytes 24
     → is_older best number other ≡ true → found_at best held ≡ newer (found_at best held) (at_page page (root_page shape bytes))
 passed_over None page shape held bytes number other own its older = cc
-passed_over (Some p) page shape held bytes number other own its older = by_root (root_page shape bytes) refl
-  where
-    by_root : (r : Option Root) → root_page shape bytes ≡ r → Some (p, held) ≡ newer (Some (p, held)) (at_page page r)
-    by_root None e = refl
-    by_root (Some root) e =
-        let of_page : root.number ≡ u64_at bytes 24 = root_number shape bytes root e in
-        let same : root.number ≡ other = of_page ∙ sym its in
-        let le : other ≤ number = leb→le _ _ (subst T (sym older) tt) in
-        sym (stays (p, held) (page, root) (omega (arith, same, own, le)))
+passed_over (Some p) page shape held bytes number other own its older =
+    elim (root_page shape bytes) as (λ r. root_page shape bytes ≡ r → Some (p, held) ≡ newer (Some (p, held)) (at_page page r)) [
+      | None ↦ λ e. refl
+      | Some root ↦ λ e. sym (stays (p, held) (page, root) (omega (arith, root_number shape bytes root e, its, own, leb-true other number older)))
+    ] refl
 
 -- a root page with a greater number is taken
 pub taken : (best : Option ℕ) (page : ℕ) (shape : Shape) (held root : Root) (bytes : List ℕ) (number other : ℕ) → number ≡ held.number → other ≡ u64_at bytes 24
     → is_older best number other ≡ false → root_page shape bytes ≡ Some root → Some (page, root) ≡ newer (found_at best held) (at_page page (root_page shape bytes))
 taken None page shape held root bytes number other own its older is = rw is refl
 taken (Some p) page shape held root bytes number other own its older is =
-    let of_page : root.number ≡ u64_at bytes 24 = root_number shape bytes root is in
-    let same : root.number ≡ other = of_page ∙ sym its in
-    let less : number < other = leb-false _ _ older in
-    rw is (sym (yields (p, held) (page, root) (omega (arith, same, own, less))))
+    rw is (sym (yields (p, held) (page, root) (omega (arith, root_number shape bytes root is, its, own, leb-false other number older))))
 
 -- a page without a root changes nothing
 pub no_root : (best : Option ℕ) (page : ℕ) (shape : Shape) (held : Root) (bytes : List ℕ) → root_page shape bytes ≡ None
@@ -174,8 +141,7 @@ no_root best page shape held bytes is = rw is (sym (newer-none (found_at best he
 -- what a read reported of a page has the page's root
 root_in-read : (shape : Shape) (page : Page) (old : List ℕ) → root_in shape (answer page) (filled page old) ≡ root_of shape page
 root_in-read shape erased old = refl
-root_in-read shape (whole bytes) old = refl
-root_in-read shape torn old = refl
+root_in-read shape _ old = refl
 
 -- ---- the loop
 
@@ -213,22 +179,19 @@ pub Scanned-next : (old now : BoardState) (shape : Shape) (i : ℕ) (best best' 
 Scanned-next old now shape i best best' first into into' found buf buf' s told read took same_shape kept =
     let e : suc i ≡ i + 1 = omega arith in
     let pages : now.pages ≡ old.pages = ap (λ (b : BoardState). b.pages) s.board in
-    let P : Page → Type 0 = λ p. root_in into.shape found buf' ≡ root_of shape p in
-    let root : root_in into.shape found buf' ≡ root_of shape (page_at old.pages i) = subst P (ap (λ (g : Flash). page_at g i) pages)
-    (ap (λ (x : Shape). root_in x found buf') s.shape_is ∙ (ap (λ (x : PageRead). root_in shape x buf') told
-    ∙ (ap (λ (x : List ℕ). root_in shape (answer (page_at now.pages i)) x) read ∙ root_in-read shape (page_at now.pages i) buf))) in
+    let at : ℕ → Page = page_at old.pages in
+    let root : root_in into.shape found buf' ≡ root_of shape (at i) =
+    ap (λ (x : Shape). root_in x found buf') s.shape_is ∙ ap (λ (x : PageRead). root_in shape x buf') told ∙ ap (λ (x : List ℕ). root_in shape (answer (page_at now.pages i)) x) read
+    ∙ root_in-read shape (page_at now.pages i) buf ∙ ap (λ (g : Flash). root_of shape (page_at g i)) pages in
+    let z : 0 + i ≡ i = omega arith in
+    let more : newest_of shape at (range_with_len 0 (suc i)) ≡ newer (newest_of shape at (range_with_len 0 i)) (at_page i (root_of shape (at i))) =
+    newest_of-more shape at 0 i ∙ ap (λ k. newer (newest_of shape at (range_with_len 0 i)) (at_page k (root_of shape (at k)))) z in
     record {
-      board = let Q : ℕ → Type 0 = λ k. after_read now ≡ after_reads k old in subst Q e (ap after_read s.board);
+      board = ap after_read s.board ∙ ap (λ k. after_reads k old) e;
       shape_is = same_shape ∙ s.shape_is;
       newest =
-          let at : ℕ → Page = page_at old.pages in
-          let more : newest_of shape at (range_with_len 0 (suc i)) ≡ newer (newest_of shape at (range_with_len 0 i)) (at_page (0 + i) (root_of shape (at (0 + i)))) = newest_of-more shape at 0 i in
-          let z : 0 + i ≡ i = omega arith in
-          let more' : newest_of shape at (range_with_len 0 (suc i)) ≡ newer (newest_of shape at (range_with_len 0 i)) (at_page i (root_of shape (at i))) =
-          let R : ℕ → Type 0 = λ k. newest_of shape at (range_with_len 0 (suc i)) ≡ newer (newest_of shape at (range_with_len 0 i)) (at_page k (root_of shape (at k))) in subst R z more in
-          let Q : ℕ → Type 0 = λ k. found_at best' into'.root ≡ newest_of shape at (range_with_len 0 k) in
-          subst Q e (took ∙ (ap (λ x. newer x (at_page i (root_in into.shape found buf'))) s.newest
-          ∙ (ap (λ (x : Option Root). newer (newest_of shape at (range_with_len 0 i)) (at_page i x)) root ∙ sym more')));
+          took ∙ ap (λ x. newer x (at_page i (root_in into.shape found buf'))) s.newest ∙ ap (λ (x : Option Root). newer (newest_of shape at (range_with_len 0 i)) (at_page i x)) root
+          ∙ sym more ∙ ap (λ k. newest_of shape at (range_with_len 0 k)) e;
       kept = λ none. (kept none).1 ∙ s.kept (kept none).0;
     }
 
@@ -243,8 +206,7 @@ pub Scanned-failed : (old now new : BoardState) (shape : Shape) (i n : ℕ) (bes
     → ReadsFailed old new 0 n
 Scanned-failed old now new shape i n best first into less s failed =
     let z : i ≡ 0 + i = omega arith in
-    let Q : ℕ → Type 0 = λ k. ReadFailed (after_reads i old) new k in
-    let from_old : ReadFailed (after_reads i old) new (0 + i) = subst Q z (subst (λ b. ReadFailed b new i) s.board failed) in
+    let from_old = subst (λ k. ReadFailed (after_reads i old) new k) z (subst (λ b. ReadFailed b new i) s.board failed) in
     record { made = i; within = less; failed = from_old; flash = from_old.flash; read = from_old.read }
 
 -- ---- what was found
@@ -267,5 +229,4 @@ module _ (shape : Shape) (at : ℕ → Page) (root : Root) where
     where
       of_page : (p : Page) → root_of shape p ≡ Some root → is_root shape root ≡ true
       of_page (whole bytes) is = page_is_root shape bytes root is
-      of_page erased is = cc
-      of_page torn is = cc
+      of_page _ is = cc

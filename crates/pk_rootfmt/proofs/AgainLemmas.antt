@@ -1,16 +1,16 @@
 -- The page of a root passes the check, and is read as the root.
-use Rattle.std.proofs.Common.{◌≡◌, take, ℕ, ◌+◌, ◌-◌, ◌*◌, ◌^◌, ◌<◌, ◌≤◌, Bool, true, false, List, [], ◌∷◌, ◌++◌, length, drop, map, refl, sym, ap, subst, ◌∙◌, arith, length-append, Some, None, lit<}
-use Rattle.std.specs.Prelude.{nat_eq, nat_le, nat_lt, ◌&&◌, ◌||◌, if◌then◌else◌, bytes_eq, sum, zip}
-use Rattle.std.{proofs.lemmas.Bool.eqb-true, proofs.lemmas.List.take_at, proofs.lemmas.List.drop_at}
+use Rattle.std.proofs.Common.{◌≡◌, take, ℕ, ◌+◌, ◌-◌, ◌*◌, ◌^◌, ◌<◌, ◌≤◌, Bool, true, List, [], ◌∷◌, ◌++◌, length, drop, map, refl, sym, ap, subst, ◌∙◌, arith, length-append, Some, None, lit<}
+use Rattle.std.specs.Prelude.{nat_eq, nat_le, nat_lt, ◌&&◌, ◌||◌, bytes_eq, sum, zip}
+use Rattle.std.{proofs.lemmas.Bool.eqb-true, proofs.lemmas.Bool.eq-eqb, proofs.lemmas.Bool.leb-true, proofs.lemmas.List.take_at, proofs.lemmas.List.drop_at}
 use Rattle.std.{specs.List.list_all, specs.List.concat, proofs.lemmas.Bool.Decides.nat_tests, proofs.lemmas.List.append_assoc, proofs.lemmas.List.length-replicate}
-use Rattle.pk_base.{specs.Fields.u16_at, specs.Fields.u32_at, specs.Fields.zeros, specs.FieldFaults.u64_at, specs.FieldFaults.unlike, specs.FieldFaults.unless, proofs.Logic.both_true}
-use Rattle.pk_base.specs.Shape.{Shape, IsShape, page_entries, cap, caps, run_blocks, limit}
+use Rattle.pk_base.{specs.Fields.u16_at, specs.Fields.u32_at, specs.Fields.zeros, specs.FieldFaults.u64_at, specs.FieldFaults.unlike, proofs.Logic.both_true}
+use Rattle.pk_base.specs.Shape.{Shape, IsShape, page_entries, cap, caps, run_blocks}
 use Rattle.pk_base.proofs.Tables.{◌⊕◌, first_none, true_unless, stands_unlike, stands_number, Stand, AreSized, spelled_stand}
-use Rattle.pk_rootfmt.specs.Root.{Root, root_bytes, root_at, root_page, is_root, u16s_at, parts, version_of, limit_bytes, are_limits, fit_in, has_limits_room, list_from}
+use Rattle.pk_rootfmt.specs.Root.{Root, root_bytes, root_at, root_page, is_root, u16s_at, parts, version_of, limit_bytes, list_from}
 use Rattle.pk_rootfmt.specs.Fault.{root_magic, is_epoch, is_run_count, shape_checks, number_checks, list_checks, listed, blocks_fault, shape_fault, number_fault, space_fault, list_fault, root_fault}
 use Rattle.pk_rootfmt.proofs.BlockLemmas.{length-numbers, numbers_again, parts_again, are_blocks, are_other, check_from_others}
-use Rattle.pk_rootfmt.proofs.LimitLemmas.{by_test, Passes, passes, limits_room}
-use Rattle.pk_rootfmt.proofs.PageLemmas.{Parts, root_parts, bytes_same, same_bytes, rows, rows_root, journal_is, older_at, sum_four}
+use Rattle.pk_rootfmt.proofs.LimitLemmas.{by_test, Passes, passes, limits_few, limits_room}
+use Rattle.pk_rootfmt.proofs.PageLemmas.{Parts, root_parts, same_bytes, page_by_tests, tests_of_page, rows, rows_root, journal_is, older_at, sum_four}
 use Rattle.pk_rootfmt.{specs.Held.total, proofs.RoomLemmas.runs_most, proofs.RoomLemmas.entries_small}
 
 append_same : (xs ys zs ws : List ℕ) → xs ++ ys ≡ zs ++ ws → length xs ≡ length zs → (xs ≡ zs) × (ys ≡ ws)
@@ -59,11 +59,7 @@ record Runs (p q r s t : Bool) : Type 0 where
 
 run_tests : (p q r s t : Bool) → (true && (p && (q && (r && (s && true)))) && t) ≡ true → Runs p q r s t
 run_tests true true true true true e = record { p1 = refl; p2 = refl; p3 = refl; p4 = refl; sizes = refl }
-run_tests true true true true false e = cc
-run_tests true true true false t e = cc
-run_tests true true false s t e = cc
-run_tests true false r s t e = cc
-run_tests false q r s t e = cc
+run_tests _ _ _ _ _ e = cc
 
 -- what a page is read as
 pub record Read (g : Shape) (page : List ℕ) (root : Root) : Type 0 where
@@ -125,16 +121,9 @@ module _ (g : Shape) (shape : IsShape g) (number epoch : ℕ) (newest older : Li
     version_small [] = lit< tt
     version_small (l ∷ ls) = lit< tt
 
-    spaces_small : (ls : List ℕ) → are_limits g ls ≡ true → length ls < 256 ^ 4
-    spaces_small [] e = lit< tt
-    spaces_small (l ∷ ls) e =
-        let tests = both_true (has_limits_room g && nat_le (length (l ∷ ls)) 8) (fit_in (limit g) (l ∷ ls)) e in
-        let few = (both_true (has_limits_room g) (nat_le (length (l ∷ ls)) 8) tests.0).1 in
-        grind (arith, nat_tests)
-
     limits_pass : Passes g shape page limits
     limits_pass = passes g shape page limits h.limits (stands_number 2 8 (version_of limits) (drop 10 page) page row.1.0 (version_small limits))
-        (stands_number 4 20 (length limits) (drop 24 page) page row.1.1.1.1.1.1.0 (spaces_small limits h.limits)) row.1.1.1.1.1.1.1.1.1.1.1.1.1.1.0
+        (stands_number 4 20 (length limits) (drop 24 page) page row.1.1.1.1.1.1.0 (omega (arith, limits_few g shape limits h.limits))) row.1.1.1.1.1.1.1.1.1.1.1.1.1.1.0
 
     from_read : list_from page ≡ f
     from_read = limits_pass.from
@@ -237,15 +226,12 @@ module _ (g : Shape) (shape : IsShape g) (number epoch : ℕ) (newest older : Li
         first_none (shape_checks g page) (
         stands_unlike 0 root_magic (drop 8 page) page row.0
         ⊕ true_unless 8 _ limits_pass.version
-        ⊕ equal_unless 10 (u16_at page 10) g.block_pages (stands_number 2 10 g.block_pages (drop 12 page) page row.1.1.0 (omega arith))
-        ⊕ equal_unless 12 (u32_at page 12) g.page_bytes (stands_number 4 12 g.page_bytes (drop 16 page) page row.1.1.1.0 (omega arith))
-        ⊕ equal_unless 16 (u16_at page 16) g.blocks (stands_number 2 16 g.blocks (drop 18 page) page row.1.1.1.1.0 (omega arith))
+        ⊕ true_unless 10 _ (eq-eqb (u16_at page 10) g.block_pages (stands_number 2 10 g.block_pages (drop 12 page) page row.1.1.0 (omega arith)))
+        ⊕ true_unless 12 _ (eq-eqb (u32_at page 12) g.page_bytes (stands_number 4 12 g.page_bytes (drop 16 page) page row.1.1.1.0 (omega arith)))
+        ⊕ true_unless 16 _ (eq-eqb (u16_at page 16) g.blocks (stands_number 2 16 g.blocks (drop 18 page) page row.1.1.1.1.0 (omega arith)))
         ⊕ true_unless 18 _ (ap (λ (x : ℕ). nat_eq x 2 || nat_eq x 4) journal_read ∙ journal_tests.0)
         ⊕ true_unless 20 _ limits_pass.count
         ⊕ tt)
-      where
-        equal_unless : (at x y : ℕ) → x ≡ y → unless at (nat_eq x y) ≡ None
-        equal_unless at x y e = let t : nat_eq x y ≡ true = grind (arith, nat_tests) in true_unless at _ t
 
     middle_read : number_fault g page ≡ None
     unfolding number_fault
@@ -277,14 +263,11 @@ module _ (g : Shape) (shape : IsShape g) (number epoch : ℕ) (newest older : Li
     -- the page has room for its blocks
     pub blocks_room : f + 2 * j + 2 * length (concat runs) ≤ g.page_bytes
     blocks_room =
-        let few = runs_most g a b c d shape (at_most a (cap g 1 * page_entries g) run_own.p1) (at_most b (cap g 2 * page_entries g) run_own.p2)
-        (at_most c (cap g 3 * page_entries g) run_own.p3) (at_most d (cap g 4 * page_entries g) run_own.p4) in
+        let few = runs_most g a b c d shape (leb-true a (cap g 1 * page_entries g) run_own.p1) (leb-true b (cap g 2 * page_entries g) run_own.p2)
+        (leb-true c (cap g 3 * page_entries g) run_own.p3) (leb-true d (cap g 4 * page_entries g) run_own.p4) in
         let all : length (concat runs) ≡ run_blocks g a + (run_blocks g b + (run_blocks g c + run_blocks g d)) = omega (arith, length_concat runs, ap total sizes) in
         let most = (journal_is page f j epoch journal_tests.0).most in
         omega (arith, limits_room g shape limits h.limits, few, all, most)
-      where
-        at_most : (x y : ℕ) → nat_le x y ≡ true → x ≤ y
-        at_most x y e = grind (arith, nat_tests)
 
     pub read : Read g page root
     read = record { front = front_read; middle = middle_read; spaces = limits_pass.fault; back = back_read; value = value_read }
@@ -299,11 +282,7 @@ pub record Four (xs : List ℕ) : Type 0 where
 
 pub four : (xs : List ℕ) → length xs ≡ 4 → Four xs
 four (a ∷ b ∷ c ∷ d ∷ []) e = record { a = a; b = b; c = c; d = d; is = refl }
-four [] e = absurd (omega arith)
-four (a ∷ []) e = absurd (omega arith)
-four (a ∷ b ∷ []) e = absurd (omega arith)
-four (a ∷ b ∷ c ∷ []) e = absurd (omega arith)
-four (a ∷ b ∷ c ∷ d ∷ e' ∷ es) e = absurd (omega arith)
+four _ e = absurd (omega arith)
 
 -- the counts of a root of the grammar are four
 four_counts : (g : Shape) (root : Root) → Parts g root → length root.counts ≡ 4
@@ -335,27 +314,12 @@ root_room g root shape e =
 
 -- so the page that it spells is its page
 pub reads_back : (g : Shape) (root : Root) → IsShape g → is_root g root ≡ true → root_page g (root_bytes g root) ≡ Some root
-unfolding root_page
-reads_back g root shape e =
-    let page : List ℕ = root_bytes g root in
-    let own = root_read g root shape e in
-    ap (λ (x : Root). if is_root g x && bytes_eq page (root_bytes g x) then Some x else None) own.value
-    ∙ test_some (is_root g root) (bytes_eq page page) e (bytes_same page)
-  where
-    test_some : (p q : Bool) → p ≡ true → q ≡ true → (if p && q then Some root else None) ≡ Some root
-    test_some p q e f = rw (e, f) refl
+reads_back g root shape e = page_by_tests g (root_bytes g root) root e refl (root_read g root shape e).value
 
 -- a page that is read as a root passes
 pub page_root : (g : Shape) (page : List ℕ) (root : Root) → IsShape g → root_page g page ≡ Some root → root_fault g page ≡ None
-unfolding root_page
 page_root g page root shape e =
-    let tests = some_tests (is_root g (root_at g page)) (bytes_eq page (root_bytes g (root_at g page))) e in
-    let own = root_read g (root_at g page) shape tests.0 in
-    let same : page ≡ root_bytes g (root_at g page) = same_bytes page (root_bytes g (root_at g page)) tests.1 in
+    let (grammar, same, value) = tests_of_page g page root e in
+    let own = root_read g (root_at g page) shape grammar in
     first_none (shape_fault g page ∷ number_fault g page ∷ space_fault g page ∷ list_fault g page ∷ []) (
     (ap (shape_fault g) same ∙ own.front) ⊕ (ap (number_fault g) same ∙ own.middle) ⊕ (ap (space_fault g) same ∙ own.spaces) ⊕ (ap (list_fault g) same ∙ own.back) ⊕ tt)
-  where
-    some_tests : (p q : Bool) → (if p && q then Some (root_at g page) else None) ≡ Some root → (p ≡ true) × (q ≡ true)
-    some_tests true true e = (refl, refl)
-    some_tests true false e = cc
-    some_tests false q e = cc

@@ -5,30 +5,22 @@ use Rattle.pk_rootfmt.{proofs.LimitLemmas.Limited, proofs.LimitLemmas.length-u32
 use Rattle.pk_rootfmt.specs.Root.{root_page, u16s_at, u32s_at, parts, page_limits, list_from}
 use Rattle.pk_rootfmt.specs.Fault.{shape_fault, number_fault, space_fault, list_fault, root_fault}
 use Rattle.pk_rootfmt.proofs.PageLemmas.{Journal, limited_own, journal_own, runs_fit, listed_is, room, page_taken, sum_four}
-use Rattle.pk_base.{specs.Fields.u16_at, specs.Fields.u32_at, specs.FieldFaults.u64_at, specs.Shape.Shape, specs.Shape.IsShape, specs.Shape.run_blocks, specs.Shape.meta_blocks, proofs.Tables.all_none}
+use Rattle.pk_base.{specs.Fields.u16_at, specs.Fields.u32_at, specs.FieldFaults.u64_at, specs.Shape.Shape, specs.Shape.IsShape, specs.Shape.run_blocks, specs.Shape.meta_blocks, proofs.Tables.AllNone}
+use Rattle.pk_base.{proofs.Tables.all_none}
 
 -- the blocks of each run, by the entries that the page gives
 abbrev pub sizes_at : Shape → List ℕ → List ℕ
 sizes_at g page = map (run_blocks g) (u32_at page 40 ∷ u32_at page 44 ∷ u32_at page 48 ∷ u32_at page 52 ∷ [])
 
 module _ (g : Shape) (page : List ℕ) (fits : (i : ℕ) → get_or page i 0 < 256) (sized : length page ≡ g.page_bytes) (shape : IsShape g) (passes : root_fault g page ≡ None) where
-  abbrev front : shape_fault g page ≡ None
-  front = (all_none (shape_fault g page ∷ number_fault g page ∷ space_fault g page ∷ list_fault g page ∷ []) passes).0
-
-  abbrev middle : number_fault g page ≡ None
-  middle = (all_none (shape_fault g page ∷ number_fault g page ∷ space_fault g page ∷ list_fault g page ∷ []) passes).1.0
-
-  abbrev spaces : space_fault g page ≡ None
-  spaces = (all_none (shape_fault g page ∷ number_fault g page ∷ space_fault g page ∷ list_fault g page ∷ []) passes).1.1.0
-
-  abbrev back : list_fault g page ≡ None
-  back = (all_none (shape_fault g page ∷ number_fault g page ∷ space_fault g page ∷ list_fault g page ∷ []) passes).1.1.1.0
+  none : AllNone (shape_fault g page ∷ number_fault g page ∷ space_fault g page ∷ list_fault g page ∷ [])
+  none = all_none (shape_fault g page ∷ number_fault g page ∷ space_fault g page ∷ list_fault g page ∷ []) passes
 
   abbrev from : ℕ
   from = list_from page
 
   pub limit_facts : Limited g shape page (page_limits page)
-  limit_facts = limited_own g page fits sized shape front middle spaces
+  limit_facts = limited_own g page fits sized shape none.0 none.1.0 none.1.1.0
 
   pub limits_few : length (page_limits page) ≤ 8
   limits_few = omega (arith, ap length limit_facts.kept, length-take (length (page_limits page)) (u32s_at 8 (drop 64 page)), length-u32s 8 (drop 64 page))
@@ -37,13 +29,13 @@ module _ (g : Shape) (page : List ℕ) (fits : (i : ℕ) → get_or page i 0 < 2
   sizes = sizes_at g page
 
   pub journal_facts : Journal page from (u16_at page 18) (u64_at page 32)
-  journal_facts = journal_own g page fits sized shape front middle spaces
+  journal_facts = journal_own g page fits sized shape none.0 none.1.0 none.1.1.0
 
   pub sizes_fit : total sizes ≤ meta_blocks g
-  sizes_fit = omega (arith, runs_fit g page fits sized shape front middle spaces)
+  sizes_fit = omega (arith, runs_fit g page fits sized shape none.0 none.1.0 none.1.1.0)
 
   pub sizes_room : from + 2 * u16_at page 18 + 2 * total sizes ≤ length page
-  sizes_room = omega (arith, room g page fits sized shape front middle spaces, listed_is g page fits sized shape front middle spaces)
+  sizes_room = omega (arith, room g page fits sized shape none.0 none.1.0 none.1.1.0, listed_is g page fits sized shape none.0 none.1.0 none.1.1.0)
 
   -- the root of the page
   pub filled : (epochs blocks : List ℕ) → take (u16_at page 18) epochs ≡ u16s_at (u16_at page 18) (drop from page)
@@ -66,7 +58,7 @@ module _ (g : Shape) (page : List ℕ) (fits : (i : ℕ) → get_or page i 0 < 2
       take_all (total sizes) list (omega (arith, length-u16s (sum sizes) (drop (from + 2 * u16_at page 18) page), same))
       ∙ ap (λ (k : ℕ). u16s_at k (drop (from + 2 * u16_at page 18) page)) same ∙ sym r in
       let runs_is : parts sizes list ≡ parts sizes blocks = parts_same sizes list blocks all in
-      page_taken g page fits sized shape front middle spaces back
+      page_taken g page fits sized shape none.0 none.1.0 none.1.1.0 none.1.1.1.0
       ∙ (λ i. Some (record {
         number = u64_at page 24;
         epoch = u64_at page 32;

@@ -152,21 +152,24 @@ pub some_wide : (ls : List ℕ) → 1 ≤ length ls → length ls ≤ 8 → leng
 some_wide [] some few = absurd (omega (arith, some))
 some_wide (l ∷ ls) some few = padded_words (l ∷ ls) few
 
+-- the tests of some limits
+parts_of : (g : Shape) (l : ℕ) (ls : List ℕ) → are_limits g (l ∷ ls) ≡ true
+    → (has_limits_room g ≡ true) × (nat_le (length (l ∷ ls)) 8 ≡ true) × (fit_in (limit g) (l ∷ ls) ≡ true)
+parts_of g l ls e =
+    let tests = both_true (has_limits_room g && nat_le (length (l ∷ ls)) 8) (fit_in (limit g) (l ∷ ls)) e in
+    let own = both_true (has_limits_room g) (nat_le (length (l ∷ ls)) 8) tests.0 in
+    (own.0, own.1, tests.1)
+
 module _ (g : Shape) (shape : IsShape g) where
   pub limits_room : (ls : List ℕ) → are_limits g ls ≡ true → (64 + length (limit_bytes ls)) + 2 * (meta_blocks g + 4) ≤ g.page_bytes
   limits_room [] e = omega (arith, page_room g shape)
   limits_room (l ∷ ls) e =
-      let tests = both_true (has_limits_room g && nat_le (length (l ∷ ls)) 8) (fit_in (limit g) (l ∷ ls)) e in
-      let own = both_true (has_limits_room g) (nat_le (length (l ∷ ls)) 8) tests.0 in
-      let room : 64 + 32 + 2 * (meta_blocks g + 4) ≤ g.page_bytes = leb-true (64 + 32 + 2 * (meta_blocks g + 4)) g.page_bytes own.0 in
-      let few : length (l ∷ ls) ≤ 8 = leb-true (length (l ∷ ls)) 8 own.1 in
-      omega (arith, room, padded_words (l ∷ ls) few)
+      let (room, few, fit) = parts_of g l ls e in
+      omega (arith, leb-true (64 + 32 + 2 * (meta_blocks g + 4)) g.page_bytes room, padded_words (l ∷ ls) (leb-true (length (l ∷ ls)) 8 few))
 
   pub limits_few : (ls : List ℕ) → are_limits g ls ≡ true → length ls ≤ 8
   limits_few [] e = omega arith
-  limits_few (l ∷ ls) e =
-      let tests = both_true (has_limits_room g && nat_le (length (l ∷ ls)) 8) (fit_in (limit g) (l ∷ ls)) e in
-      leb-true (length (l ∷ ls)) 8 (both_true (has_limits_room g) (nat_le (length (l ∷ ls)) 8) tests.0).1
+  limits_few (l ∷ ls) e = leb-true (length (l ∷ ls)) 8 (parts_of g l ls e).1
 
   -- limits that are kept are those of the namespaces
   pub limits_kept : (n : ℕ) (ls : List ℕ) → 1 ≤ n → n ≤ length ls → limits_of g (take n ls) ≡ take n ls
@@ -246,9 +249,8 @@ module _ (g : Shape) (shape : IsShape g) where
         }
       where
         later : (a b c : Bool) → a ≡ false → (a || (b && c)) ≡ true → c ≡ true
-        later true b c e f = cc
         later false true c e f = f
-        later false false c e f = cc
+        later _ _ c e f = cc
 
     pub limited : Limited page (page_limits page)
     limited = by_test (has_limits page) (Limited page (page_limits page))
@@ -277,11 +279,10 @@ module _ (g : Shape) (shape : IsShape g) where
   }
   passes page (l ∷ ls) e v k stand =
       let all : List ℕ = l ∷ ls in
-      let tests = both_true (has_limits_room g && nat_le (length all) 8) (fit_in (limit g) all) e in
-      let own = both_true (has_limits_room g) (nat_le (length all) 8) tests.0 in
-      let few : length all ≤ 8 = leb-true (length all) 8 own.1 in
+      let (room, short, fit) = parts_of g l ls e in
+      let few : length all ≤ 8 = leb-true (length all) 8 short in
       let rest : List ℕ = drop (64 + length (limit_bytes all)) page in
-      let small = small_limits (limit g) all (limit_small g shape) tests.1 in
+      let small = small_limits (limit g) all (limit_small g shape) fit in
       let eight : u32s_at 8 (drop 64 page) ≡ padded 8 all =
       ap (u32s_at 8) stand ∙ ap (λ (n : ℕ). u32s_at n (flat_map u32 (padded 8 all) ++ rest)) (sym (length-eight all few))
       ∙ words_again (padded 8 all) rest (small_zeros (8 - length all) all small) in
@@ -290,11 +291,11 @@ module _ (g : Shape) (shape : IsShape g) where
       ∙ append_assoc (flat_map u32 all) (flat_map u32 (zeros (8 - length all))) rest)
       ∙ words_again all (flat_map u32 (zeros (8 - length all)) ++ rest) small in
       record {
-        version = ap (is_version g) v ∙ own.0;
-        count = (λ i. is_space_count (v i) (k i)) ∙ and_from (nat_le 1 (length all)) (nat_le (length all) 8) (le-leb 1 (length all) (omega arith)) own.1;
+        version = ap (is_version g) v ∙ room;
+        count = (λ i. is_space_count (v i) (k i)) ∙ and_from (nat_le 1 (length all)) (nat_le (length all) 8) (le-leb 1 (length all) (omega arith)) short;
         fault =
             ap (λ (n : ℕ). if n == 3 then limits_fault 64 (limit g) (u32_at page 20) (u32s_at 8 (drop 64 page)) else None) v
-            ∙ (λ i. limits_fault 64 (limit g) (k i) (eight i)) ∙ limits_pass 64 (limit g) (8 - length all) all tests.1;
+            ∙ (λ i. limits_fault 64 (limit g) (k i) (eight i)) ∙ limits_pass 64 (limit g) (8 - length all) all fit;
         read = ap (λ (n : ℕ). if n == 3 then u32s_at (u32_at page 20) (drop 64 page) else []) v ∙ ap (λ (n : ℕ). u32s_at n (drop 64 page)) k ∙ front;
         from = ap (λ (n : ℕ). if n == 3 then 64 + 32 else 64) v ∙ ap (λ (w : ℕ). 64 + w) (sym (padded_words all few));
       }

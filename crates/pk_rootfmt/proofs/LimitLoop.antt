@@ -1,8 +1,8 @@
 -- Steps of the loops over limits.
-use Rattle.std.proofs.Common.{◌≡◌, ℕ, zero, suc, ◌+◌, ◌-◌, ◌*◌, ◌<◌, Bool, true, false, List, [], ◌∷◌, drop, refl, sym, ap, ◌∙◌, arith, Option, Some, None}
+use Rattle.std.proofs.Common.{◌≡◌, ℕ, zero, suc, ◌+◌, ◌-◌, ◌*◌, ◌<◌, Bool, true, false, List, [], ◌∷◌, drop, refl, sym, ap, ◌∙◌, arith, Some, None}
 use Rattle.std.{specs.Prelude.nat_le, specs.Prelude.nat_lt, specs.Prelude.◌==◌, specs.Prelude.◌&&◌, specs.Prelude.if◌then◌else◌, proofs.lemmas.Bool.Decides.nat_tests, proofs.lemmas.List.drop-drop}
 use Rattle.pk_base.{specs.Fields.u32_at, specs.FieldFaults.unless, specs.FieldFaults.first_fault}
-use Rattle.pk_rootfmt.{specs.Root.u32s_at, specs.Fault.limits_fault}
+use Rattle.pk_rootfmt.{specs.Root.u32s_at, specs.Fault.limits_fault, proofs.LoopLemmas.first_stops, proofs.LoopLemmas.first_goes}
 
 -- the numbers that remain begin with the one here
 words_left : (page : List ℕ) (i : ℕ) → i < 8 → u32s_at (8 - i) (drop (64 + 4 * i) page) ≡ u32_at page (64 + 4 * i) ∷ u32s_at (8 - (i + 1)) (drop (64 + 4 * (i + 1)) page)
@@ -50,19 +50,12 @@ module _ (page : List ℕ) (i count left : ℕ) (less : i < 8) where
       (64 + 4 * (i + 1)) (rest (nat_lt i count) left here) k (u32s_at (8 - (i + 1)) (drop (64 + 4 * (i + 1)) page)) ∷ [])) fewer
 
   pub limit_stop : test (nat_lt i count) left here ≡ false → limits_fault (64 + 4 * i) left (count - i) (u32s_at (8 - i) (drop (64 + 4 * i) page)) ≡ Some (64 + 4 * i)
-  limit_stop e = step ∙ stop (64 + 4 * i) _ _ e
-    where
-      stop : (at : ℕ) (t : Bool) (more : Option ℕ) → t ≡ false → first_fault (unless at t ∷ more ∷ []) ≡ Some at
-      stop at t more e = rw e refl
+  limit_stop e = step ∙ first_stops (64 + 4 * i) _ _ e
 
   pub limit_more : test (nat_lt i count) left here ≡ true
       → limits_fault (64 + 4 * (i + 1)) (rest (nat_lt i count) left here) (count - (i + 1))
       (u32s_at (8 - (i + 1)) (drop (64 + 4 * (i + 1)) page)) ≡ limits_fault (64 + 4 * i) left (count - i) (u32s_at (8 - i) (drop (64 + 4 * i) page))
-  limit_more e = sym (step ∙ on (64 + 4 * i) _ _ e)
-    where
-      on : (at : ℕ) (t : Bool) (more : Option ℕ) → t ≡ true → first_fault (unless at t ∷ more ∷ []) ≡ more
-      on at t None e = rw e refl
-      on at t (Some k) e = rw e refl
+  limit_more e = sym (step ∙ first_goes (64 + 4 * i) _ _ e)
 
 -- after the last of them
 pub limit_end : (page : List ℕ) (count left i : ℕ) → 8 ≡ i → limits_fault (64 + 4 * i) left (count - i) (u32s_at (8 - i) (drop (64 + 4 * i) page)) ≡ None

@@ -30,13 +30,18 @@ any_more page from block i count less other =
     let back : nat_eq block (u16_at page (from + 2 * i)) ≡ false = grind (arith, nat_tests) in
     ap (list_any (λ other. block == other)) (left_more page from i count less) ∙ rw back refl
 
+-- a test before the rest
+pub first_stops : (at : ℕ) (test : Bool) (rest : Option ℕ) → test ≡ false → first_fault (unless at test ∷ rest ∷ []) ≡ Some at
+first_stops at test rest e = rw e refl
+
+pub first_goes : (at : ℕ) (test : Bool) (rest : Option ℕ) → test ≡ true → first_fault (unless at test ∷ rest ∷ []) ≡ rest
+first_goes at test None e = rw e refl
+first_goes at test (Some k) e = rw e refl
+
 pub fault_stop : (g : Shape) (page : List ℕ) (from i count : ℕ) → i < count → is_other_block g (u16s_at i (drop from page)) (u16_at page (from + 2 * i)) ≡ false
     → blocks_fault g (from + 2 * i) (u16s_at i (drop from page)) (u16s_at (count - i) (drop (from + 2 * i) page)) ≡ Some (from + 2 * i)
 fault_stop g page from i count less e =
-    ap (blocks_fault g (from + 2 * i) (u16s_at i (drop from page))) (left_more page from i count less) ∙ stop _ (is_other_block g (u16s_at i (drop from page)) (u16_at page (from + 2 * i))) _ e
-  where
-    stop : (at : ℕ) (test : Bool) (rest : Option ℕ) → test ≡ false → first_fault (unless at test ∷ rest ∷ []) ≡ Some at
-    stop at test rest e = rw e refl
+    ap (blocks_fault g (from + 2 * i) (u16s_at i (drop from page))) (left_more page from i count less) ∙ first_stops _ (is_other_block g (u16s_at i (drop from page)) (u16_at page (from + 2 * i))) _ e
 
 pub fault_more : (g : Shape) (page : List ℕ) (from i count : ℕ) → i < count → is_other_block g (u16s_at i (drop from page)) (u16_at page (from + 2 * i)) ≡ true
     → blocks_fault g (from + 2 * (i + 1)) (u16s_at (i + 1) (drop from page)) (u16s_at (count - (i + 1)) (drop (from + 2 * (i + 1)) page))
@@ -47,11 +52,7 @@ fault_more g page from i count less e =
     ap (λ (k : ℕ). blocks_fault g k (u16s_at (i + 1) (drop from page)) rest) next
     ∙ ap (λ (r : List ℕ). blocks_fault g ((from + 2 * i) + 2) r rest) (read_more page from i)
     ∙ sym (ap (blocks_fault g (from + 2 * i) (u16s_at i (drop from page))) (left_more page from i count less)
-    ∙ on (from + 2 * i) (is_other_block g (u16s_at i (drop from page)) (u16_at page (from + 2 * i))) _ e)
-  where
-    on : (at : ℕ) (test : Bool) (rest : Option ℕ) → test ≡ true → first_fault (unless at test ∷ rest ∷ []) ≡ rest
-    on at test None e = rw e refl
-    on at test (Some k) e = rw e refl
+    ∙ first_goes (from + 2 * i) (is_other_block g (u16s_at i (drop from page)) (u16_at page (from + 2 * i))) _ e)
 
 -- a list whose next element was written
 pub set_more : (xs : List ℕ) (i x : ℕ) → i < length xs → take (i + 1) (slice_set xs i x) ≡ take i xs ++ x ∷ []

@@ -3,9 +3,10 @@ use Rattle.std.proofs.Common.{◌≡◌, ℕ, ◌+◌, ◌-◌, ◌*◌, ◌^◌
 use Rattle.std.proofs.Common.{get_or-drop, Some, None}
 use Rattle.std.specs.Prelude.{nat_eq, nat_le, ◌==◌, ◌&&◌, ◌||◌, if◌then◌else◌, bytes_eq, sum}
 use Rattle.std.proofs.lemmas.List.{drop_all, drop-drop, length-replicate, append-nil, append_assoc}
-use Rattle.std.{specs.List.flat_map, specs.List.concat, proofs.Math.Dec.eqb_refl, proofs.lemmas.Bool.Decides.nat_tests}
+use Rattle.std.{specs.List.flat_map, specs.List.concat, proofs.Math.Dec.eqb_refl, proofs.lemmas.Bool.eqb-true, proofs.lemmas.Bool.leb-true, proofs.lemmas.Bool.Decides.nat_tests}
 use Rattle.pk_base.{specs.Fields.u16, specs.Fields.u32, specs.Fields.u64, specs.Fields.u16_at, specs.Fields.u32_at, specs.Fields.spelled, specs.Fields.zeros, specs.FieldFaults.u64_at}
-use Rattle.pk_base.{specs.Shape.Shape, specs.Shape.IsShape, specs.Shape.run_blocks, specs.Shape.meta_blocks, proofs.Logic.both_true, proofs.Logic.is_true}
+use Rattle.pk_base.{specs.Shape.Shape, specs.Shape.IsShape, specs.Shape.cap, specs.Shape.page_entries, specs.Shape.run_blocks, specs.Shape.meta_blocks, proofs.Logic.both_true, proofs.Logic.is_true}
+use Rattle.pk_base.{proofs.Logic.some_same}
 use Rattle.pk_base.proofs.Tables.{◌⊕◌, fields_of, AllNone, all_none, unless_true, unlike_stands, number_stands, number_fits, Stand, stand_spelled}
 use Rattle.pk_rootfmt.specs.Root.{Root, named, root_bytes, root_at, root_page, is_root, is_number, has_runs, differ, u16s_at, parts, version_of, limit_bytes, are_limits, page_limits, list_from}
 use Rattle.pk_rootfmt.specs.Fault.{root_magic, is_epoch, is_run_count, shape_checks, number_checks, list_checks, listed, shape_fault, number_fault, space_fault, list_fault}
@@ -50,13 +51,34 @@ bytes_same (x ∷ xs) = rw (is_true (nat_eq x x) (eqb_refl x)) (bytes_same xs)
 
 pub same_bytes : (xs ys : List ℕ) → bytes_eq xs ys ≡ true → xs ≡ ys
 same_bytes [] [] e = refl
-same_bytes [] (y ∷ ys) e = cc
-same_bytes (x ∷ xs) [] e = cc
 same_bytes (x ∷ xs) (y ∷ ys) e =
     let tests = both_true (nat_eq x y) (bytes_eq xs ys) e in
     let first = tests.0 in
     let is : x ≡ y = grind (arith, nat_tests) in
     ap (λ (n : ℕ). n ∷ xs) is ∙ ap (λ (r : List ℕ). y ∷ r) (same_bytes xs ys tests.1)
+same_bytes _ _ e = cc
+
+-- ---- the root of a page
+
+-- a page has a root exactly if what its fields say is one of the grammar, of which it is the page
+pub page_by_tests : (g : Shape) (page : List ℕ) (root : Root) → is_root g root ≡ true → page ≡ root_bytes g root → root_at g page ≡ root → root_page g page ≡ Some root
+unfolding root_page
+page_by_tests g page root grammar same value =
+    ap (λ (x : Root). if is_root g x && bytes_eq page (root_bytes g x) then Some x else None) value
+    ∙ test_some (is_root g root) (bytes_eq page (root_bytes g root)) grammar (ap (bytes_eq page) (sym same) ∙ bytes_same page)
+  where
+    test_some : (p q : Bool) → p ≡ true → q ≡ true → (if p && q then Some root else None) ≡ Some root
+    test_some p q e f = rw (e, f) refl
+
+pub tests_of_page : (g : Shape) (page : List ℕ) (root : Root) → root_page g page ≡ Some root
+    → (is_root g (root_at g page) ≡ true) × (page ≡ root_bytes g (root_at g page)) × (root_at g page ≡ root)
+unfolding root_page
+tests_of_page g page root = by_tests (is_root g (root_at g page)) (bytes_eq page (root_bytes g (root_at g page))) refl refl
+  where
+    by_tests : (p q : Bool) → is_root g (root_at g page) ≡ p → bytes_eq page (root_bytes g (root_at g page)) ≡ q → (if p && q then Some (root_at g page) else None) ≡ Some root
+        → (is_root g (root_at g page) ≡ true) × (page ≡ root_bytes g (root_at g page)) × (root_at g page ≡ root)
+    by_tests true true is same e = (is, same_bytes page _ same, some_same (root_at g page) root e)
+    by_tests _ _ is same e = cc
 
 -- ---- the rows of a page
 
@@ -201,14 +223,8 @@ module _ (g : Shape) (page : List ℕ) (fits : (i : ℕ) → get_or page i 0 < 2
 
   pub runs_fit : four_runs ≤ meta_blocks g
   runs_fit =
-      let few_a = unless_true 40 (is_run_count g 1 a) two.1.1.0 in
-      let few_b = unless_true 44 (is_run_count g 2 b) two.1.1.1.0 in
-      let few_c = unless_true 48 (is_run_count g 3 c) two.1.1.1.1.0 in
-      let few_d = unless_true 52 (is_run_count g 4 d) two.1.1.1.1.1.0 in
-      runs_most g a b c d shape (at_most a _ few_a) (at_most b _ few_b) (at_most c _ few_c) (at_most d _ few_d)
-    where
-      at_most : (x y : ℕ) → nat_le x y ≡ true → x ≤ y
-      at_most x y e = grind (arith, nat_tests)
+      runs_most g a b c d shape (leb-true a (cap g 1 * page_entries g) (unless_true 40 _ two.1.1.0)) (leb-true b (cap g 2 * page_entries g) (unless_true 44 _ two.1.1.1.0))
+      (leb-true c (cap g 3 * page_entries g) (unless_true 48 _ two.1.1.1.1.0)) (leb-true d (cap g 4 * page_entries g) (unless_true 52 _ two.1.1.1.1.1.0))
 
   pub listed_is : listed g page ≡ journal + four_runs
   unfolding listed
@@ -253,9 +269,9 @@ module _ (g : Shape) (page : List ℕ) (fits : (i : ℕ) → get_or page i 0 < 2
         let rest = subst (λ (f : ℕ). Back f (listed g page)) limited_own.from behind in
         unlike_stands 0 root_magic page one.0 (omega arith)
         ⊕ (number_stands 2 8 page fits (omega arith) ∙ ap (λ (k : ℕ). u16 k ++ drop 10 page) limited_own.version)
-        ⊕ (number_stands 2 10 page fits (omega arith) ∙ ap (λ (k : ℕ). u16 k ++ drop 12 page) (equal (u16_at page 10) g.block_pages (unless_true 10 _ one.1.1.0)))
-        ⊕ (number_stands 4 12 page fits (omega arith) ∙ ap (λ (k : ℕ). u32 k ++ drop 16 page) (equal (u32_at page 12) g.page_bytes (unless_true 12 _ one.1.1.1.0)))
-        ⊕ (number_stands 2 16 page fits (omega arith) ∙ ap (λ (k : ℕ). u16 k ++ drop 18 page) (equal (u16_at page 16) g.blocks (unless_true 16 _ one.1.1.1.1.0)))
+        ⊕ (number_stands 2 10 page fits (omega arith) ∙ ap (λ (k : ℕ). u16 k ++ drop 12 page) (eqb-true (u16_at page 10) g.block_pages (unless_true 10 _ one.1.1.0)))
+        ⊕ (number_stands 4 12 page fits (omega arith) ∙ ap (λ (k : ℕ). u32 k ++ drop 16 page) (eqb-true (u32_at page 12) g.page_bytes (unless_true 12 _ one.1.1.1.0)))
+        ⊕ (number_stands 2 16 page fits (omega arith) ∙ ap (λ (k : ℕ). u16 k ++ drop 18 page) (eqb-true (u16_at page 16) g.blocks (unless_true 16 _ one.1.1.1.1.0)))
         ⊕ number_stands 2 18 page fits (omega arith)
         ⊕ (number_stands 4 20 page fits (omega arith) ∙ ap (λ (k : ℕ). u32 k ++ drop 24 page) limited_own.count)
         ⊕ number_stands 8 24 page fits (omega arith)
@@ -269,9 +285,6 @@ module _ (g : Shape) (page : List ℕ) (fits : (i : ℕ) → get_or page i 0 < 2
         ⊕ rest.numbers
         ⊕ rest.tail
         ⊕ rest.end
-      where
-        equal : (x y : ℕ) → nat_eq x y ≡ true → x ≡ y
-        equal x y e = grind (arith, nat_tests)
 
     -- the lists that the page names, joined
     abbrev run_list : List ℕ
@@ -324,11 +337,4 @@ module _ (g : Shape) (page : List ℕ) (fits : (i : ℕ) → get_or page i 0 < 2
         ∙ rows_root g number epoch root.newest root.older a b c d root.runs limits
 
     pub page_taken : root_page g page ≡ Some (root_at g page)
-    unfolding root_page
-    page_taken =
-        let root : Root = root_at g page in
-        let same : bytes_eq page (root_bytes g root) ≡ true = ap (bytes_eq page) (sym bytes_taken) ∙ bytes_same page in
-        test_some (is_root g root) (bytes_eq page (root_bytes g root)) root root_taken same
-      where
-        test_some : (p q : Bool) (root : Root) → p ≡ true → q ≡ true → (if p && q then Some root else None) ≡ Some root
-        test_some p q root e f = rw (e, f) refl
+    page_taken = page_by_tests g page (root_at g page) root_taken bytes_taken refl

@@ -1,6 +1,7 @@
 use Rattle.std.proofs.Common.{inl, inr, ◌∙◌}
 use Rattle.pk_mirrorwords.specs.PairTasks.{seen}
-use Rattle.pk_mirrorwords.proofs.Composing.{first_both, first_asks, second_both, second_alone, done_later, fails_later, resync_fails, resync_failed, in_step_after}
+use Rattle.pk_mirrorwords.proofs.Composing.{first_both, first_asks, second_both, second_alone, done_later, fails_later, resync_fails, in_step_after}
+use Rattle.pk_mirrorwords.proofs.Paging.{failed_so}
 use Rattle.pk_mirror.{proofs.PairLemmas.on_ok_map, proofs.PairLemmas.if_err_map, proofs.VisitLemmas.asked_before}
 use Rattle.pk_mirrorwords.proofs.answering.ask_pair.Goals as goal
 
@@ -49,4 +50,4 @@ returns-in-Ok-clause-asked g c = inl (
 )
 
 pub returns-in-Err-clause-asked : goal.returns-in-Err-clause-asked
-returns-in-Err-clause-asked g c = inr (resync_failed _ _ _ _ c.in-Err.error c.in-Err.ensures.causes (c.in-Err.ensures.unread c.requires.pair.map c.requires.pair.told))
+returns-in-Err-clause-asked g c = inr (failed_so _ _ _ _ c.in-Err.error c.in-Err.ensures.causes (c.in-Err.ensures.unread c.requires.pair.map c.requires.pair.told))

@@ -4,7 +4,6 @@ use Rattle.pk_host.specs.Outcomes.{retrieved}
 use Rattle.pk_words.specs.Lines.{value_line}
 use Rattle.pk_mirror.{specs.declared.error.MirrorError.MirrorError, proofs.WriteLemmas.true_false}
 use Rattle.pk_mirrorwords.{specs.PairTasks.get, proofs.Replying.asked_fails, proofs.Replying.asks_within, proofs.Replying.both_kept, proofs.Replying.value_found, proofs.Replying.value_missing}
-use Rattle.pk_mirrorwords.proofs.Paging.{retrieves_ask}
 use Rattle.pk_mirrorwords.proofs.answering.get.Goals as goal
 
 pub retrieve-requires-clause-pair : goal.retrieve-requires-clause-pair
@@ -33,21 +32,3 @@ returns-in-Ok-None-clause-done g c = λ m told.
 pub returns-in-Err-clause-fails : goal.returns-in-Err-clause-fails
 returns-in-Err-clause-fails g c = λ m told. asked_fails (get c.args.key.now) _ _ _ _ m c.in-Err.error
     (λ e. true_false c.args.mirror.now.split (c.in-Err.ensures.split.1 (ap (λ (x : MirrorError). Err x) e)) c.requires.pair.in_step) c.in-Err.ensures.causes (c.in-Err.ensures.unread m told)
-
-pub returns-in-Ok-Some-clause-took_first : goal.returns-in-Ok-Some-clause-took_first
-returns-in-Ok-Some-clause-took_first g c = retrieves_ask g.P.Port.took _ _ c.args.key.now _ c.retrieve.ensures.took_first
-
-pub returns-in-Ok-Some-clause-took_second : goal.returns-in-Ok-Some-clause-took_second
-returns-in-Ok-Some-clause-took_second g c = retrieves_ask g.Q.Port.took _ _ c.args.key.now _ c.retrieve.ensures.took_second
-
-pub returns-in-Ok-None-clause-took_first : goal.returns-in-Ok-None-clause-took_first
-returns-in-Ok-None-clause-took_first g c = retrieves_ask g.P.Port.took _ _ c.args.key.now _ c.retrieve.ensures.took_first
-
-pub returns-in-Ok-None-clause-took_second : goal.returns-in-Ok-None-clause-took_second
-returns-in-Ok-None-clause-took_second g c = retrieves_ask g.Q.Port.took _ _ c.args.key.now _ c.retrieve.ensures.took_second
-
-pub returns-in-Err-clause-took_first : goal.returns-in-Err-clause-took_first
-returns-in-Err-clause-took_first g c = retrieves_ask g.P.Port.took _ _ c.args.key.now _ c.retrieve.ensures.took_first
-
-pub returns-in-Err-clause-took_second : goal.returns-in-Err-clause-took_second
-returns-in-Err-clause-took_second g c = retrieves_ask g.Q.Port.took _ _ c.args.key.now _ c.retrieve.ensures.took_second

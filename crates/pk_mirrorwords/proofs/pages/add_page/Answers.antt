@@ -1,9 +1,9 @@
 use Rattle.std.{proofs.Common.◌<◌, proofs.Common.length, proofs.Common.ap, specs.Option.option_copied}
-use Rattle.pk_nvme.{specs.Bytes.RoomyList, specs.Command.key_or_none}
+use Rattle.pk_nvme.specs.Bytes.{RoomyList}
 use Rattle.pk_host.specs.Listing.{listed_by}
 use Rattle.pk_mirror.proofs.PageLemmas.{own_from, page_falls}
 use Rattle.pk_mirrorwords.proofs.Replying.{asks_within}
-use Rattle.pk_mirrorwords.proofs.Paging.{asked_some, page_room, goes_some, goes_none, page_fails, told_after, lists_ask}
+use Rattle.pk_mirrorwords.proofs.Paging.{asked_some, page_room, goes_some, goes_none, page_fails}
 use Rattle.pk_mirrorwords.proofs.pages.add_page.Goals as goal
 
 pub list_page-requires-clause-pair : goal.list_page-requires-clause-pair
@@ -40,33 +40,3 @@ returns-in-Ok-false-clause-goes g c =
 pub returns-in-Err-clause-fails : goal.returns-in-Err-clause-fails
 returns-in-Err-clause-fails g c = page_fails c.args.mirror.now _ _ _ _ c.in-Err.error c.in-Err.ensures.split.1 c.in-Err.ensures.causes
     (c.in-Err.ensures.unread c.requires.pair.map c.requires.pair.told)
-
-pub returns-in-Ok-true-clause-pair : goal.returns-in-Ok-true-clause-pair
-returns-in-Ok-true-clause-pair g c = told_after c.args.mirror.now c.list_page.new.self _ _ _ _ _ c.requires.pair
-    (g.met.P.Port.took_state _ _ _ c.list_page.ensures.took_first.2) c.list_page.ensures.pair c.list_page.ensures.keeps.first_keeps
-
-pub returns-in-Ok-false-clause-pair : goal.returns-in-Ok-false-clause-pair
-returns-in-Ok-false-clause-pair g c = told_after c.args.mirror.now c.list_page.new.self _ _ _ _ _ c.requires.pair
-    (g.met.P.Port.took_state _ _ _ c.list_page.ensures.took_first.2) c.list_page.ensures.pair c.list_page.ensures.keeps.first_keeps
-
-pub returns-in-Err-clause-pair : goal.returns-in-Err-clause-pair
-returns-in-Err-clause-pair g c = told_after c.args.mirror.now c.list_page.new.self _ _ _ _ _ c.requires.pair
-    (g.met.P.Port.took_state _ _ _ c.list_page.ensures.took_first.2) c.list_page.ensures.pair c.list_page.ensures.keeps.first_keeps
-
-pub returns-in-Ok-true-clause-took_first : goal.returns-in-Ok-true-clause-took_first
-returns-in-Ok-true-clause-took_first g c = lists_ask g.P.Port.took _ _ (key_or_none (option_copied c.args.last)) c.list_page.ensures.took_first
-
-pub returns-in-Ok-false-clause-took_first : goal.returns-in-Ok-false-clause-took_first
-returns-in-Ok-false-clause-took_first g c = lists_ask g.P.Port.took _ _ (key_or_none (option_copied c.args.last)) c.list_page.ensures.took_first
-
-pub returns-in-Err-clause-took_first : goal.returns-in-Err-clause-took_first
-returns-in-Err-clause-took_first g c = lists_ask g.P.Port.took _ _ (key_or_none (option_copied c.args.last)) c.list_page.ensures.took_first
-
-pub returns-in-Ok-true-clause-took_second : goal.returns-in-Ok-true-clause-took_second
-returns-in-Ok-true-clause-took_second g c = lists_ask g.Q.Port.took _ _ (key_or_none (option_copied c.args.last)) c.list_page.ensures.took_second
-
-pub returns-in-Ok-false-clause-took_second : goal.returns-in-Ok-false-clause-took_second
-returns-in-Ok-false-clause-took_second g c = lists_ask g.Q.Port.took _ _ (key_or_none (option_copied c.args.last)) c.list_page.ensures.took_second
-
-pub returns-in-Err-clause-took_second : goal.returns-in-Err-clause-took_second
-returns-in-Err-clause-took_second g c = lists_ask g.Q.Port.took _ _ (key_or_none (option_copied c.args.last)) c.list_page.ensures.took_second

@@ -1,6 +1,6 @@
-use Rattle.std.proofs.Common.{◌∙◌, ◌∷◌, [], arith}
-use Rattle.pk_rootfmt.{specs.Held.first, proofs.LimitLemmas.limits_few, proofs.LimitLemmas.limits_room, proofs.PageLemmas.root_parts, proofs.PageLemmas.parts_root}
-use Rattle.pk_rootfmt.proofs.EncodeLemmas.{written, encoded}
+use Rattle.std.{proofs.Common.◌∙◌, proofs.Common.◌∷◌, proofs.Common.[], proofs.Common.arith, proofs.lemmas.Bool.and_from}
+use Rattle.pk_base.proofs.Logic.{both_true}
+use Rattle.pk_rootfmt.{specs.Root.is_laid_out, specs.Held.first, proofs.LimitLemmas.limits_few, proofs.LimitLemmas.limits_room, proofs.EncodeLemmas.written, proofs.EncodeLemmas.encoded}
 use Rattle.pk_rootfmt.proofs.page.first.Goals as goal
 
 pub put_page-requires-clause-few : goal.put_page-requires-clause-few
@@ -17,15 +17,4 @@ returns-clause-bytes c =
 
 pub returns-clause-grammar : goal.returns-clause-grammar
 returns-clause-grammar c =
-    let old = root_parts c.args.shape.now first c.known_first.ensures in
-    parts_root c.args.shape.now (record first { limits = c.args.limits.now }) (record {
-      number = old.number;
-      some = old.some;
-      most = old.most;
-      two = old.two;
-      older = old.older;
-      runs = old.runs;
-      blocks = old.blocks;
-      differs = old.differs;
-      limits = c.requires.limits;
-    })
+    and_from (is_laid_out c.args.shape.now first) _ (both_true (is_laid_out c.args.shape.now first) _ c.known_first.ensures).0 c.requires.limits

@@ -1,5 +1,5 @@
 use Rattle.pk_host.{proofs.CauseLemmas.caused_later, specs.Calls.IsOwnKey, specs.Listing.listed_by}
-use Rattle.pk_host.proofs.PageLemmas.{more_lists, listing_goes, listing_ends, own_more, own_one}
+use Rattle.pk_host.proofs.PageLemmas.{more_lists, listing_goes, listing_ends, all_append, own_one}
 use Rattle.std.{proofs.Common.◌∙◌, proofs.Common.sym, proofs.Common.ap, proofs.Common.subst, proofs.Common.List, proofs.Common.[], proofs.Common.length, proofs.Common.◌-◌, specs.Option.option_copied}
 use Rattle.std.specs.List.{AllByRecursion, slice_get}
 use Rattle.pk_base.specs.Key.{Key}
@@ -27,7 +27,7 @@ loop-preserved g c = (
   listing_goes _ _ _ c.loop.all.items c.list_page.new.page _ _ c.loop.invariant.1
       (ap key_or_none c.last.ensures.value ∙ ap (λ (xs : List Key). key_or_none (slice_get xs (length xs - 1))) c.deref.ensures.value) c.in-Ok-true.ensures.pages c.list_page.ensures.leaves
       (c.add.ensures c.if-not-add.false),
-  subst (AllByRecursion IsOwnKey) (sym (c.add.ensures c.if-not-add.false)) (own_more c.loop.all.items c.list_page.new.page c.loop.invariant.2 c.known.ensures),
+  subst (AllByRecursion IsOwnKey) (sym (c.add.ensures c.if-not-add.false)) (all_append IsOwnKey c.loop.all.items c.list_page.new.page c.loop.invariant.2 c.known.ensures),
 )
 
 pub list_page-requires : goal.list_page-requires
