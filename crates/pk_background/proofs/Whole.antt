@@ -156,12 +156,12 @@ module _ (a b : Parts) (s0 s1 : BoardState) (may : MayEmpty a s0) where
           stays = tt;
         }
 
-    merged_then : (r : Result Unit Fault) → FinishesRootOr b c s1 s2 r → MergesWhole a c s0 s2 (or_fault Worked r)
-    merged_then (Ok u) fin = merged_half fin
-    merged_then (Err f) is = rw is.0 (merged_broken is.1 is.2)
+    merged_then : repeats_next b.log.next ≡ true → (r : Result Unit Fault) → FinishesRootOr b c s1 s2 r → MergesWhole a c s0 s2 (or_fault Worked r)
+    merged_then repeats (Ok u) fin = merged_half fin
+    merged_then repeats (Err f) fails = rw fails.0 (merged_broken repeats fails.1 fails.2)
 
     pub merged_settled : (r : Result Unit Fault) → SettlesOr b c s1 s2 r → MergesWhole a c s0 s2 (or_fault Worked r)
-    merged_settled r set = by_half (repeats_next b.log.next) b c s1 s2 r (λ x s q. MergesWhole a x s0 s (or_fault Worked q)) (λ e. merged_then r (set.half e)) set.whole merged_whole
+    merged_settled r set = by_half (repeats_next b.log.next) b c s1 s2 r (λ x s q. MergesWhole a x s0 s (or_fault Worked q)) (λ e. merged_then e r (set.half e)) set.whole merged_whole
 
   pub merged_idle : MergesOnce a b s0 s1 (Ok Idle) → MergesWhole a b s0 s1 (Ok Idle)
   merged_idle once = let idle = once.idle refl in alone (Ok Idle) once (KeepsAll-none a b s0 s1 idle.1 idle.2, once.step.came.1)

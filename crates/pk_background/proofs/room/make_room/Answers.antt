@@ -29,7 +29,9 @@ empty_active-requires-clause-may g c = let e = c.in-Ok.ensures in may_after _ _ 
 
 pub empty_active-requires-clause-number : goal.empty_active-requires-clause-number
 empty_active-requires-clause-number g c =
-    let e = c.in-Ok.ensures in still_numbers c.args.parts.now c.commit_pending.new.self _ _ (shape_committed c.args.parts.now _ e.rest) e.step.roots_few c.requires.number
+    let e = c.in-Ok.ensures in
+    still_numbers c.args.parts.now c.commit_pending.new.self (g.B.Nand.state c.args.board.now) (g.B.Nand.state c.commit_pending.new.board)
+    (shape_committed c.args.parts.now _ e.rest) e.step.roots_few c.requires.number
 
 pub returns-in-Ok-clause-step : goal.returns-in-Ok-clause-step
 returns-in-Ok-clause-step g c =
@@ -74,7 +76,7 @@ pub returns-in-Ok-clause-spends : goal.returns-in-Ok-clause-spends
 returns-in-Ok-clause-spends g c =
     let a = c.args.parts.now in
     let e = c.commit_pending.ensures in
-    committed_spends a _ _ _ _ (shape_committed a c.commit_pending.new.self c.in-Ok.ensures.rest)
+    committed_spends a c.commit_pending.new.self _ _ _ (shape_committed a c.commit_pending.new.self c.in-Ok.ensures.rest)
     (spends_still commit_calls 0 _ _ (few_commit a.log.pending _ _ e.program e.idle) e.step.roots_few) c.empty_active.ensures.spends
 
 pub returns-in-Err-clause-spends : goal.returns-in-Err-clause-spends
