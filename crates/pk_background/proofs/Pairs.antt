@@ -17,6 +17,7 @@ committed_half d d' old new r half is = record { half = λ e. is; whole = λ e. 
 
 pub committed_whole : (d : Parts) (old : BoardState) → commits_in d.reclaim.phase ≡ false → CommitsOr d d old old (Ok tt)
 committed_whole d old whole = record { half = λ e. absurd (not_both (commits_in d.reclaim.phase) e whole); whole = λ e. (refl, refl, refl) }
+
 pub root_finishes : (d d' : Parts) (old new : BoardState) (r : Result Unit Fault) → FinishesRootOr d d' old new r → FinishesOr d d' old new r
 root_finishes d d' old new (Ok u) is = is.finishes
 root_finishes d d' old new (Err e) is = is
