@@ -1,29 +1,30 @@
 -- A background step of the jobs, by the drive and its board.
-use Rattle.std.proofs.Common.{◌≡◌, ◌⊎◌, inl, inr, ℕ, refl, sym, ap, subst, ◌∙◌, arith, Bool, true, false, List, [], ◌∷◌, length, Some}
-use Rattle.std.{specs.Prelude.◌&&◌, specs.Prelude.◌||◌, specs.Prelude.◌==◌, specs.Prelude.not, specs.Prelude.map, specs.Prelude.slice_get, proofs.lemmas.Bool.eq-eqb, proofs.lemmas.Bool.eqb-true}
+use Rattle.std.proofs.Common.{◌≡◌, inl, inr, ℕ, refl, sym, ap, subst, ◌∙◌, arith, Bool, true, false, List, [], ◌∷◌, length, Some, Ok}
+use Rattle.std.{specs.Prelude.◌&&◌, specs.Prelude.◌==◌, specs.Prelude.not, specs.Prelude.map, specs.Prelude.slice_get, proofs.lemmas.Bool.eq-eqb, proofs.lemmas.Bool.eqb-true}
 use Rattle.pk_base.{specs.Shape.Shape, specs.Firsts.firsts, specs.Page.Flash, specs.Merge.next_merge, proofs.Logic.not_both}
 use Rattle.pk_rootfmt.specs.Root.{Root}
-use Rattle.pk_nand.{specs.BoardState.BoardState, specs.Calls.IsReady}
+use Rattle.pk_nand.{specs.BoardState.BoardState, specs.Calls.IsReady, specs.Effects.AtMostOneCall, specs.Effects.made_no_call, specs.Effects.made_erase, proofs.Effects.works_erase, proofs.Effects.stops_erase}
 use Rattle.pk_law_work.proofs.Targets.{next_told}
 use Rattle.pk_pool.{specs.Blocks.PoolOnFlash, specs.Blocks.IsShared, specs.Blocks.IsOwned, specs.Taking.ErasesOne, specs.Taking.ErasesNone, specs.Taking.FailsToErase}
 use Rattle.pk_compact.specs.FreezeSteps.{taken_by}
-use Rattle.pk_model.specs.Found.{Found}
+use Rattle.pk_model.{specs.Found.Found, specs.Reading.reading, specs.Crashes.CrashFinds, specs.Crashes.background}
 use Rattle.pk_call.{specs.Sight.IsIdle, specs.declared.types.Ticked.TheVariants.Worked, specs.declared.types.Ticked.TheVariants.Idle, specs.declared.types.Ticked.TheVariants.Fault}
 use Rattle.pk_schedule.{specs.declared.phase.Phase.Phase, specs.Index.Index, specs.Index.MergeStands, specs.Index.merging, specs.Steps.has_no_merge, specs.Steps.is_between}
 use Rattle.pk_schedule.specs.declared.phase.Phase.TheVariants.{Idle as NoMerge, Running, Ready}
 use Rattle.pk_gc.specs.Stepping.{runs_in}
 use Rattle.pk_parts.{specs.Parts.Parts, specs.Parts.index_of, specs.Parts.sight_of, specs.Parts.is_half, specs.Parts.is_reclaim_due, proofs.Halves.whole_of, proofs.Unchanging.own_whole}
-use Rattle.pk_parts.{specs.Agreeing.DriveOnFlashWith, specs.Agreeing.DriveOnFlash, specs.Agreeing.IsWhole, proofs.Staying.stays_same, proofs.Staying.stays_frees, proofs.Staying.step_stays}
+use Rattle.pk_parts.{specs.Agreeing.DriveOnFlashWith, specs.Agreeing.IsWhole, proofs.Staying.stays_same, proofs.Staying.stays_frees, proofs.Staying.step_stays}
 use Rattle.pk_background.{specs.Filling.lacks_frames, specs.Ticking.MayTick, specs.Ticking.Advances, specs.Ticking.WantsReclaim, specs.Ticking.wants_reclaim}
-use Rattle.pk_background.proofs.Ticking.{ticks_nothing, ticks_failed, step_agrees, step_ticks, step_lowers, kept_drive, busy_spare, idle_fine, stopped_idle, stopped_worked, worked_idle}
+use Rattle.pk_background.proofs.Ticking.{erase_holds, erase_broken, busy_spare}
+use Rattle.pk_background.{proofs.Results.either, proofs.Results.neither, proofs.ReadSteps.read_cuts, proofs.TickSteps.made_advances, proofs.TickSteps.stop_advances}
 
 -- ---- answers
 
-true_false : true ≡ false → ⊥
-true_false e = cc
+idle_fine : Idle ≡ Fault false → ⊥
+idle_fine e = cc
 
-false_true : false ≡ true → ⊥
-false_true e = cc
+idle_worked : Idle ≡ Worked → ⊥
+idle_worked e = cc
 
 -- ---- if a merge runs, or something is frozen
 
@@ -37,24 +38,16 @@ level_some shape frozen runs level due none = elim (next_told shape frozen runs 
 
 merge_busy : (p : Phase) (x : Index) (flash : Flash) (root : Root) (found : Found) → MergeStands p x flash root found
     → is_between p && (length x.log.frozen.entries == 0) ≡ false → merging p ≡ 0 → length x.log.frozen.entries ≡ 0 → ⊥
-merge_busy NoMerge x flash root found stands busy none empty = true_false (sym (eq-eqb (length x.log.frozen.entries) 0 empty) ∙ busy)
+merge_busy NoMerge x flash root found stands busy none empty = not_both true refl (sym (eq-eqb (length x.log.frozen.entries) 0 empty) ∙ busy)
 merge_busy (Running level) x flash root found stands busy none empty = level_some x.log.shape (length (firsts found.older)) (map length found.runs) level stands.into.due none
 merge_busy (Ready level) x flash root found stands busy none empty = level_some x.log.shape (length (firsts found.older)) (map length found.runs) level stands.into.due none
 
-neither : (x y : Bool) → (x || y) ≡ false → (x ≡ false) × (y ≡ false)
-neither true y e = absurd (true_false e)
-neither false y e = (refl, e)
-
 pub not_none : (b : Bool) → not b ≡ true → b ≡ false
-not_none true e = absurd (false_true e)
+not_none true e = absurd (not_both false e refl)
 not_none false e = refl
 
 pub wants_is : (d : Parts) → wants_reclaim d ≡ true → WantsReclaim d
 wants_is d e = either (runs_in d.reclaim.phase) (is_reclaim_due d) e
-  where
-    either : (x y : Bool) → (x || y) ≡ true → (x ≡ true) ⊎ (y ≡ true)
-    either true y e = inl refl
-    either false y e = inr e
 
 none_there : (bs : List ℕ) → length bs ≡ 0 → bs ≡ []
 none_there [] e = refl
@@ -80,34 +73,46 @@ module _ (d : Parts) (old new : BoardState) (m : MayTick d old) (none_half : is_
 
   pub erase_advances : (d' : Parts) → ErasesOne d.pool old d'.pool new → d' ≡ record d { pool = d'.pool } → IsShared d.pool.shape d.pool.states → IsReady new d.pool.shape
       → ((b : ℕ) → IsOwned d.pool b → slice_get d'.pool.states b ≡ slice_get d.pool.states b) → PoolOnFlash d'.pool new.pages → Advances d d' old new Worked
-  erase_advances d' one rest shared ready owned fits = record {
-    ticks = step_ticks d d' old new m.agrees whole one rest shared ready owned fits m.none;
-    stops = ap (λ (e : Parts). e.stopped) rest ∙ m.unstopped;
-    none = ap (λ (e : Parts). e.log.pending) rest ∙ m.none;
-    agrees = λ _. step_agrees d d' old new m.agrees whole one rest shared ready owned fits;
-    moves = λ _. stays_frees d d' (step_stays d d' old new (inl one) rest);
-    repeats = no_pair;
-    finishes = no_pair;
-    number = λ _. (let e = ap (λ (e : Parts). e.log.root.number) rest in omega (arith, e));
-    lowers = λ _. step_lowers d d' old new m.agrees whole one rest shared ready owned fits;
-    idle = λ e. absurd (worked_idle e);
-    busy = λ idle. absurd (busy_spare d old m.agrees shared one.block one.lowest.here idle);
-  }
+  erase_advances d' one rest shared ready owned fits =
+      let own_ready = subst (λ s. IsReady new s) with.placed.shape_is ready in
+      let is = erase_holds d old new m.agrees whole one.block one.lowest.here shared one.erase own_ready d'.pool one.marked fits owned m.none in
+      let works = works_erase old new one.block one.erase in
+      subst (λ (e : Parts). Advances d e old new Worked) (sym rest)
+      (made_advances d old m (record d { pool = d'.pool }) new own_ready (subst (λ b. AtMostOneCall old b) (sym one.erase) (made_erase (refl, refl, refl))) works.rest is.2 no_pair no_pair
+      is.1 (busy_spare d old m.agrees shared one.block one.lowest.here) m.none is.0 works.no_fault refl refl
+      (stays_frees d (record d { pool = d'.pool }) (step_stays d (record d { pool = d'.pool }) old new (inl one) refl)) (omega arith) is.3)
 
   pub idle_advances : (d' : Parts) → ErasesNone d.pool old d'.pool new → d' ≡ record d { pool = d'.pool } → has_no_merge (index_of d) ≡ true
       → (length (taken_by d.schedule.freeze) == 0) ≡ true → wants_reclaim d ≡ false → lacks_frames d ≡ false → Advances d d' old new Idle
   idle_advances d' none rest merged frozen reclaimed filled =
-      let same = kept_drive d d' old new none rest in
-      record {
-        ticks = ticks_nothing d old new d' Idle same none.same m.none refl idle_fine;
-        stops = ap (λ (e : Parts). e.stopped) same ∙ m.unstopped;
-        none = ap (λ (e : Parts). e.log.pending) same ∙ m.none;
-        agrees = λ _. subst (λ (b : BoardState). DriveOnFlash d' b.shape b.pages) (sym none.same) (subst (λ e. DriveOnFlash e old.shape old.pages) (sym same) m.agrees);
-        moves = λ _. stays_frees d d' (stays_same d d' same);
+      let same : d' ≡ d = rest ∙ ap (λ p. record d { pool = p }) none.kept in
+      subst (λ (e : Parts). Advances d e old new Idle) (sym same)
+      (subst (λ (b : BoardState). Advances d d old b Idle) (sym none.same) (record {
+        ticks = record {
+          stands = λ _ shape terms x st. st;
+          cuts = λ _ shape terms x st. read_cuts shape (CrashFinds shape background old.pages x) old old refl (refl, subst (λ p. reading shape old.pages p ≡ Ok x) m.none st.map_is);
+          cuts_stopped = λ e. absurd (not_both false e refl);
+          idle_rests = λ _. (refl, refl);
+          unmade = λ e. absurd (idle_fine e);
+          grows = λ _. inl refl;
+          rest = refl;
+          calls = made_no_call (refl, refl, refl);
+          unread = λ e. absurd (idle_fine e);
+          up = omega arith;
+          flash_up = λ _. omega arith;
+          worked = λ e. absurd (idle_worked e);
+          stop = λ e. absurd (not_both false e refl);
+          no_stop = λ _. refl;
+          installs = omega arith;
+        };
+        stops = m.unstopped;
+        none = m.none;
+        agrees = λ _. m.agrees;
+        moves = λ _. stays_frees d d (stays_same d d refl);
         repeats = no_pair;
         finishes = no_pair;
-        number = λ _. (let e = ap (λ (e : Parts). e.log.root.number) same in omega (arith, e));
-        lowers = λ e. absurd (worked_idle (sym e));
+        number = λ _. omega arith;
+        lowers = λ e. absurd (idle_worked e);
         idle = λ _. (
           record {
             whole = none_half;
@@ -118,22 +123,15 @@ module _ (d : Parts) (old new : BoardState) (m : MayTick d old) (none_half : is_
             all_filled = filled;
             none_free = none.none_free;
           },
-          same,
+          refl,
         );
         busy = λ _. refl;
-      }
+      }))
 
-  pub erase_failed : (d' : Parts) → FailsToErase d.pool old new → d' ≡ record d { stopped = true } → IsShared d.pool.shape d.pool.states → Advances d d' old new (Fault true)
-  erase_failed d' failed rest shared = record {
-    ticks = ticks_failed d old new m.agrees whole failed.block failed.lowest.here shared d' failed.failed m.none;
-    stops = ap (λ (e : Parts). e.stopped) rest;
-    none = ap (λ (e : Parts). e.log.pending) rest ∙ m.none;
-    agrees = λ e. absurd (true_false e);
-    moves = λ e. absurd (true_false e);
-    repeats = no_pair;
-    finishes = no_pair;
-    number = λ e. absurd (true_false e);
-    lowers = λ e. absurd (stopped_worked true e);
-    idle = λ e. absurd (stopped_idle true e);
-    busy = λ idle. absurd (busy_spare d old m.agrees shared failed.block failed.lowest.here idle);
-  }
+  pub erase_failed : (d' : Parts) → FailsToErase d.pool old new → d' ≡ record d { stopped = true } → IsShared d.pool.shape d.pool.states → IsReady new d.pool.shape → Advances d d' old new (Fault true)
+  erase_failed d' failed rest shared ready =
+      let is = erase_broken d old new m.agrees whole failed.block failed.lowest.here shared failed.failed m.none in
+      let made = failed.failed.rest in
+      let stops = stops_erase old new failed.block failed.failed in
+      stop_advances d old m d' new (subst (λ s. IsReady new s) with.placed.shape_is ready) (made_erase (ap (λ b. b.reads) made, ap (λ b. b.programs) made, ap (λ b. b.erases) made)) stops.rest
+      is.1 no_pair (busy_spare d old m.agrees shared failed.block failed.lowest.here) (ap (λ (e : Parts). e.log.pending) rest ∙ m.none) (ap (λ (e : Parts). e.stopped) rest) is.0 stops

@@ -29,45 +29,6 @@ few_within n k old new less f = record {
   erases = f.erases;
 }
 
--- one call more
-pub few_more : (n : ℕ) (a b c : BoardState) → FewCalls n a b → AtMostOneCall b c → FewCalls (n + 1) a c
-few_more n a b c f (made_no_call none) = record {
-  reads_made = f.reads_made;
-  programs_made = f.programs_made;
-  erases_made = f.erases_made;
-  few = (let few = f.few in omega (arith, few));
-  reads = none.0 ∙ f.reads;
-  programs = none.1 ∙ f.programs;
-  erases = none.2 ∙ f.erases;
-}
-few_more n a b c f (made_read read) = record {
-  reads_made = suc f.reads_made;
-  programs_made = f.programs_made;
-  erases_made = f.erases_made;
-  few = (let few = f.few in omega (arith, few));
-  reads = read.0 ∙ ap counted f.reads;
-  programs = read.1 ∙ f.programs;
-  erases = read.2 ∙ f.erases;
-}
-few_more n a b c f (made_program program) = record {
-  reads_made = f.reads_made;
-  programs_made = suc f.programs_made;
-  erases_made = f.erases_made;
-  few = (let few = f.few in omega (arith, few));
-  reads = program.0 ∙ f.reads;
-  programs = program.1 ∙ ap counted f.programs;
-  erases = program.2 ∙ f.erases;
-}
-few_more n a b c f (made_erase erase) = record {
-  reads_made = f.reads_made;
-  programs_made = f.programs_made;
-  erases_made = suc f.erases_made;
-  few = (let few = f.few in omega (arith, few));
-  reads = erase.0 ∙ f.reads;
-  programs = erase.1 ∙ f.programs;
-  erases = erase.2 ∙ ap counted f.erases;
-}
-
 -- ---- calls after calls
 
 raised_then : (j k a b c : ℕ) → b ≡ counted_by j a → c ≡ counted_by k b → c ≡ counted_by (j + k) a
@@ -84,8 +45,16 @@ few_then m n a b c f g = record {
   erases = raised_then f.erases_made g.erases_made a.erases b.erases c.erases f.erases g.erases;
 }
 
+-- one call
 pub few_one : (a b : BoardState) → AtMostOneCall a b → FewCalls 1 a b
-few_one a b one = few_more 0 a a b (few_none a) one
+few_one a b (made_no_call none) = record { reads_made = 0; programs_made = 0; erases_made = 0; few = omega arith; reads = none.0; programs = none.1; erases = none.2 }
+few_one a b (made_read read) = record { reads_made = 1; programs_made = 0; erases_made = 0; few = omega arith; reads = read.0; programs = read.1; erases = read.2 }
+few_one a b (made_program program) = record { reads_made = 0; programs_made = 1; erases_made = 0; few = omega arith; reads = program.0; programs = program.1; erases = program.2 }
+few_one a b (made_erase erase) = record { reads_made = 0; programs_made = 0; erases_made = 1; few = omega arith; reads = erase.0; programs = erase.1; erases = erase.2 }
+
+-- one more
+pub few_more : (n : ℕ) (a b c : BoardState) → FewCalls n a b → AtMostOneCall b c → FewCalls (n + 1) a c
+few_more n a b c f one = few_then n 1 a b c f (few_one b c one)
 
 -- nothing was done
 pub few_same : (n : ℕ) (a b : BoardState) → b ≡ a → FewCalls n a b

@@ -15,7 +15,7 @@ use Rattle.pk_background.{specs.Costs.Spends, proofs.Rooming.stands_after, proof
 use Rattle.pk_background.specs.Emptying.{StepOrRead, KeepsOrReads, MergesWhole, FreezesWhole, BeginsEpoch, HasRoom, merges_left, merges_due, freeze_left_of, MayEmpty}
 use Rattle.pk_background.proofs.Steps.{none_step, keeps_later, may_after, leaves_none, leaves_twice}
 use Rattle.pk_background.proofs.Callings.{few_none, few_within, few_then, spends_within, spends_then}
-use Rattle.pk_background.proofs.ReadSteps.{Passes, passes_none, step_passes, reading_passes, reads_nothing, reading_failed, reading_then, reading_end}
+use Rattle.pk_background.proofs.ReadSteps.{Passes, passes_none, step_passes, reading_passes, reads_nothing, reading_failed, reading_then, reading_end, reading_within}
 use Rattle.pk_parts.{specs.Parts.Parts, specs.Parts.frames_of, specs.Parts.index_of, specs.Staying.Stays, proofs.Keeping.KeepsAll-none, proofs.Keeping.KeepsAll-then, proofs.Keeping.BreaksAll-then}
 use Rattle.pk_parts.specs.Moves.{StandsFor, KeepsAll, BreaksAll, MayStep, StepKeeps, LeavesValues}
 use Rattle.pk_parts.proofs.Staying.{stays_same, stays_then}
@@ -112,23 +112,13 @@ module _ (a : Parts) (s0 : BoardState) (b : Parts) (s : BoardState) (ready : IsR
       }
 
   emptying_end : KeepsOrReads {T = Unit {0}} a b (merges_left a + 1) s0 s (Ok tt)
-  emptying_end =
-      let left = on.left in
-      let step = on.step in
-      record {
-        came = step.came;
-        rest = step.rest;
-        reads = (let few = step.reads.few in record { up = step.reads.up; few = omega (arith, few, left) });
-        roots_few = (let few = step.roots_few in omega (arith, few, left));
-        ready = step.ready;
-      }
+  emptying_end = reading_within (merges_left a + 1) (omega (arith, on.left)) on.step
 
   -- if nothing was left to do
   pub emptying_idle : (c : Parts) (s1 : BoardState) (x : Stepped) → x ≡ Idle → MergesWhole b c s s1 (Ok x) → KeepsOrReads {T = Unit {0}} a c (merges_left a + 1) s0 s1 (Ok tt)
   emptying_idle c s1 x is once =
       let idle = once.idle (ap (λ y. Ok y) is) in
-      let T : Parts → BoardState → Type 0 = λ d t. KeepsOrReads {T = Unit {0}} a d (merges_left a + 1) s0 t (Ok tt) in
-      subst (λ d. T d s1) (sym idle.1) (subst (λ t. T b t) (sym idle.2) emptying_end)
+      rw (idle.1, idle.2) emptying_end
 
   pub emptying_failed : (c : Parts) (s1 : BoardState) (e : Fault) → MergesWhole b c s s1 (Err e) → KeepsOrReads {T = Unit {0}} a c (merges_left a + 1) s0 s1 (Err e)
   emptying_failed c s1 e once =

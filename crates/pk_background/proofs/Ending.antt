@@ -15,29 +15,19 @@ use Rattle.pk_log.specs.State.{LogState}
 use Rattle.pk_reclaim.specs.Space.{ReclaimParts, HalfIn, HasRoom as HasSpace, MayReclaim}
 use Rattle.pk_reclaim.specs.Steps.{MakesWhole, PairIn, RoomIn, RoomBehind, RepeatsIn, StillIn, KeepsLog, with_newest}
 use Rattle.pk_reclaim.specs.Steps as steps
-use Rattle.pk_parts.{specs.Parts.Parts, specs.Parts.commits_in, specs.Parts.settled_parts, specs.Parts.block_if_open, specs.Parts.sight_of, specs.Moves.StandsBetween, specs.Moves.MayCommit}
+use Rattle.pk_parts.{specs.Parts.Parts, specs.Parts.commits_in, specs.Parts.block_if_open, specs.Parts.sight_of, specs.Moves.StandsBetween, specs.Moves.MayCommit}
 use Rattle.pk_parts.{specs.Agreeing.DriveOnFlashWith, specs.Agreeing.IsHalfCommit, specs.Staying.Stays, proofs.Halves.commit_of, proofs.Halves.with_whole, proofs.Standing.found_between}
-use Rattle.pk_background.{specs.Pairing.Finished, specs.Pairing.FinishesCommit, specs.Pairing.FinishesCommitOr, specs.Reclaiming.RunsOn, specs.Reclaiming.space_of, proofs.Finishing.maps_same}
+use Rattle.pk_background.{specs.Pairing.Finished, specs.Pairing.FinishesCommit, specs.Pairing.FinishesCommitOr, specs.Reclaiming.RunsOn, specs.Reclaiming.space_of, proofs.Finishing.HalfHere, proofs.Finishing.half_here, proofs.Finishing.on_own_shape}
 use Rattle.pk_background.proofs.Reclaimed.{over_space, space_stands, drive_moved, settles_then, leaves_index}
 use Rattle.pk_background.proofs.ReclaimWork.{worked_less}
 
--- The commit is half made: the drive matches on its own shape, for the map of the flash.
-pub record CommitHere (d : Parts) (flash : Flash) (m : Map) : Type 0 where
-  pub top : ℕ × Root
-  pub found : Found
-  pub with : DriveOnFlashWith (settled_parts d) d.log.shape flash top found m m
-  pub half : IsHalfCommit d flash top found m
+-- the commit is half made
+abbrev pub CommitHere : Parts → Flash → Map → Type 0
+CommitHere d flash m = HalfHere d flash m (λ top found w. IsHalfCommit d flash top found w)
 
-pub commit_here : (d : Parts) (flash : Flash) (m : Map) → StandsBetween d d.log.shape flash m → commits_in d.reclaim.phase ≡ true → CommitHere d flash m
+commit_here : (d : Parts) (flash : Flash) (m : Map) → StandsBetween d d.log.shape flash m → commits_in d.reclaim.phase ≡ true → CommitHere d flash m
 commit_here d flash m s commits =
-    let half = commit_of d flash s.top s.found s.without s.course commits in
-    let same = maps_same d d.log.shape flash m s half.none_pending in
-    record {
-      top = s.top;
-      found = s.found;
-      with = subst (λ (w : Map). DriveOnFlashWith (settled_parts d) d.log.shape flash s.top s.found w m) same s.with;
-      half = subst (λ (w : Map). IsHalfCommit d flash s.top s.found w) same half;
-    }
+    let half = commit_of d flash s.top s.found s.without s.course commits in half_here d flash m (λ top found w. IsHalfCommit d flash top found w) s half.none_pending half
 
 -- what the step asks
 may_end : (d : Parts) (flash : Flash) (m : Map) (h : CommitHere d flash m) → MayReclaim (space_of d) flash h.top h.found m
@@ -124,9 +114,7 @@ module _ (d : Parts) (x' : ReclaimParts) (old new : BoardState) (keeps : KeepsLo
     lowers = worked_less d then_drive (leaves_index d x' keeps) (inl (ap runs_in h.half.phase)) w.falls (subst (λ (p : Phase). RunsOn p d then_drive) (sym whole.phase) room)
 
   finished_all : steps.Works (space_of d) old x' new → commits_in d.reclaim.phase ≡ true → (shape : Shape) (m : Map) → StandsBetween d shape old.pages m → Finished d then_drive shape m old new
-  finished_all w commits shape m s =
-      let P : Shape → Type 0 = λ t. StandsBetween d t old.pages m → Finished d then_drive t m old new in
-      subst P s.with.shape_is (λ there. finished_here w m (commit_here d old.pages m there commits)) s
+  finished_all w commits = on_own_shape d old.pages (λ t m. Finished d then_drive t m old new) (λ m there. finished_here w m (commit_here d old.pages m there commits))
 
   pub finishes_commit : steps.Works (space_of d) old x' new → MayCommit d old → commits_in d.reclaim.phase ≡ true → NoFault old new → OneProgram old new → OnlyFlash old new → roots new ≡ roots old
       → FinishesCommit d then_drive old new
@@ -159,11 +147,8 @@ module _ (d : Parts) (x' : ReclaimParts) (old new : BoardState) (keeps : KeepsLo
 
 fails_commit : (d : Parts) (old new : BoardState) → steps.ReclaimBroken (space_of d) old new → commits_in d.reclaim.phase ≡ true → (shape : Shape) (m : Map) → StandsBetween d shape old.pages m
     → Goes shape old new (CrashFinds shape background old.pages m)
-fails_commit d old new breaks commits shape m s =
-    let P : Shape → Type 0 = λ t. StandsBetween d t old.pages m → Goes t old new (CrashFinds t background old.pages m) in
-    subst P s.with.shape_is (λ there.
-    let h = commit_here d old.pages m there commits in
-    breaks h.top h.found m (may_end d old.pages m h)) s
+fails_commit d old new breaks commits = on_own_shape d old.pages (λ t m. Goes t old new (CrashFinds t background old.pages m)) (λ m there.
+    let h = commit_here d old.pages m there commits in breaks h.top h.found m (may_end d old.pages m h))
 
 -- ---- by the answer
 
@@ -179,27 +164,19 @@ module _ (d : Parts) (x' : ReclaimParts) (old new : BoardState) (may : MayCommit
   pub not_read : (result : Result Reclaimed Fault) → RepeatsIn d.reclaim.phase old new result → result ≡ Err Reading → ⊥
   not_read result repeats = (subst (λ (p : Phase). RepeatsIn p old new result) its_phase.1 repeats).1
 
-  ended_at : (r : Reclaimed) → steps.Does (space_of d) old x' new r → NoFault old new → OneProgram old new → FinishesCommit d (over_space d x') old new
-  ended_at Worked w sound program = finishes_commit d x' old new keeps ready grows w may commits sound program rest same_roots
-  ended_at NeedsFreeze w sound program = copies_commits d.reclaim.phase w.course its_phase.0 w.copies its_phase.1
-  ended_at Ended e sound program = absurd (subst (λ (p : Phase). RoomBehind p (space_of d) x') its_phase.1 e.room)
-
   pub commit_ended : (r : Reclaimed) (result : Result Reclaimed Fault) → steps.Does (space_of d) old x' new r
       → NoFault old new → RepeatsIn d.reclaim.phase old new result → FinishesCommitOr d (over_space d x') old new (Ok tt)
-  commit_ended r result does sound repeats = ended_at r does sound (one_program result repeats)
+  commit_ended Worked result w sound repeats = finishes_commit d x' old new keeps ready grows w may commits sound (one_program result repeats) rest same_roots
+  commit_ended NeedsFreeze result w sound repeats = copies_commits d.reclaim.phase w.course its_phase.0 w.copies its_phase.1
+  commit_ended Ended result e sound repeats = absurd (subst (λ (p : Phase). RoomBehind p (space_of d) x') its_phase.1 e.room)
 
-  failed_at : (e : Fault) (result : Result Reclaimed Fault) → result ≡ Err e
+  pub commit_failed : (e : Fault) (result : Result Reclaimed Fault) → result ≡ Err e
       → (result ≡ Err Stopped → steps.ReclaimBroken (space_of d) old new × Stops old new) → RepeatsIn d.reclaim.phase old new result
       → FinishesCommitOr d (over_space d x') old new (Err e)
-  failed_at Reading result is broken repeats = absurd (not_read result repeats is)
-  failed_at Stopped result is broken repeats =
+  commit_failed Reading result is broken repeats = absurd (not_read result repeats is)
+  commit_failed Stopped result is broken repeats =
       let both = broken is in (
         refl,
         ap (λ (l : LogState). l.pending) keeps,
         record { fails = fails_commit d old new both.0 commits; stops = both.1; program = one_program result repeats; no_root = omega (arith, same_roots); ready = ready },
       )
-
-  pub commit_failed : (e : Fault) (result : Result Reclaimed Fault) → result ≡ Err e
-      → (result ≡ Err Stopped → steps.ReclaimBroken (space_of d) old new × Stops old new) → RepeatsIn d.reclaim.phase old new result
-      → FinishesCommitOr d (over_space d x') old new (Err e)
-  commit_failed e result is broken repeats = failed_at e result is broken repeats

@@ -1,12 +1,12 @@
 -- A background step that reads a page into a frame.
 use Rattle.std.proofs.Common.{◌≡◌, inl, inr, ℕ, zero, suc, ◌+◌, ◌-◌, ◌<◌, ◌≤◌, refl, sym, ap, subst, ◌∙◌, arith, Bool, true, false, if◌then◌else◌, nat_le, List, [], ◌∷◌, ◌++◌, length, length-set, map}
-use Rattle.std.proofs.Common.{sum, slice_get, slice_set, Option, Some, Ok}
+use Rattle.std.proofs.Common.{sum, slice_get, slice_set, Some, Ok}
 use Rattle.std.proofs.lemmas.Option.{slice_get-get_or}
-use Rattle.std.{specs.Prelude.not, specs.Prelude.slice_index_or, specs.Prelude.◌==◌, specs.List.AllByRecursion, proofs.lemmas.Bool.cases_lt, proofs.lemmas.Bool.eqb-true, proofs.lemmas.Bool.eq-eqb}
-use Rattle.pk_base.{specs.Shape.Shape, specs.Shape.cap, specs.Shape.caps, specs.Page.Flash, specs.Entry.Entry, proofs.Logic.not_both}
+use Rattle.std.{specs.Prelude.not, specs.Prelude.◌==◌, specs.List.AllByRecursion, proofs.lemmas.Bool.cases_lt, proofs.lemmas.Bool.eqb-true, proofs.lemmas.Bool.eq-eqb}
+use Rattle.pk_base.{specs.Shape.Shape, specs.Shape.cap, specs.Shape.caps, specs.Page.Flash, specs.Entry.Entry, proofs.Logic.not_both, proofs.Logic.some_same}
 use Rattle.pk_rootfmt.specs.Root.{Root}
 use Rattle.pk_nand.{specs.BoardState.BoardState, specs.Calls.IsReady, specs.Effects.OnlyFlash, specs.Effects.OnlyReading, specs.Effects.made_read}
-use Rattle.pk_nand.{specs.Operations.ReadFailed, specs.Operations.after_read, proofs.Reaching.Reached-start}
+use Rattle.pk_nand.{specs.Operations.ReadFailed, specs.Operations.after_read}
 use Rattle.pk_pin.specs.Frames.{Frames, filled}
 use Rattle.pk_run.specs.Kept.{Kept, IsKept, empty, is_pinned}
 use Rattle.pk_level.specs.Levels.{Levels, IsLevels, IsOfLevel, AreOfLevels, HaveBlocks, RunsOnFlash, run_of, with_run}
@@ -14,15 +14,14 @@ use Rattle.pk_level.specs.Arenas.{FillsOne, HasArena, last_level, unfilled, unfi
 use Rattle.pk_level.proofs.Filling.{framed_blocks, framed_counts, got_of}
 use Rattle.pk_model.{specs.Found.Found, specs.Crashes.CrashFinds, specs.Crashes.background, specs.Reading.reading, specs.Wear.roots}
 use Rattle.pk_law_work.{specs.Work.work, proofs.Lowering.fills}
-use Rattle.pk_schedule.{specs.declared.phase.Phase.Phase, specs.Index.Index, specs.Index.IndexOnFlash, specs.Index.MergeStands, specs.Index.output, proofs.Backlogs.four}
-use Rattle.pk_schedule.specs.declared.phase.Phase.TheVariants.{Idle as NoMerge, Running, Ready}
-use Rattle.pk_schedule.{specs.Steps.has_no_merge, specs.Steps.is_between, specs.Steps.merge_left, proofs.Keeping.idle_leases}
+use Rattle.pk_schedule.{specs.declared.phase.Phase.Phase, specs.Index.Index, specs.Index.IndexOnFlash, specs.Index.MergeStands, specs.Index.merging, specs.Index.output, proofs.Backlogs.four}
+use Rattle.pk_schedule.{specs.Steps.has_no_merge, specs.Steps.is_between, proofs.Keeping.idle_leases}
 use Rattle.pk_call.specs.declared.types.Ticked.TheVariants.{Worked, Fault}
 use Rattle.pk_parts.{specs.Parts.Parts, specs.Parts.backlog_of, specs.Parts.frames_of, specs.Parts.index_of, specs.Parts.is_half, specs.Parts.sight_of, specs.Agreeing.DriveOnFlashWith}
 use Rattle.pk_parts.{specs.Moves.StandsFor, specs.Staying.Stays, proofs.Halves.between, proofs.Halves.whole_like, proofs.Standing.reads_as, proofs.Staying.stays_frees, proofs.Staying.stays_same}
 use Rattle.pk_parts.{proofs.Holding.filled_held, proofs.Holding.held_filled, proofs.Holding.last_few, proofs.Holding.last_seen, proofs.Unchanging.agrees_ready}
-use Rattle.pk_background.{specs.Filling.FillsSpare, specs.Filling.lacks_frames, specs.Ticking.MayTick, specs.Ticking.Advances}
-use Rattle.pk_background.proofs.Ticking.{between_merges, busy_unfilled, no_merge_is, yes_no}
+use Rattle.pk_background.{proofs.Indexing.agrees_like, proofs.ReadSteps.read_cuts, specs.Filling.FillsSpare, specs.Filling.lacks_frames, specs.Ticking.MayTick, specs.Ticking.Advances}
+use Rattle.pk_background.proofs.Ticking.{busy_unfilled, no_merge_is, no_phase, none_left}
 use Rattle.pk_background.proofs.TickSteps.{its_whole, made_advances, read_grows, unread_advances}
 
 -- ---- whether a page lacks a frame
@@ -56,9 +55,6 @@ all_filled d last same below =
     let all : unfilled d.levels (frames_of d) ≡ 0 = subst (λ (n : ℕ). unfilled_from n 1 d.levels.runs ≡ 0) same none in
     ap not (eq-eqb (unfilled d.levels (frames_of d)) 0 all)
 
-some_false : (b : Bool) → ◌≡◌ {A = Option Bool} (Some b) (Some true) → b ≡ false → ⊥
-some_false b e f = cc
-
 pub one_unfilled : (d : Parts) (last level : ℕ) → last ≡ last_level d.levels (frames_of d) → IsLevels d.levels → 1 ≤ level → level ≤ last → last ≤ 4 → is_pinned (run_of d.levels level) ≡ false → lacks_frames d ≡ true
 one_unfilled d last level same is least within few lacks = by (unfilled d.levels (frames_of d) == 0) refl
   where
@@ -68,20 +64,13 @@ one_unfilled d last level same is least within few lacks = by (unfilled d.levels
         let none : unfilled_from last 1 d.levels.runs ≡ 0 = subst (λ (n : ℕ). unfilled_from n 1 d.levels.runs ≡ 0) (sym same) (eqb-true (unfilled d.levels (frames_of d)) 0 e) in
         let four = is.four in
         let held = held_filled last 1 d.levels.runs (level - 1) none (omega (arith, least, within)) (omega (arith, least, within, few, four)) in
-        absurd (some_false (is_pinned (run_of d.levels level)) (sym (its_pin d.levels level is least (omega (arith, within, few))) ∙ held) lacks)
+        absurd (not_both (is_pinned (run_of d.levels level)) (some_same _ _ (sym (its_pin d.levels level is least (omega (arith, within, few))) ∙ held)) lacks)
 
 -- ---- of a drive in which no merge runs
 
 merge_still : (p : Phase) (x : Index) (ls : Levels) (fr : Frames) (flash : Flash) (root : Root) (found : Found) → is_between p ≡ true → MergeStands p x flash root found
     → MergeStands p (record x { levels = ls; arena = fr }) flash root found
-merge_still NoMerge x ls fr flash root found e stands = stands
-merge_still (Running level) x ls fr flash root found e stands = absurd (yes_no (is_between (Running level)) refl e)
-merge_still (Ready level) x ls fr flash root found e stands = absurd (yes_no (is_between (Ready level)) refl e)
-
-left_still : (p : Phase) (x : Index) (ls : Levels) (fr : Frames) → is_between p ≡ true → merge_left p (record x { levels = ls; arena = fr }) ≡ merge_left p x
-left_still NoMerge x ls fr e = refl
-left_still (Running level) x ls fr e = absurd (yes_no (is_between (Running level)) refl e)
-left_still (Ready level) x ls fr e = absurd (yes_no (is_between (Ready level)) refl e)
+merge_still p x ls fr flash root found e = subst (λ q. MergeStands q x flash root found → MergeStands q (record x { levels = ls; arena = fr }) flash root found) (sym (no_phase p e)) (λ stands. stands)
 
 -- ---- how many pages may lack a frame
 
@@ -93,10 +82,6 @@ run_few : (shape : Shape) (k level : ℕ) (r : Kept) → IsOfLevel shape k level
 run_few shape k level r is kept = subst (λ (l : ℕ). length r.firsts ≤ cap shape l) is.same_level (subst (λ (s : Shape). length r.firsts ≤ cap s r.level) is.same_shape kept.pages)
 
 unfilled_few : (shape : Shape) (k last : ℕ) (rs : List Kept) → length rs ≡ 4 → AreOfLevels shape k 1 rs → AllByRecursion IsKept rs → unfilled_from last 1 rs ≤ sum (caps shape)
-unfilled_few shape k last [] long are kept = absurd (omega (arith, long))
-unfilled_few shape k last (a ∷ []) long are kept = absurd (omega (arith, long))
-unfilled_few shape k last (a ∷ b ∷ []) long are kept = absurd (omega (arith, long))
-unfilled_few shape k last (a ∷ b ∷ c ∷ []) long are kept = absurd (omega (arith, long))
 unfilled_few shape k last (a ∷ b ∷ c ∷ d ∷ []) long are kept =
     let one = run_few shape k 1 a are.0 kept.0 in
     let two = run_few shape k 2 b are.1.0 kept.1.0 in
@@ -107,7 +92,7 @@ unfilled_few shape k last (a ∷ b ∷ c ∷ d ∷ []) long are kept =
     let r = at_most (nat_le 3 last) (length c.firsts) (length c.leases) in
     let s = at_most (nat_le 4 last) (length d.firsts) (length d.leases) in
     omega (arith, one, two, three, last_one, p, q, r, s)
-unfilled_few shape k last (a ∷ b ∷ c ∷ d ∷ e ∷ rs) long are kept = absurd (omega (arith, long))
+unfilled_few shape k last rs long are kept = absurd (omega (arith, long))
 
 module _ (d : Parts) (old : BoardState) (m : MayTick d old) (none_half : is_half d ≡ false) (merged : has_no_merge (index_of d) ≡ true) where
   its : StandsFor d d.log.shape old.pages m.agrees.all
@@ -125,7 +110,7 @@ module _ (d : Parts) (old : BoardState) (m : MayTick d old) (none_half : is_half
   its_index = its.with.index
 
   none_output : (output d.schedule).leases ≡ []
-  none_output = idle_leases (index_of d) (frames_of d) old.pages its.top its.found its_index (between_merges d.schedule.phase no_merge.0)
+  none_output = idle_leases (index_of d) (frames_of d) old.pages its.top its.found its_index (ap merging (no_phase d.schedule.phase no_merge.0))
 
   pub may_ready : IsReady old d.levels.shape
   may_ready = subst (λ (s : Shape). IsReady old s) (sym its_index.levels_shape) (agrees_ready d old m.agrees)
@@ -195,20 +180,7 @@ module _ (d : Parts) (old : BoardState) (m : MayTick d old) (none_half : is_half
         })
 
     with_behind : DriveOnFlashWith after_it d.log.shape old.pages its.top its.found its.without m.agrees.all
-    with_behind =
-        let w = its.with in
-        record {
-          shape_is = w.shape_is;
-          is_flash = w.is_flash;
-          index = index_behind;
-          committed = w.committed;
-          pending = w.pending;
-          placed = w.placed;
-          former = w.former;
-          former_read = w.former_read;
-          reclaim = w.reclaim;
-          uses = w.uses;
-        }
+    with_behind = agrees_like d ls fr d.schedule d.reclaim.page d.log.shape old.pages its.top its.found its.without m.agrees.all its.with index_behind its.with.reclaim
 
     stands_behind : StandsFor after_it d.log.shape old.pages m.agrees.all
     stands_behind = record { top = its.top; found = its.found; without = its.without; with = with_behind; whole = whole_like d after_it refl (λ none. none) refl refl its.whole }
@@ -218,7 +190,7 @@ module _ (d : Parts) (old : BoardState) (m : MayTick d old) (none_half : is_half
         let one = f.less in
         let counts : map (λ (r : Kept). r.count) ls.runs ≡ map (λ (r : Kept). r.count) d.levels.runs =
         ap (λ (rs : List Kept). map (λ (r : Kept). r.count) rs) runs_behind ∙ framed_counts f.fills.fills.lease d.levels.runs (f.level - 1) own got in
-        let left = left_still d.schedule.phase (index_of d) ls fr no_merge.0 in
+        let left = none_left d.schedule.phase (index_of after_it) no_merge.0 ∙ sym (none_left d.schedule.phase (index_of d) no_merge.0) in
         let few = unfilled_few d.levels.shape d.levels.pinned (last_level d.levels (frames_of d)) d.levels.runs known.four known.each kept in
         fills d.log.shape (backlog_of d) (backlog_of after_it) (record {
           filled = λ i. record (backlog_of after_it) { runs = counts i; merge = left i };
@@ -237,7 +209,7 @@ module _ (d : Parts) (old : BoardState) (m : MayTick d old) (none_half : is_half
         made_advances d old m after_it (after_read old) ready (made_read (refl, refl, refl)) refl (omega arith) no_pair no_pair (inl refl) (busy_unfilled d old m.agrees lacks) m.none
         (record {
           stands = between after_it d.log.shape old.pages m.agrees.all stands_behind;
-          cuts = ([], Reached-start old (after_read old) (CrashFinds d.log.shape background old.pages m.agrees.all) refl refl refl refl (refl, here), tt);
+          cuts = read_cuts d.log.shape (CrashFinds d.log.shape background old.pages m.agrees.all) old (after_read old) refl (refl, here);
         })
         (refl, refl, refl, refl) same_size refl (stays_frees d after_it stays) (omega arith) (less_behind known kept)
 

@@ -31,25 +31,35 @@ maps_same d shape flash m s none =
 
 -- ---- the step
 
--- The pair of the root is half made: the drive matches on its own shape, for the map of the flash.
-pub record HalfHere (d : Parts) (flash : Flash) (m : Map) : Type 0 where
+-- A pair is half made, and so it is: the drive matches on its own shape, for the map of the flash.
+pub record HalfHere (d : Parts) (flash : Flash) (m : Map) (Half : ℕ × Root → Found → Map → Type 0) : Type 0 where
   pub top : ℕ × Root
   pub found : Found
   pub with : DriveOnFlashWith (settled_parts d) d.log.shape flash top found m m
-  pub half : IsHalfRoot d flash m
+  pub half : Half top found m
 
-pub half_here : (d : Parts) (flash : Flash) (m : Map) → StandsBetween d d.log.shape flash m → repeats_next d.log.next ≡ true → HalfHere d flash m
-half_here d flash m s repeats =
-    let half = root_of d flash s.top s.found s.without s.course repeats in
-    let same = maps_same d d.log.shape flash m s half.none_pending in
+pub half_here : (d : Parts) (flash : Flash) (m : Map) (Half : ℕ × Root → Found → Map → Type 0) (s : StandsBetween d d.log.shape flash m) → d.log.pending ≡ [] → Half s.top s.found s.without → HalfHere d flash m Half
+half_here d flash m Half s none half =
+    let same = maps_same d d.log.shape flash m s none in
     record {
       top = s.top;
       found = s.found;
       with = subst (λ (w : Map). DriveOnFlashWith (settled_parts d) d.log.shape flash s.top s.found w m) same s.with;
-      half = subst (λ (w : Map). IsHalfRoot d flash w) same half;
+      half = subst (λ (w : Map). Half s.top s.found w) same half;
     }
 
-pub may_settle : (d : Parts) (flash : Flash) (m : Map) (h : HalfHere d flash m) → MaySettle (index_of d) (frames_of d) flash h.top h.found m
+-- what holds on the drive's own shape holds on each one that it has
+pub on_own_shape : (d : Parts) (flash : Flash) (P : Shape → Map → Type 0) → ((m : Map) → StandsBetween d d.log.shape flash m → P d.log.shape m) → (shape : Shape) (m : Map) → StandsBetween d shape flash m → P shape m
+on_own_shape d flash P holds shape m stands = let Q : Shape → Type 0 = λ s. StandsBetween d s flash m → P s m in subst Q stands.with.shape_is (holds m) stands
+
+-- the pair of the root
+abbrev pub RootHere : Parts → Flash → Map → Type 0
+RootHere d flash m = HalfHere d flash m (λ top found w. IsHalfRoot d flash w)
+
+root_here : (d : Parts) (flash : Flash) (m : Map) → StandsBetween d d.log.shape flash m → repeats_next d.log.next ≡ true → RootHere d flash m
+root_here d flash m s repeats = let half = root_of d flash s.top s.found s.without s.course repeats in half_here d flash m (λ top found w. IsHalfRoot d flash w) s half.none_pending half
+
+pub may_settle : (d : Parts) (flash : Flash) (m : Map) (h : RootHere d flash m) → MaySettle (index_of d) (frames_of d) flash h.top h.found m
 may_settle d flash m h = record {
   stands = h.with.index;
   half = h.half.index;
@@ -59,8 +69,8 @@ may_settle d flash m h = record {
 }
 
 -- for some map
-pub some_settle : (d : Parts) (board : BoardState) → MayCommit d board → repeats_next d.log.next ≡ true → (m : Map) × HalfHere d board.pages m
-some_settle d board may repeats = (may.stands.0, half_here d board.pages may.stands.0 may.stands.1 repeats)
+pub some_settle : (d : Parts) (board : BoardState) → MayCommit d board → repeats_next d.log.next ≡ true → (m : Map) × RootHere d board.pages m
+some_settle d board may repeats = (may.stands.0, root_here d board.pages may.stands.0 may.stands.1 repeats)
 
 module _ (d : Parts) (log' : LogState) (pool' : Blocks) (old new : BoardState) (ready : IsReady new d.log.shape)
     (settles : Settles (index_of d) old (index log' d.levels d.arena pool' d.schedule) new) where
@@ -70,7 +80,7 @@ module _ (d : Parts) (log' : LogState) (pool' : Blocks) (old new : BoardState) (
   abbrev pub then_drive : Parts
   then_drive = record d { log = log'; pool = pool' }
 
-  module _ (m : Map) (h : HalfHere d old.pages m) where
+  module _ (m : Map) (h : RootHere d old.pages m) where
     its : IndexSettles (index_of d) (frames_of d) old h.top h.found m then_index new
     its = settles (frames_of d) h.top h.found m (may_settle d old.pages m h)
 
@@ -142,17 +152,15 @@ module _ (d : Parts) (log' : LogState) (pool' : Blocks) (old new : BoardState) (
 
   -- so for every map, on every shape, that it represents
   finished_all : repeats_next d.log.next ≡ true → (shape : Shape) (m : Map) → StandsBetween d shape old.pages m → Finished d then_drive shape m old new
-  finished_all repeats shape m s =
-      let P : Shape → Type 0 = λ t. StandsBetween d t old.pages m → Finished d then_drive t m old new in
-      subst P s.with.shape_is (λ there.
-      let h = half_here d old.pages m there repeats in
+  finished_all repeats = on_own_shape d old.pages (λ t m. Finished d then_drive t m old new) (λ m there.
+      let h = root_here d old.pages m there repeats in
       let is = its m h in
       record {
         stands = record { top = h.top; found = h.found; without = m; with = with_then m h; whole = whole_then m h };
         same_found = λ was. found_between d d d.log.shape old.pages m m was (record { top = h.top; found = h.found; without = m; with = h.with; course = inr (inl h.half) });
         cuts = is.cuts;
         grows = is.grows;
-      }) s
+      })
 
   pub finishes_root : MayCommit d old → repeats_next d.log.next ≡ true → Works old new → OneProgram old new → FinishesRoot d then_drive old new
   finishes_root may repeats works program =
@@ -182,11 +190,8 @@ module _ (d : Parts) (log' : LogState) (pool' : Blocks) (old new : BoardState) (
 
 fails_root : (d : Parts) (old new : BoardState) → SettleBreaks (index_of d) old new → repeats_next d.log.next ≡ true → (shape : Shape) (m : Map) → StandsBetween d shape old.pages m
     → Goes shape old new (CrashFinds shape background old.pages m)
-fails_root d old new breaks repeats shape m s =
-    let P : Shape → Type 0 = λ t. StandsBetween d t old.pages m → Goes t old new (CrashFinds t background old.pages m) in
-    subst P s.with.shape_is (λ there.
-    let h = half_here d old.pages m there repeats in
-    breaks (frames_of d) h.top h.found m (may_settle d old.pages m h)) s
+fails_root d old new breaks repeats = on_own_shape d old.pages (λ t m. Goes t old new (CrashFinds t background old.pages m)) (λ m there.
+    let h = root_here d old.pages m there repeats in breaks (frames_of d) h.top h.found m (may_settle d old.pages m h))
 
 -- ---- by the answer
 

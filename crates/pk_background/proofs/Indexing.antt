@@ -1,6 +1,6 @@
 -- A step of the jobs moves the index of a drive, and leaves its values where they are.
-use Rattle.std.proofs.Common.{◌≡◌, inl, inr, ℕ, ◌/◌, ◌<◌, sym, ap, subst, ◌∙◌, false, List, [], length}
-use Rattle.pk_base.{specs.Entry.Entry, specs.Entry.Place, specs.Key.Key, specs.Page.Flash, specs.Map.Map}
+use Rattle.std.proofs.Common.{◌≡◌, inl, inr, ℕ, ◌/◌, ◌<◌, sym, subst, ◌∙◌, false, List, [], length}
+use Rattle.pk_base.{specs.Entry.Entry, specs.Entry.Place, specs.Key.Key, specs.Shape.Shape, specs.Page.Flash, specs.Map.Map}
 use Rattle.pk_rootfmt.specs.Root.{Root}
 use Rattle.pk_nand.{specs.BoardState.BoardState, specs.Calls.IsReady}
 use Rattle.pk_model.specs.Found.{Found}
@@ -8,7 +8,9 @@ use Rattle.pk_law_steps.specs.Under.{IsUnder, IsValuePage, places}
 use Rattle.pk_scan.specs.Used.{IsUseOf}
 use Rattle.pk_values.{specs.Placed.ValuesOnFlash, proofs.Unchanged.ValuesOnFlash-kept}
 use Rattle.pk_pool.specs.Blocks.{Blocks, freed}
-use Rattle.pk_schedule.{specs.Index.Index, specs.Index.IndexOnFlash, specs.Index.IsSettled, specs.Index.settled, specs.Steps.MayWork, specs.Steps.IndexMoves}
+use Rattle.pk_pin.specs.Frames.{Frames}
+use Rattle.pk_level.specs.Levels.{Levels}
+use Rattle.pk_schedule.{specs.Index.Index, specs.Index.IndexOnFlash, specs.Index.Schedule, specs.Index.index, specs.Index.IsSettled, specs.Index.settled, specs.Steps.MayWork, specs.Steps.IndexMoves}
 use Rattle.pk_gc.specs.Standing.{ReclaimOnFlash}
 use Rattle.pk_parts.{specs.Parts.Parts, specs.Parts.frames_of, specs.Parts.index_of, specs.Parts.outputs_of, specs.Parts.settled_parts, proofs.Reclaiming.reclaim_elsewhere}
 use Rattle.pk_parts.specs.Agreeing.{DriveOnFlashWith, IsWhole, IsHalfAtMost}
@@ -16,6 +18,24 @@ use Rattle.pk_parts.specs.Agreeing.{DriveOnFlashWith, IsWhole, IsHalfAtMost}
 -- the drive with another index
 abbrev pub with_index : Parts → Index → Parts
 with_index d x = record d { log = x.log; levels = x.levels; arena = x.arena; pool = x.pool; schedule = x.schedule }
+
+-- the drive agrees with the flash with other runs and jobs, and another page of the reclaim, if its index and its reclaim do
+pub agrees_like : (d : Parts) (levels : Levels) (arena : Frames) (schedule : Schedule) (page : List ℕ) (shape : Shape) (flash : Flash) (top : ℕ × Root) (found : Found) (without all : Map)
+    → DriveOnFlashWith d shape flash top found without all → IndexOnFlash (index d.log levels arena d.pool schedule) (length arena.used) flash top found
+    → ReclaimOnFlash shape (record d.reclaim { page = page }) d.values.live d.pool flash (places found d.log.pending)
+    → DriveOnFlashWith (record d { levels = levels; arena = arena; schedule = schedule; reclaim = record d.reclaim { page = page } }) shape flash top found without all
+agrees_like d levels arena schedule page shape flash top found without all with its_index its_reclaim = record {
+  shape_is = with.shape_is;
+  is_flash = with.is_flash;
+  index = its_index;
+  committed = with.committed;
+  pending = with.pending;
+  placed = with.placed;
+  former = with.former;
+  former_read = with.former_read;
+  reclaim = its_reclaim;
+  uses = with.uses;
+}
 
 module _ (d : Parts) (flash : Flash) (top : ℕ × Root) (found : Found) (without all : Map) (a : DriveOnFlashWith d d.log.shape flash top found without all) (none : d.log.pending ≡ []) where
   -- with nothing pending the index may make a step, for the map of the drive

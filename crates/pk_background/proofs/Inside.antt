@@ -1,15 +1,15 @@
 -- Steps of merges and of a freeze inside a command: each keeps the map.
-use Rattle.std.proofs.Common.{◌≡◌, ◌⊎◌, inl, inr, ℕ, zero, suc, ◌+◌, ◌-◌, ◌<◌, ◌≤◌, refl, sym, ap, subst, ◌∙◌, arith, Bool, true, false, List, [], length, Option, Some, None, Result, Ok, Err}
+use Rattle.std.proofs.Common.{◌≡◌, ◌⊎◌, inl, inr, ℕ, zero, suc, ◌+◌, ◌-◌, ◌<◌, ◌≤◌, refl, sym, ap, subst, ◌∙◌, arith, Bool, true, false, [], length, Option, Some, None, Result, Ok, Err}
 use Rattle.std.specs.Prelude.{IfSome, OnOk, OnErr}
 use Rattle.pk_base.{specs.Shape.Shape, specs.Page.Flash, specs.Page.page_at, specs.Map.Map}
 use Rattle.pk_nand.{specs.declared.types.Fault.Fault, specs.declared.types.Fault.TheVariants.Reading, specs.declared.types.Fault.TheVariants.Stopped, specs.BoardState.BoardState}
-use Rattle.pk_nand.{specs.Calls.IsReady, specs.Calls.Rose, specs.Calls.last_count, proofs.Reaching.Reached-start, proofs.Writing.shape_is}
+use Rattle.pk_nand.{specs.Calls.IsReady, specs.Calls.Rose, specs.Calls.last_count, proofs.Writing.shape_is}
 use Rattle.pk_nand.specs.Effects.{AtMostOneCall, NoFault, OnlyFlash, OnlyReading, Works, Stops, made_no_call, made_read, made_program, made_erase}
 use Rattle.pk_rootfmt.{specs.Root.Root, specs.Newest.newest_root}
 use Rattle.pk_model.{specs.Found.Found, specs.Reading.reading, specs.Growth.Goes, specs.Crashes.CrashFinds, specs.Crashes.background, specs.Crashes.commit}
-use Rattle.pk_model.{specs.Wear.root_number, specs.Wear.roots, proofs.Growing.weaken, proofs.Growing.weaken_went}
+use Rattle.pk_model.{specs.Wear.root_number, specs.Wear.roots}
 use Rattle.pk_law_steps.{specs.Under.places, proofs.Untouched.under_reads}
-use Rattle.pk_root.{specs.declared.next.Next.Next, specs.declared.next.Next.TheVariants.Erase, specs.declared.next.Next.TheVariants.Program, specs.declared.next.Next.TheVariants.Again}
+use Rattle.pk_root.{specs.declared.next.Next.Next, specs.declared.next.Next.TheVariants.Erase}
 use Rattle.pk_root.specs.Installing.{repeats_next}
 use Rattle.pk_plan.specs.declared.owner.Owner.TheVariants.{Values}
 use Rattle.pk_pool.specs.Blocks.{used_by}
@@ -23,11 +23,12 @@ use Rattle.pk_log.specs.State.{LogState}
 use Rattle.pk_jrn.specs.Epochs.{JournalEpoch}
 use Rattle.pk_law_work.{specs.Backlog.due_level, specs.Work.merging_left, specs.Work.merging_from}
 use Rattle.pk_parts.{specs.Parts.Parts, specs.Parts.frames_of, specs.Parts.index_of, specs.Parts.outputs_of, specs.Agreeing.DriveOnFlashWith, specs.Staying.Stays, proofs.Standing.same_found}
-use Rattle.pk_parts.specs.Moves.{StandsFor, Keeps, KeepsAll, KeepsBetween, KeepsAllBetween, BreaksAll, LeavesValues}
+use Rattle.pk_parts.specs.Moves.{StandsFor, StandsBetween, Keeps, KeepsAll, KeepsBetween, KeepsAllBetween, BreaksAll, LeavesValues}
 use Rattle.pk_parts.{proofs.Halves.counted_index, proofs.Halves.whole_like, proofs.Keeping.KeepsAll-none, proofs.Keeping.keeps_between, proofs.Staying.stays_same}
 use Rattle.pk_background.specs.Reclaiming.{ReclaimHolds, HoldsAll, FailsAll}
 use Rattle.pk_background.specs.Emptying.{Came, ReadsUpTo, OnRunning, MayEmpty, MergesOnce, FreezesOnce, merges_left, merges_due}
-use Rattle.pk_background.proofs.Indexing.{with_index, may_work as may_work_with, moved_with, moved_course}
+use Rattle.pk_background.proofs.Indexing.{with_index, may_work as may_work_with, agrees_like, moved_with, moved_course}
+use Rattle.pk_background.{proofs.ReadSteps.read_cuts, proofs.ReadSteps.running_says, proofs.SameMaps.commit_cuts, proofs.SameMaps.breaks_failed, proofs.Steps.leaves_none}
 
 -- ---- what a step asks
 
@@ -60,114 +61,78 @@ module _ (d : Parts) (old : BoardState) (may : MayEmpty d old) where
   pub some_freeze : has_no_merge (index_of d) ≡ true → (frames : ℕ) × (top : ℕ × Root) × (found : Found) × (m : Map) × MayFreeze (index_of d) frames old.pages top found m
   some_freeze none = let some = may.may.stands in (frames_of d, some.1.top, some.1.found, some.0, record { may = may_work some.0 some.1; none_merges = none })
 
+  -- no pair of a root is half made before, so that a step of a freeze is not a second program
+  pub freeze_first : (done : Bool) (r : Result Bool Fault) → r ≡ Ok done → done ≡ repeats_next d.log.next → r ≡ Ok false
+  freeze_first done r is turn = is ∙ ap Ok (turn ∙ may.may.stands.1.whole.settles.whole)
+
+  pub freeze_breaks : (new : BoardState) → has_no_merge (index_of d) ≡ true → FreezeBreaks (index_of d) old new → Breaks (index_of d) old new
+  freeze_breaks new none breaks frames top found m ok = breaks frames top found m (inl (record { may = ok; none_merges = none }))
+
   -- ---- the map
 
-  commit_cut : (m : Map) (flash : Flash) (posted : List ℕ) → CrashFinds d.log.shape background old.pages m flash posted → CrashFinds d.log.shape commit old.pages m flash posted
-  commit_cut m flash posted cut = (cut.0, inr cut.1)
-
   -- what holds on the drive's own shape holds on each one that it has
-  on_own_shape : (e : Parts) (new : BoardState) → ((m : Map) → Here m → Keeps d e d.log.shape m old new) → KeepsAll d e old new
-  on_own_shape e new keeps shape m stands =
-      let P : Shape → Type 0 = λ s. StandsFor d s old.pages m → Keeps d e s m old new in
-      subst P stands.with.shape_is (keeps m) stands
+  on_own_shape : (P : Shape → Map → Type 0) → ((m : Map) → Here m → P d.log.shape m) → (shape : Shape) (m : Map) → StandsFor d shape old.pages m → P shape m
+  on_own_shape P holds shape m stands = let Q : Shape → Type 0 = λ s. StandsFor d s old.pages m → P s m in subst Q stands.with.shape_is (holds m) stands
 
-  -- the same if a pair may be half made
-  on_own_between : (e : Parts) (new : BoardState) → ((m : Map) → Here m → KeepsBetween d e d.log.shape m old new) → KeepsAllBetween d e old new
-  on_own_between e new keeps shape m stands =
-      let P : Shape → Type 0 = λ s. StandsFor d s old.pages m → KeepsBetween d e s m old new in
-      subst P stands.with.shape_is (keeps m) stands
+  module _ (x : Index) (new : BoardState) (ready : IsReady new d.log.shape) (epoch : x.log.epoch.half ≡ false) (moves : Moves (index_of d) old x new) where
+    moved_is : (m : Map) (there : Here m) → IndexMoves (index_of d) (frames_of d) old there.found m x new
+    moved_is m there = moves (frames_of d) there.top there.found m (may_work m there)
 
-  -- wherever it is cut
-  pub moved_holds : (x : Index) (new : BoardState) → IsReady new d.log.shape → x.log.epoch.half ≡ false → Moves (index_of d) old x new → HoldsAll d (with_index d x) old new
-  moved_holds x new ready epoch moves shape m stands =
-      let P : Shape → Type 0 = λ s. StandsFor d s old.pages m → ReclaimHolds (with_index d x) s m old new in
-      subst P stands.with.shape_is (λ there.
-      let is = moves (frames_of d) there.top there.found m (may_work m there) in
-      record {
-        stands = record {
+    abbrev moved_stands : (m : Map) (there : Here m) → StandsBetween (with_index d x) d.log.shape new.pages m
+    moved_stands m there =
+        let is = moved_is m there in
+        record {
           top = is.then_top;
           found = is.then_found;
           without = m;
           with = moved_with d old new there.top there.found there.without m there.with may.none_pending x ready is;
           course = moved_course d old new there.top there.found there.without m there.with may.none_pending x ready is there.whole epoch;
-        };
-        cuts = is.cuts;
-      }) stands
+        }
+
+    -- wherever it is cut
+    pub moved_holds : HoldsAll d (with_index d x) old new
+    moved_holds = on_own_shape (λ s m. ReclaimHolds (with_index d x) s m old new) (λ m there. record { stands = moved_stands m there; cuts = (moved_is m there).cuts })
+
+    pub moved_keeps : KeepsAllBetween d (with_index d x) old new
+    moved_keeps = on_own_shape (λ s m. KeepsBetween d (with_index d x) s m old new) (λ m there.
+        let is = moved_is m there in
+        record {
+          stands = moved_stands m there;
+          same_places = λ was.
+              ap (places is.then_found) is.none_pending
+              ∙ is.same_places
+              ∙ ap (λ (f : Found). places f []) (same_found d d.log.shape old.pages m was there)
+              ∙ sym (ap (places was.found) may.none_pending);
+          still = inr (under_reads d.log.shape new.pages [] is.then_top is.then_found m is.under);
+          cuts = commit_cuts d.log.shape m old new is.cuts;
+        })
 
   pub broken_fails : (new : BoardState) → Breaks (index_of d) old new → FailsAll d old new
-  broken_fails new breaks shape m stands =
-      let P : Shape → Type 0 = λ s. StandsFor d s old.pages m → Goes s old new (CrashFinds s background old.pages m) in
-      subst P stands.with.shape_is (λ there. breaks (frames_of d) there.top there.found m (may_work m there)) stands
-
-  pub moved_keeps : (x : Index) (new : BoardState) → IsReady new d.log.shape → x.log.epoch.half ≡ false → Moves (index_of d) old x new → KeepsAllBetween d (with_index d x) old new
-  moved_keeps x new ready epoch moves = on_own_between (with_index d x) new (λ m there.
-      let is = moves (frames_of d) there.top there.found m (may_work m there) in
-      let run = is.cuts in
-      record {
-        stands = record {
-          top = is.then_top;
-          found = is.then_found;
-          without = m;
-          with = moved_with d old new there.top there.found there.without m there.with may.none_pending x ready is;
-          course = moved_course d old new there.top there.found there.without m there.with may.none_pending x ready is there.whole epoch;
-        };
-        same_places = λ was.
-            ap (places is.then_found) is.none_pending
-            ∙ is.same_places
-            ∙ ap (λ (f : Found). places f []) (same_found d d.log.shape old.pages m was there)
-            ∙ sym (ap (places was.found) may.none_pending);
-        still = inr (under_reads d.log.shape new.pages [] is.then_top is.then_found m is.under);
-        cuts = (run.0, weaken run.0 old new (CrashFinds d.log.shape background old.pages m) (CrashFinds d.log.shape commit old.pages m) (commit_cut m) run.1, run.2);
-      })
-
-  pub broken_breaks : (new : BoardState) → Breaks (index_of d) old new → BreaksAll d old new
-  broken_breaks new breaks shape m stands =
-      let P : Shape → Type 0 = λ s. StandsFor d s old.pages m → Goes s old new (CrashFinds s commit old.pages m) in
-      subst P stands.with.shape_is (λ there.
-      let run = breaks (frames_of d) there.top there.found m (may_work m there) in
-      (run.0, weaken_went run.0 old new (CrashFinds d.log.shape background old.pages m) (CrashFinds d.log.shape commit old.pages m) (commit_cut m) run.1, run.2)) stands
+  broken_fails new breaks = on_own_shape (λ s m. Goes s old new (CrashFinds s background old.pages m)) (λ m there. breaks (frames_of d) there.top there.found m (may_work m there))
 
   -- a read failed: of the schedule alone something differs
   abbrev pub with_job : Index → Parts
   with_job x = record d { schedule = record d.schedule { job = x.schedule.job } }
 
   pub still_keeps : (x : Index) (new : BoardState) → Unmoved (index_of d) x → OnlyReading old new → StandsStill (index_of d) old x new → KeepsAll d (with_index d x) old new
-  still_keeps x new unmoved read_only still = on_own_shape (with_index d x) new (λ m there.
-      let w = there.with in
+  still_keeps x new unmoved read_only still =
       let same : new.pages ≡ old.pages = ap (λ (b : BoardState). b.pages) read_only in
-      let here : with_index d x ≡ with_job x = ap (with_index d) unmoved.rest in
-      let D : Flash → Type 0 = λ f. DriveOnFlashWith (with_job x) d.log.shape f there.top there.found there.without m in
-      let agrees : D old.pages = record {
-        shape_is = refl;
-        is_flash = w.is_flash;
-        index =
-            let I : Index → Flash → Type 0 = λ y f. IndexOnFlash y (frames_of d) f there.top there.found in
-            subst (λ y. I y old.pages) unmoved.rest (subst (λ f. I x f) same (still (frames_of d) there.top there.found m (may_work m there)));
-        committed = w.committed;
-        pending = w.pending;
-        placed = w.placed;
-        former = w.former;
-        former_read = w.former_read;
-        reclaim = w.reclaim;
-        uses = w.uses;
-      } in
-      let K : Parts → Type 0 = λ e. Keeps d e d.log.shape m old new in
-      subst K (sym here) (record {
+      on_own_shape (λ s m. Keeps d (with_index d x) s m old new) (λ m there.
+      let I : Index → Flash → Type 0 = λ y f. IndexOnFlash y (frames_of d) f there.top there.found in
+      let its_index = subst (λ y. I y old.pages) unmoved.rest (subst (λ f. I x f) same (still (frames_of d) there.top there.found m (may_work m there))) in
+      let agrees = agrees_like d d.levels d.arena (record d.schedule { job = x.schedule.job }) d.reclaim.page d.log.shape old.pages there.top there.found there.without m there.with its_index
+      there.with.reclaim in
+      subst (λ (e : Parts). Keeps d e d.log.shape m old new) (sym (ap (with_index d) unmoved.rest)) (record {
         stands = record {
           top = there.top;
           found = there.found;
           without = there.without;
-          with = subst D (sym same) agrees;
+          with = subst (λ (f : Flash). DriveOnFlashWith (with_job x) d.log.shape f there.top there.found there.without m) (sym same) agrees;
           whole = whole_like d (with_job x) refl (λ none. none) refl refl there.whole;
         };
         same_places = λ was. ap (λ (f : Found). places f d.log.pending) (same_found d d.log.shape old.pages m was there);
         still = inl (ap (λ (f : Flash). reading d.log.shape f []) same);
-        cuts = (
-          [],
-          Reached-start old new (CrashFinds d.log.shape commit old.pages m) (ap (λ (b : BoardState). b.shape) read_only) same
-              (ap (λ (b : BoardState). b.trail) read_only) (ap (λ (b : BoardState). b.posted) read_only) (refl, inl refl),
-          tt,
-        );
+        cuts = read_cuts d.log.shape (CrashFinds d.log.shape commit old.pages m) old new read_only (refl, inl refl);
       }))
 
 -- ---- the board
@@ -182,8 +147,7 @@ one_call old new few (made_erase (same, p, e)) = record { up = omega (arith, sam
 
 installs_some : (next : Next) → 1 ≤ install_steps next
 installs_some (Erase beside) = omega arith
-installs_some (Program page) = omega arith
-installs_some (Again page) = omega arith
+installs_some next = omega arith
 
 -- a merge that runs has steps left
 running_some : (phase : Phase) (x : Index) → IfSome (merge_left phase x) (λ left. 1 ≤ left)
@@ -266,21 +230,9 @@ module _ (d : Parts) (old : BoardState) (may : MayEmpty d old) (x : Index) (new 
     blocks = record { used = ap (λ (n : ℕ). n - length (outputs_of d)) (moved_many moves); open_same = refl };
   }
 
-  -- the same index
-  same_leaves : x ≡ index_of d → LeavesValues d its
-  same_leaves same = let L : Index → Type 0 = λ y. LeavesValues d (with_index d y) in subst L (sym same) (record { rest = refl; frames = refl; same_shape = refl; as_many = refl })
-
-  same_stays : x ≡ index_of d → Stays d its
-  same_stays same = stays_same d its (ap (with_index d) same)
-
-  -- of the schedule alone something differs
-  still_leaves : Unmoved (index_of d) x → LeavesValues d its
-  still_leaves unmoved = let L : Index → Type 0 = λ y. LeavesValues d (with_index d y) in subst L (sym unmoved.rest) (record { rest = refl; frames = refl; same_shape = refl; as_many = refl })
-
-  still_stays : Unmoved (index_of d) x → Stays d its
-  still_stays unmoved =
-      let S : Index → Type 0 = λ y. Stays d (with_index d y) in
-      subst S (sym unmoved.rest) (record { fresh = record { stays = λ e. e; begun = inl refl }; blocks = record { used = refl; open_same = refl } })
+  -- what else is unchanged if the index is this one
+  unchanged : (y : Index) → x ≡ y → LeavesValues d (with_index d y) → Stays d (with_index d y) → LeavesValues d its × Stays d its
+  unchanged y same leaves stays = subst (λ (z : Index). LeavesValues d (with_index d z) × Stays d (with_index d z)) (sym same) (leaves, stays)
 
   merge_came : (r : Result Stepped Fault) → MergeStep (index_of d) old x new r → old.read_faults ≤ last_count
       → Came (λ (s : Stepped). KeepsAllBetween d its old new) (KeepsAll d its old new) (BreaksAll d old new) old new r
@@ -294,19 +246,15 @@ module _ (d : Parts) (old : BoardState) (may : MayEmpty d old) (x : Index) (new 
       )
   merge_came (Err Stopped) step few =
       let broken = step.broken refl in
-      (broken_breaks d old may new broken.0, record { flash = broken.1.flash; stop = broken.1.stop; read = broken.1.read })
+      (breaks_failed d old new (broken_fails d old may new broken.0), record { flash = broken.1.flash; stop = broken.1.stop; read = broken.1.read })
 
-  merge_leaves : (r : Result Stepped Fault) → MergeStep (index_of d) old x new r → OnRunning (LeavesValues d its) r
-  merge_leaves (Ok Idle) step = same_leaves (step.idle refl).1
-  merge_leaves (Ok Worked) step = moved_leaves (same_shape step.active) (step.moves refl)
-  merge_leaves (Err Reading) step = still_leaves (step.unmoved refl).0
-  merge_leaves (Err Stopped) step = tt
-
-  merge_stays : (r : Result Stepped Fault) → MergeStep (index_of d) old x new r → OnRunning (Stays d its) r
-  merge_stays (Ok Idle) step = same_stays (step.idle refl).1
-  merge_stays (Ok Worked) step = moved_stays (same_epoch step.active) (step.moves refl)
-  merge_stays (Err Reading) step = still_stays (step.unmoved refl).0
-  merge_stays (Err Stopped) step = tt
+  merge_keeps : (r : Result Stepped Fault) → MergeStep (index_of d) old x new r → OnRunning (LeavesValues d its × Stays d its) r
+  merge_keeps (Ok Idle) step = unchanged (index_of d) (step.idle refl).1 (leaves_none d) (stays_same d d refl)
+  merge_keeps (Ok Worked) step = (moved_leaves (same_shape step.active) (step.moves refl), moved_stays (same_epoch step.active) (step.moves refl))
+  merge_keeps (Err Reading) step =
+      unchanged (record (index_of d) { schedule = record d.schedule { job = x.schedule.job } }) (step.unmoved refl).0.rest (record { rest = refl; frames = refl; same_shape = refl; as_many = refl })
+      (record { fresh = record { stays = λ e. e; begun = inl refl }; blocks = record { used = refl; open_same = refl } })
+  merge_keeps (Err Stopped) step = tt
 
   -- ---- what remained if a call failed
 
@@ -334,32 +282,23 @@ module _ (d : Parts) (old : BoardState) (may : MayEmpty d old) (x : Index) (new 
   abbrev due_of : Index → ℕ
   due_of y = due_level d.log.shape (backlog_of y)
 
-  worked_due : MergeStep (index_of d) old x new (Ok Worked) → roots new + due_of x ≤ roots old + merges_due d
-  worked_due step =
+  merge_due : (r : Result Stepped Fault) → MergeStep (index_of d) old x new r → OnOk r (roots new + merges_due its ≤ roots old + merges_due d)
+  merge_due (Ok Idle) step =
+      let idle = step.idle refl in
+      let board : roots new ≡ roots old = ap roots idle.2 in
+      let due : merges_due its ≡ merges_due d = ap (λ (y : Index). merges_due (with_index d y)) idle.1 in
+      omega (arith, board, due)
+  merge_due (Ok Worked) step =
       let same = same_shape step.active in
       let was = was_number in
       let is = its_number step.ready same (step.moves refl) in
       let less = (its_less (step.less refl)).roots in
-      omega (arith, was, is, less)
-
-  idle_due : MergeStep (index_of d) old x new (Ok Idle) → roots new + due_of x ≤ roots old + merges_due d
-  idle_due step =
-      let idle = step.idle refl in
-      let board : roots new ≡ roots old = ap roots idle.2 in
-      let due : due_of x ≡ merges_due d = ap due_of idle.1 in
-      omega (arith, board, due)
-
-  on_shape : x.log.shape ≡ d.log.shape → roots new + due_of x ≤ roots old + merges_due d → roots new + merges_due its ≤ roots old + merges_due d
-  on_shape same few = subst (λ (s : Shape). roots new + due_level s (backlog_of x) ≤ roots old + merges_due d) (sym same) few
-
-  merge_due : (r : Result Stepped Fault) → MergeStep (index_of d) old x new r → OnOk r (roots new + merges_due its ≤ roots old + merges_due d)
-  merge_due (Ok Idle) step = on_shape (same_shape step.active) (idle_due step)
-  merge_due (Ok Worked) step = on_shape (same_shape step.active) (worked_due step)
+      let few : roots new + due_of x ≤ roots old + merges_due d = omega (arith, was, is, less) in
+      subst (λ (s : Shape). roots new + due_level s (backlog_of x) ≤ roots old + merges_due d) (sym same) few
   merge_due (Err e) step = tt
 
   merge_installs : (r : Result Stepped Fault) → MergeStep (index_of d) old x new r → roots new ≤ roots old + merges_due d
-  merge_installs (Ok Idle) step = let few = idle_due step in omega (arith, few)
-  merge_installs (Ok Worked) step = let few = worked_due step in omega (arith, few)
+  merge_installs (Ok s) step = let few : roots new + merges_due its ≤ roots old + merges_due d = merge_due (Ok s) step in omega (arith, few)
   merge_installs (Err e) step =
       let due : 1 ≤ merges_due d = some_due (index_of d) (frames_of d) old.pages some.1.top some.1.found some.1.with.index step.running in
       omega (arith, step.installs, due)
@@ -382,8 +321,8 @@ module _ (d : Parts) (old : BoardState) (may : MayEmpty d old) (x : Index) (new 
     installs = merge_installs r step;
     due = merge_due r step;
     none_pending = ap (λ (l : LogState). l.pending) step.active ∙ may.none_pending;
-    leaves = merge_leaves r step;
-    stays = merge_stays r step;
+    leaves = running_says (LeavesValues d its × Stays d its) (LeavesValues d its) r (λ both. both.0) (merge_keeps r step);
+    stays = running_says (LeavesValues d its × Stays d its) (Stays d its) r (λ both. both.1) (merge_keeps r step);
   }
 
   -- ---- a step of a freeze
@@ -404,13 +343,6 @@ module _ (d : Parts) (old : BoardState) (may : MayEmpty d old) (x : Index) (new 
   freeze_root : IsReady new d.log.shape → x.log.shape ≡ d.log.shape → Moves (index_of d) old x new → FreezeDone → repeats_next x.log.next ≡ false → roots new ≡ roots old
   freeze_root ready same moves (inl on) whole = its_number ready same moves ∙ ap (λ (l : LogState). l.root.number) on.log ∙ sym was_number
   freeze_root ready same moves (inr done) whole = absurd (let clash : true ≡ false = sym done.half ∙ whole in let z : ⊥ = cc in z)
-
-  -- no pair of a root is half made before, so that the step was not a second program
-  pub freeze_first : (done : Bool) (r : Result Bool Fault) → r ≡ Ok done → done ≡ repeats_next d.log.next → r ≡ Ok false
-  freeze_first done r is turn = is ∙ ap Ok (turn ∙ some.1.whole.settles.whole)
-
-  pub freeze_breaks : has_no_merge (index_of d) ≡ true → FreezeBreaks (index_of d) old new → Breaks (index_of d) old new
-  freeze_breaks none breaks frames top found m ok = breaks frames top found m (inl (record { may = ok; none_merges = none }))
 
   pub freeze_went : Moves (index_of d) old x new → FreezeDone → (x.log.shape ≡ d.log.shape) × (x.log.pending ≡ d.log.pending)
       → Works old new → AtMostOneCall old new → roots new ≤ roots old + 1 → IsReady new d.log.shape
@@ -439,7 +371,7 @@ module _ (d : Parts) (old : BoardState) (may : MayEmpty d old) (x : Index) (new 
   freeze_failed fault same stopped broken stops calls few ready = record {
     step = record {
       ended = tt;
-      broken = broken_breaks d old may new broken;
+      broken = breaks_failed d old new (broken_fails d old may new broken);
       works = tt;
       stops = stops;
       stopped = stopped;

@@ -27,6 +27,5 @@ pub mod Ending
 pub mod Whole
 pub mod Pairs
 pub mod HalfTicks
-pub mod Completing
 pub mod Beside
 pub mod Halted

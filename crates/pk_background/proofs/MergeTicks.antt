@@ -7,7 +7,7 @@ use Rattle.pk_model.specs.Wear.{roots}
 use Rattle.pk_law_work.specs.Work.{work}
 use Rattle.pk_call.specs.declared.types.Ticked.TheVariants.{Worked as Goes, Fault as Fails}
 use Rattle.pk_schedule.{specs.declared.phase.Stepped.Stepped, specs.declared.phase.Stepped.TheVariants.Worked, specs.declared.phase.Stepped.TheVariants.Idle, specs.Index.Index}
-use Rattle.pk_schedule.specs.Steps.{Moves, Breaks, Unmoved, backlog_of as backlog_of_index, has_no_merge, is_between}
+use Rattle.pk_schedule.specs.Steps.{Moves, Unmoved, backlog_of as backlog_of_index, has_no_merge, is_between}
 use Rattle.pk_parts.{specs.Parts.Parts, specs.Parts.frames_of, specs.Parts.index_of, specs.Parts.sight_of, specs.Parts.backlog_of, specs.Parts.may_freeze, specs.Parts.is_half, specs.Moves.StandsFor}
 use Rattle.pk_parts.{proofs.Unchanging.agrees_ready, proofs.Staying.stays_frees}
 use Rattle.pk_background.{specs.Emptying.MayEmpty, specs.Emptying.MergesOnce, specs.Emptying.FreezesOnce, specs.Reclaiming.FailsAll, proofs.Indexing.with_index, proofs.Advancing.busy_merge}
@@ -79,9 +79,6 @@ module _ (d : Parts) (old : BoardState) (may : MayEmpty d old) (x : Index) (new 
             freeze_less d x merged some.1.whole.settles.whole (freeze_wanted d wants) freezes
             (moved_many d old may x new moves) is.same_shape some.1.with.index.logs.is_shape is.stands.logs.epoch_shape;
       }
-
-  pub freeze_fails : Breaks (index_of d) old new → FailsAll d old new
-  freeze_fails breaks = broken_fails d old may new breaks
 
 -- ---- made by a Tick
 

@@ -1,15 +1,15 @@
 -- Steps of which one may fail by a read: one after another, and what else is said of them.
-use Rattle.std.proofs.Common.{◌≡◌, ℕ, ◌+◌, ◌≤◌, refl, ◌∙◌, arith, Result, Ok, Err}
+use Rattle.std.proofs.Common.{◌≡◌, ℕ, ◌+◌, ◌≤◌, refl, ap, ◌∙◌, arith, List, [], Result, Ok, Err}
 use Rattle.std.specs.Prelude.{IfErr, OnOk}
-use Rattle.pk_base.specs.Shape.{Shape}
+use Rattle.pk_base.{specs.Shape.Shape, specs.Page.Flash}
 use Rattle.pk_nand.{specs.declared.types.Fault.Fault, specs.declared.types.Fault.TheVariants.Reading, specs.declared.types.Fault.TheVariants.Stopped, specs.BoardState.BoardState, specs.Calls.IsReady}
-use Rattle.pk_nand.{specs.Effects.OnlyFlash, specs.Effects.NoFault, proofs.Effects.only_then, proofs.Effects.rose_from}
-use Rattle.pk_model.{specs.Wear.roots, specs.Steps.Step, proofs.Steps.RootsUpTo-le}
+use Rattle.pk_nand.{specs.Effects.OnlyFlash, specs.Effects.OnlyReading, specs.Effects.NoFault, proofs.Effects.only_then, proofs.Effects.rose_from, proofs.Reaching.Reached-start}
+use Rattle.pk_model.{specs.Growth.Reaches, specs.Wear.roots, specs.Steps.Step, proofs.Steps.RootsUpTo-le}
 use Rattle.pk_background.specs.Emptying.{Unread, Halts, Came, ReadsUpTo, StepOrRead, OnRunning}
 
 -- ---- the board
 
-no_fault_then : (a b c : BoardState) → NoFault a b → NoFault b c → NoFault a c
+pub no_fault_then : (a b c : BoardState) → NoFault a b → NoFault b c → NoFault a c
 no_fault_then a b c first second = (second.0 ∙ first.0, second.1 ∙ first.1, second.2 ∙ first.2, second.3 ∙ first.3)
 
 unread_behind : (a b c : BoardState) → NoFault a b → Unread b c → Unread a c
@@ -20,8 +20,16 @@ unread_behind a b c first second = record {
   no_stop = second.no_stop ∙ first.2;
 }
 
-halts_behind : (a b c : BoardState) → NoFault a b → Halts b c → Halts a c
+pub halts_behind : (a b c : BoardState) → NoFault a b → Halts b c → Halts a c
 halts_behind a b c first second = record { flash = rose_from first.0 second.flash; stop = rose_from first.2 second.stop; read = second.read ∙ first.1 }
+
+-- after reads alone the flash is what it was
+pub read_cuts : (shape : Shape) (P : Flash → List ℕ → Type 0) (old new : BoardState) → OnlyReading old new → P old.pages [] → Reaches shape old new P
+read_cuts shape P old new only is = (
+  [],
+  Reached-start old new P (ap (λ (b : BoardState). b.shape) only) (ap (λ (b : BoardState). b.pages) only) (ap (λ (b : BoardState). b.trail) only) (ap (λ (b : BoardState). b.posted) only) is,
+  tt,
+)
 
 -- ---- what is said otherwise
 
@@ -91,6 +99,17 @@ reads_nothing (Err Stopped) E K B shape n old new step =
 pub reading_end : {T : Type 0} (x : T) (E : T → Type 0) (K B : Type 0) (shape : Shape) (n : ℕ) (old new : BoardState)
     → Passes n old new → IsReady new shape → E x → StepOrRead E K B shape n old new (Ok x)
 reading_end x E K B shape n old new passes ready ended = record { came = (ended, passes.no_fault); rest = passes.rest; reads = passes.reads; roots_few = passes.roots_few; ready = ready }
+
+-- as a part of what was to be done
+pub reading_within : {T : Type 0} {r : Result T Fault} {E : T → Type 0} {K B : Type 0} {shape : Shape} {n : ℕ} (most : ℕ) {old new : BoardState} → n ≤ most
+    → StepOrRead E K B shape n old new r → StepOrRead E K B shape most old new r
+reading_within most few step = record {
+  came = step.came;
+  rest = step.rest;
+  reads = (let read = step.reads.few in record { up = step.reads.up; few = omega (arith, few, read) });
+  roots_few = (let most_roots = step.roots_few in omega (arith, few, most_roots));
+  ready = step.ready;
+}
 
 -- it failed, as a part of what was to be done
 pub reading_failed : {T U : Type 0} (e : Fault) (E : T → Type 0) (E' : U → Type 0) (K K' B B' : Type 0) (shape : Shape) (n most : ℕ) (old new : BoardState) → n ≤ most → (K → K') → (B → B')

@@ -6,27 +6,20 @@ use Rattle.pk_plan.specs.declared.owner.Owner.TheVariants.{Values}
 use Rattle.pk_pool.specs.Blocks.{used_by, IsShared}
 use Rattle.pk_nand.{specs.BoardState.BoardState, specs.Calls.IsReady, specs.Effects.AtMostOneCall, specs.Effects.NoFault, specs.Effects.OnlyFlash, specs.Effects.Stops}
 use Rattle.pk_model.{specs.Growth.Grows, specs.Wear.roots}
-use Rattle.pk_call.{specs.declared.types.Ticked.Ticked, specs.declared.types.Ticked.TheVariants.Worked, specs.declared.types.Ticked.TheVariants.Fault, specs.Sight.IsIdle}
-use Rattle.pk_gc.{specs.declared.reclaimed.Reclaimed.Reclaimed, specs.declared.reclaimed.Reclaimed.TheVariants.Worked as GoesOn, specs.declared.reclaimed.Reclaimed.TheVariants.Ended}
+use Rattle.pk_call.{specs.declared.types.Ticked.TheVariants.Worked, specs.declared.types.Ticked.TheVariants.Fault, specs.Sight.IsIdle}
+use Rattle.pk_gc.{specs.declared.reclaimed.Reclaimed.TheVariants.Worked as GoesOn, specs.declared.reclaimed.Reclaimed.TheVariants.Ended}
 use Rattle.pk_gc.{specs.declared.course.Phase.Phase, specs.Standing.held_blocks, specs.Stepping.runs_in}
-use Rattle.pk_gc.specs.declared.course.Phase.TheVariants.{Idle, Copies, Commits, GivesBack}
-use Rattle.pk_schedule.specs.Steps.{has_no_merge}
-use Rattle.pk_parts.specs.Parts.{Parts, counts_of, index_of, sight_of, is_reclaim_due, may_freeze, has_moves, is_half}
+use Rattle.pk_gc.specs.declared.course.Phase.TheVariants.{Idle}
+use Rattle.pk_parts.specs.Parts.{Parts, counts_of, sight_of, is_reclaim_due, may_freeze, has_moves, is_half}
 use Rattle.pk_parts.{specs.Moves.StandsFor, proofs.Unchanging.agrees_ready}
 use Rattle.pk_background.specs.Reclaiming.{MayReclaim, ReclaimHolds, Lessens, DoesReclaim, Waits, CannotRead, FailsAll, is_tight_for}
 use Rattle.pk_background.{specs.Ticking.MayTick, specs.Ticking.Advances, specs.Ticking.WantsReclaim, specs.Ticking.WantsFreeze, proofs.SpaceSteps.leaves_stay, proofs.SpaceSteps.unread_stays}
 use Rattle.pk_background.{proofs.Stored.blocks_between, proofs.Stored.blocks_at, proofs.Ticking.busy_reclaim, proofs.ReclaimWork.worked_less, proofs.ReclaimWork.ended_less}
 use Rattle.pk_background.proofs.TickSteps.{its_whole, whole_fails, made_advances, unread_advances, stop_advances}
 
-true_false : true ≡ false → ⊥
-true_false e = cc
-
-false_true : false ≡ true → ⊥
-false_true e = cc
-
 and_left : (x y : Bool) → (x && y) ≡ true → x ≡ true
 and_left true y e = refl
-and_left false y e = absurd (false_true e)
+and_left false y e = absurd (not_both false e refl)
 
 -- ---- when it may be made
 
@@ -35,9 +28,7 @@ due_blocks d due = eqb-true (counts_of d).blocks (data_blocks d.log.shape - 1) (
 
 turn_at : (p : Phase) (used all : ℕ) → used - length (held_blocks p) ≡ all → (runs_in p ≡ true) ⊎ (used ≡ all)
 turn_at Idle used all is = inr (omega (arith, is))
-turn_at (Copies c) used all is = inl refl
-turn_at (Commits victim) used all is = inl refl
-turn_at (GivesBack victim) used all is = inl refl
+turn_at p used all is = inl refl
 
 turn_of : (d : Parts) → WantsReclaim d → (runs_in d.reclaim.phase ≡ true) ⊎ (used_by Values d.pool.states ≡ data_blocks d.log.shape - 1)
 turn_of d (inl runs) = inl runs
@@ -80,15 +71,11 @@ module _ (d : Parts) (old : BoardState) (m : MayTick d old) (none_half : is_half
         made_advances d old m d' new ready calls rest installs no_pair no_pair grows (busy shared) none there sound stays.frames stays.stopped
         (record { fresh = stays.fresh; no_more = omega (arith, most, least) }) (omega (arith, number)) less
 
-    pub goes_on : (d' : Parts) (x : Reclaimed) → x ≡ GoesOn → DoesReclaim d d' old new x → d'.log.pending ≡ [] → NoFault old new → IsShared d.pool.shape d.pool.states → Advances d d' old new Worked
-    goes_on d' x is does none sound shared =
-        let made = subst (λ y. DoesReclaim d d' old new y) is does in
-        worked_advances d' made.0 none sound shared (worked_less d d' made.0.leaves wants made.0.falls made.1)
+    pub goes_on : (d' : Parts) → DoesReclaim d d' old new GoesOn → d'.log.pending ≡ [] → NoFault old new → IsShared d.pool.shape d.pool.states → Advances d d' old new Worked
+    goes_on d' made none sound shared = worked_advances d' made.0 none sound shared (worked_less d d' made.0.leaves wants made.0.falls made.1)
 
-    pub ends_so : (d' : Parts) (x : Reclaimed) → x ≡ Ended → DoesReclaim d d' old new x → d'.log.pending ≡ [] → NoFault old new → IsShared d.pool.shape d.pool.states → Advances d d' old new Worked
-    ends_so d' x is does none sound shared =
-        let made = subst (λ y. DoesReclaim d d' old new y) is does in
-        worked_advances d' made.0 none sound shared (ended_less d d' made.0.leaves wants made.0.falls made.1.idle made.1.given made.1.from)
+    pub ends_so : (d' : Parts) → DoesReclaim d d' old new Ended → d'.log.pending ≡ [] → NoFault old new → IsShared d.pool.shape d.pool.states → Advances d d' old new Worked
+    ends_so d' made none sound shared = worked_advances d' made.0 none sound shared (ended_less d d' made.0.leaves wants made.0.falls made.1.idle made.1.given made.1.from)
 
     pub unread_so : (d' : Parts) → CannotRead d d' old new → IsShared d.pool.shape d.pool.states → Advances d d' old new (Fault false)
     unread_so d' unread shared =
@@ -105,17 +92,8 @@ module _ (d : Parts) (old : BoardState) (m : MayTick d old) (none_half : is_half
 
   -- ---- one that needs a freeze
 
-  pub waits_may : (d' : Parts) (new : BoardState) → Waits d d' old new → MayTick d' new
-  waits_may d' new waits = subst (λ (e : Parts). MayTick e new) (sym waits.same) (subst (λ (b : BoardState). MayTick d b) (sym waits.board) m)
-
-  pub waits_merged : (d' : Parts) (new : BoardState) → Waits d d' old new → has_no_merge (index_of d) ≡ true → has_no_merge (index_of d') ≡ true
-  waits_merged d' new waits merged = ap (λ (e : Parts). has_no_merge (index_of e)) waits.same ∙ merged
-
   pub waits_wanted : (d' : Parts) (new : BoardState) → Waits d d' old new → WantsFreeze d'
   waits_wanted d' new waits =
       let runs : runs_in d.reclaim.phase ≡ true = ap runs_in waits.copies in
       let may : may_freeze d ≡ true = ap (λ p. has_moves (is_reclaim_due d) p && is_tight_for d) waits.copies ∙ waits.tight in
       subst WantsFreeze (sym waits.same) (inr (runs, may))
-
-  pub waits_advances : (d' e : Parts) (new later : BoardState) (answer : Ticked) → Waits d d' old new → Advances d' e new later answer → Advances d e old later answer
-  waits_advances d' e new later answer waits made = subst (λ (b : BoardState). Advances d e b later answer) waits.board (subst (λ (x : Parts). Advances x e new later answer) waits.same made)

@@ -1,7 +1,7 @@
 -- A step of a reclaim lowers the remaining work.
 use Rattle.std.proofs.Common.{◌≡◌, ◌⊎◌, inl, inr, ℕ, ◌+◌, ◌-◌, ◌<◌, Bool, true, false, List, length, refl, sym, ap, subst, ◌∙◌, arith, nat_le}
 use Rattle.std.{specs.Prelude.◌&&◌, specs.Prelude.◌==◌, specs.Prelude.not, proofs.lemmas.Bool.le-leb, proofs.lemmas.Bool.eqb-true}
-use Rattle.pk_base.{specs.Shape.data_blocks, specs.Shape.most_pages, specs.Entry.Entry}
+use Rattle.pk_base.{specs.Shape.data_blocks, specs.Shape.most_pages, specs.Entry.Entry, proofs.Logic.not_both}
 use Rattle.pk_plan.specs.declared.owner.Owner.TheVariants.{Values}
 use Rattle.pk_pool.{specs.Blocks.Blocks, specs.Blocks.used_by, specs.Unready.unready}
 use Rattle.pk_law_work.{specs.Rest.whole_reclaim, specs.Rest.Lowers, specs.Work.reclaiming, specs.Work.reclaiming_from, proofs.Lowering.reclaims}
@@ -10,19 +10,12 @@ use Rattle.pk_gc.specs.declared.course.Phase.TheVariants.{Idle, Copies, Commits,
 use Rattle.pk_log.specs.State.{LogState}
 use Rattle.pk_values.specs.State.{fits_open}
 use Rattle.pk_schedule.{specs.declared.phase.Phase.Phase as MergePhase, specs.Index.Index, specs.Steps.merge_left}
-use Rattle.pk_schedule.specs.declared.phase.Phase.TheVariants.{Idle as NoMerge, Running, Ready}
+use Rattle.pk_schedule.specs.declared.phase.Phase.TheVariants.{Idle as NoMerge}
 use Rattle.pk_parts.specs.Parts.{Parts, index_of, sight_of, counts_of, backlog_of, is_reclaim_due, reclaim_left, has_moves, may_freeze}
 use Rattle.pk_reclaim.{specs.Space.HasRoom as HasSpace, specs.Steps.RoomBehind}
-use Rattle.pk_background.{specs.Reclaiming.LeavesIndex, specs.Reclaiming.RunsOn, specs.Reclaiming.is_tight_for, specs.Reclaiming.space_of, proofs.Spacing.FallsTo}
-
-false_true : false ≡ true → ⊥
-false_true e = cc
+use Rattle.pk_background.{specs.Reclaiming.LeavesIndex, specs.Reclaiming.RunsOn, specs.Reclaiming.is_tight_for, specs.Reclaiming.space_of, proofs.Spacing.FallsTo, proofs.Spacing.and_true, proofs.Spacing.tight_same}
 
 -- ---- whether a further reclaim is due
-
-both : (x : Bool) → (x && true) ≡ x
-both true = refl
-both false = refl
 
 -- if every value has room, none is
 not_due_at : (d : Parts) (b : Bool) → ((counts_of d).blocks == data_blocks d.log.shape - 1) ≡ b → HasSpace (space_of d) → (b && not (fits_open d.log.shape d.values (most_pages d.log.shape))) ≡ false
@@ -30,7 +23,7 @@ not_due_at d false e values = refl
 not_due_at d true e values =
     let all = eqb-true (counts_of d).blocks (data_blocks d.log.shape - 1) e in
     let full : nat_le (data_blocks d.log.shape - 1) (used_by Values d.pool.states) ≡ true = le-leb (data_blocks d.log.shape - 1) (used_by Values d.pool.states) (omega (arith, all)) in
-    sym (both (not (fits_open d.log.shape d.values (most_pages d.log.shape))))
+    sym (and_true (not (fits_open d.log.shape d.values (most_pages d.log.shape))))
     ∙ (ap (λ x. not (fits_open d.log.shape d.values (most_pages d.log.shape)) && x) (sym full) ∙ values (most_pages d.log.shape) (omega arith))
 
 space_not_due : (d : Parts) → HasSpace (space_of d) → is_reclaim_due d ≡ false
@@ -57,56 +50,40 @@ Less p due b q due' c = Lowers (rest_at p due b) (unready b.pool.states) (rest_a
 abbrev may_at : Phase → Bool → Parts → Bool
 may_at p due d = has_moves due p && is_tight_for d
 
-tight_same : (b c : Parts) → c.log ≡ b.log → is_tight_for c ≡ is_tight_for b
-tight_same b c same = ap (λ (l : LogState). is_tight_for (record b { log = l })) same
-
 module _ (b c : Parts) (due due' : Bool) where
   abbrev Wants : Phase → Type 0
   Wants p = (runs_in p ≡ true) ⊎ (due ≡ true)
 
   works_lower : (p q : Phase) → Wants p → FallsTo p b q c → RunsOn q b c → (HasSpace (space_of c) → due' ≡ false) → Less p due b q due' c
   works_lower p Idle wants falls on none = absurd on
-  works_lower Idle (Copies d) (inl runs) falls on none = absurd (false_true runs)
-  works_lower Idle (Copies d) (inr is) falls on none = subst (λ x. Less Idle x b (Copies d) due' c) (sym is) (record { none_ready = falls.none_ready; less = falls.less })
+  works_lower Idle q (inl runs) falls on none = absurd (not_both false runs refl)
+  works_lower Idle (Copies d) (inr is) falls on none = rw is (record { none_ready = falls.none_ready; less = falls.less })
   works_lower (Copies e) (Copies d) wants falls on none = record { none_ready = falls.none_ready; less = falls.less }
-  works_lower (Commits victim) (Copies d) wants falls on none = let less = falls.less in let ready = falls.none_ready in absurd (omega (arith, less, ready))
-  works_lower (GivesBack victim) (Copies d) wants falls on none = let less = falls.less in let ready = falls.none_ready in absurd (omega (arith, less, ready))
-  works_lower Idle (Commits other) (inl runs) falls on none = absurd (false_true runs)
-  works_lower Idle (Commits other) (inr is) falls on none =
-      subst (λ x. Less Idle x b (Commits other) due' c) (sym is) (subst (λ y. Less Idle true b (Commits other) y c) (sym (none on)) (record { none_ready = falls.none_ready; less = falls.less }))
-  works_lower (Copies e) (Commits other) wants falls on none = subst (λ y. Less (Copies e) due b (Commits other) y c) (sym (none on)) (record { none_ready = falls.none_ready; less = falls.less })
-  works_lower (Commits victim) (Commits other) wants falls on none = let less = falls.less in let ready = falls.none_ready in absurd (omega (arith, less, ready))
-  works_lower (GivesBack victim) (Commits other) wants falls on none = let less = falls.less in let ready = falls.none_ready in absurd (omega (arith, less, ready))
-  works_lower Idle (GivesBack other) (inl runs) falls on none = absurd (false_true runs)
-  works_lower Idle (GivesBack other) (inr is) falls on none =
-      subst (λ x. Less Idle x b (GivesBack other) due' c) (sym is) (subst (λ y. Less Idle true b (GivesBack other) y c) (sym (none on)) (record { none_ready = falls.none_ready; less = falls.less }))
-  works_lower (Copies e) (GivesBack other) wants falls on none = subst (λ y. Less (Copies e) due b (GivesBack other) y c) (sym (none on)) (record { none_ready = falls.none_ready; less = falls.less })
-  works_lower (Commits victim) (GivesBack other) wants falls on none = subst (λ y. Less (Commits victim) due b (GivesBack other) y c) (sym (none on)) (by due)
+  works_lower Idle (Commits other) (inr is) falls on none = rw (is, none on) (record { none_ready = falls.none_ready; less = falls.less })
+  works_lower (Copies e) (Commits other) wants falls on none = rw (none on) (record { none_ready = falls.none_ready; less = falls.less })
+  works_lower Idle (GivesBack other) (inr is) falls on none = rw (is, none on) (record { none_ready = falls.none_ready; less = falls.less })
+  works_lower (Copies e) (GivesBack other) wants falls on none = rw (none on) (record { none_ready = falls.none_ready; less = falls.less })
+  works_lower (Commits victim) (GivesBack other) wants falls on none = rw (none on) (by due)
     where
       by : (x : Bool) → Less (Commits victim) x b (GivesBack other) false c
-      by true =
-          let less = falls.less in
-          let ready = falls.none_ready in
-          record { none_ready = ready; less = omega (arith, less, ready) }
+      by true = record { none_ready = falls.none_ready; less = omega (arith, falls.less, falls.none_ready) }
       by false = record { none_ready = falls.none_ready; less = falls.less }
-  works_lower (GivesBack victim) (GivesBack other) wants falls on none = let less = falls.less in let ready = falls.none_ready in absurd (omega (arith, less, ready))
+  works_lower p q wants falls on none = absurd (omega (arith, falls.less, falls.none_ready))
 
   works_may : (p q : Phase) → Wants p → FallsTo p b q c → RunsOn q b c → (HasSpace (space_of c) → due' ≡ false) → may_at q due' c ≡ true → may_at p due b ≡ true
   works_may p Idle wants falls on none may = absurd on
-  works_may Idle (Copies d) (inl runs) falls on none may = absurd (false_true runs)
+  works_may Idle (Copies d) (inl runs) falls on none may = absurd (not_both false runs refl)
   works_may Idle (Copies d) (inr is) falls on none may = ap (λ x. x && is_tight_for b) is ∙ (sym (tight_same b c on) ∙ may)
   works_may (Copies e) (Copies d) wants falls on none may = sym (tight_same b c on) ∙ may
-  works_may (Commits victim) (Copies d) wants falls on none may = let less = falls.less in let ready = falls.none_ready in absurd (omega (arith, less, ready))
-  works_may (GivesBack victim) (Copies d) wants falls on none may = let less = falls.less in let ready = falls.none_ready in absurd (omega (arith, less, ready))
-  works_may p (Commits other) wants falls on none may = absurd (false_true (sym (ap (λ x. x && is_tight_for c) (none on)) ∙ may))
-  works_may p (GivesBack other) wants falls on none may = absurd (false_true (sym (ap (λ x. x && is_tight_for c) (none on)) ∙ may))
+  works_may p (Commits other) wants falls on none may = absurd (not_both false (sym (ap (λ x. x && is_tight_for c) (none on)) ∙ may) refl)
+  works_may p (GivesBack other) wants falls on none may = absurd (not_both false (sym (ap (λ x. x && is_tight_for c) (none on)) ∙ may) refl)
+  works_may p q wants falls on none may = absurd (omega (arith, falls.less, falls.none_ready))
 
   ends_lower : (p : Phase) → Wants p → FallsTo p b Idle c → RoomBehind p (space_of b) (space_of c) → (HasSpace (space_of c) → due' ≡ false)
       → ((runs_in p ≡ true) → c.log ≡ b.log → c.values ≡ b.values → due' ≡ due) → Less p due b Idle due' c
-  ends_lower Idle (inl runs) falls from none same = absurd (false_true runs)
-  ends_lower Idle (inr is) falls from none same =
-      subst (λ x. Less Idle x b Idle due' c) (sym is) (subst (λ y. Less Idle true b Idle y c) (sym (none from)) (record { none_ready = falls.none_ready; less = falls.less }))
-  ends_lower (Copies e) wants falls from none same = subst (λ y. Less (Copies e) due b Idle y c) (sym (none from)) (record { none_ready = falls.none_ready; less = falls.less })
+  ends_lower Idle (inl runs) falls from none same = absurd (not_both false runs refl)
+  ends_lower Idle (inr is) falls from none same = rw (is, none from) (record { none_ready = falls.none_ready; less = falls.less })
+  ends_lower (Copies e) wants falls from none same = rw (none from) (record { none_ready = falls.none_ready; less = falls.less })
   ends_lower (Commits victim) wants falls from none same = absurd from
   ends_lower (GivesBack victim) wants falls from none same =
       let shapes : c.log.shape ≡ b.log.shape = ap (λ (l : LogState). l.shape) from.0 in
@@ -114,18 +91,15 @@ module _ (b c : Parts) (due due' : Bool) where
     where
       by : (x : Bool) → c.log.shape ≡ b.log.shape → Less (GivesBack victim) x b Idle x c
       by true shapes =
-          let less = falls.less in
-          let ready = falls.none_ready in
           let whole : whole_reclaim c.log.shape ≡ whole_reclaim b.log.shape = ap whole_reclaim shapes in
-          record { none_ready = ready; less = omega (arith, less, ready, whole) }
+          record { none_ready = falls.none_ready; less = omega (arith, falls.less, falls.none_ready, whole) }
       by false shapes = record { none_ready = falls.none_ready; less = falls.less }
 
   ends_may : (p : Phase) → RoomBehind p (space_of b) (space_of c) → (HasSpace (space_of c) → due' ≡ false)
       → ((runs_in p ≡ true) → c.log ≡ b.log → c.values ≡ b.values → due' ≡ due) → may_at Idle due' c ≡ true → may_at p due b ≡ true
-  ends_may Idle from none same may = absurd (false_true (sym (ap (λ x. x && is_tight_for c) (none from)) ∙ may))
-  ends_may (Copies e) from none same may = absurd (false_true (sym (ap (λ x. x && is_tight_for c) (none from)) ∙ may))
   ends_may (Commits victim) from none same may = absurd from
   ends_may (GivesBack victim) from none same may = (λ i. sym (same refl from.0 from.1) i && sym (tight_same b c from.0) i) ∙ may
+  ends_may p from none same may = absurd (not_both false (sym (ap (λ x. x && is_tight_for c) (none from)) ∙ may) refl)
 
 -- ---- the work
 
@@ -133,8 +107,7 @@ module _ (b c : Parts) (due due' : Bool) where
 merge_beside : (p : MergePhase) (x : Index) (es : List Entry) (used : ℕ) (half : Bool) (q : Blocks)
     → merge_left p (record x { log = record x.log { active = record x.log.active { entries = es }; epoch = record x.log.epoch { used = used; half = half } }; pool = q }) ≡ merge_left p x
 merge_beside NoMerge x es used half q = refl
-merge_beside (Running level) x es used half q = refl
-merge_beside (Ready level) x es used half q = refl
+merge_beside p x es used half q = refl
 
 module _ (b c : Parts) (leaves : LeavesIndex b c) where
   abbrev later : Parts
@@ -167,10 +140,8 @@ module _ (b c : Parts) (leaves : LeavesIndex b c) where
       (works_lower b c (is_reclaim_due b) (is_reclaim_due c) b.reclaim.phase c.reclaim.phase wants falls on (space_not_due c))
 
   held_one : (p : Phase) → runs_in p ≡ true → length (held_blocks p) ≡ 1
-  held_one Idle runs = absurd (false_true runs)
-  held_one (Copies d) runs = refl
-  held_one (Commits victim) runs = refl
-  held_one (GivesBack victim) runs = refl
+  held_one Idle runs = absurd (not_both false runs refl)
+  held_one p runs = refl
 
   pub ended_less : (runs_in b.reclaim.phase ≡ true) ⊎ (is_reclaim_due b ≡ true) → FallsTo b.reclaim.phase b c.reclaim.phase c
       → c.reclaim.phase ≡ Idle → used_by Values c.pool.states + 1 ≡ used_by Values b.pool.states

@@ -1,7 +1,7 @@
 -- A step of a reclaim, stated for the drive.
 use Rattle.std.proofs.Common.{◌≡◌, inl, inr, ℕ, ◌/◌, [], List, refl, sym, ◌∙◌, ap, subst, true, false, Some, Result, Ok, Err}
 use Rattle.std.{specs.Prelude.slice_get, specs.Prelude.IfOk, specs.Prelude.IfErr, specs.Prelude.◌++◌, specs.List.concat}
-use Rattle.pk_base.{specs.Shape.Shape, specs.Shape.IsShape, specs.Page.Flash, specs.Page.IsFlash, specs.Entry.Entry, specs.Entry.Place, specs.Key.Key, specs.Map.Map}
+use Rattle.pk_base.{specs.Shape.Shape, specs.Shape.IsShape, specs.Page.Flash, specs.Page.IsFlash, specs.Entry.Entry, specs.Entry.Place, specs.Key.Key, specs.Map.Map, proofs.Logic.not_both}
 use Rattle.pk_rootfmt.specs.Root.{Root}
 use Rattle.pk_plan.specs.declared.owner.Owner.TheVariants.{Journal, Meta}
 use Rattle.pk_pool.{specs.declared.state.BlockState.TheVariants.Owned, specs.Blocks.Blocks, specs.Blocks.NoneLeaves, specs.Blocks.PoolOnFlash}
@@ -11,7 +11,7 @@ use Rattle.pk_nand.specs.Calls.{IsReady}
 use Rattle.pk_model.{specs.Found.Found, specs.Laws.AnyByRecursion, specs.Growth.Reaches, specs.Growth.Goes, specs.Crashes.CrashFinds, specs.Crashes.background, proofs.SamePages.any_front}
 use Rattle.pk_law_steps.specs.Under.{IsUnder, places}
 use Rattle.pk_gc.{specs.Stepping.runs_in, specs.Standing.held_blocks, specs.Standing.ReclaimOnFlash, specs.declared.course.Phase.Phase, specs.declared.reclaimed.Reclaimed.Reclaimed}
-use Rattle.pk_gc.specs.declared.course.Phase.TheVariants.{Idle, Copies, Commits, GivesBack}
+use Rattle.pk_gc.specs.declared.course.Phase.TheVariants.{Idle, Copies, Commits}
 use Rattle.pk_gc.specs.declared.reclaimed.Reclaimed.TheVariants.{Worked, NeedsFreeze, Ended}
 use Rattle.pk_scan.specs.Used.{IsUseOf}
 use Rattle.pk_parts.{proofs.Using.use_elsewhere, specs.Parts.Parts, specs.Parts.frames_of, specs.Parts.index_of, specs.Parts.outputs_of, specs.Parts.commits_in, specs.Moves.StandsFor}
@@ -25,6 +25,7 @@ use Rattle.pk_reclaim.specs.Space as spaces
 use Rattle.pk_reclaim.{specs.Space.ReclaimParts, specs.Space.SpaceOnFlash, specs.Space.HalfIn, specs.Steps.SpaceMoves, specs.Steps.KeepsLog, specs.Steps.KeepsOthers, specs.Steps.with_newest}
 use Rattle.pk_reclaim.specs.Steps as steps
 use Rattle.pk_background.specs.Reclaiming.{MayReclaim, HoldsAll, FailsAll, LeavesIndex, Lessens, RunsOn, DoesReclaim, CannotRead, FailsReclaim, space_of}
+use Rattle.pk_background.proofs.Indexing.{agrees_like}
 
 -- ---- the space of a drive
 
@@ -55,24 +56,13 @@ module _ (d : Parts) (shape : Shape) (flash : Flash) (top : ℕ × Root) (found 
 whole_in : (d : Parts) (flash : Flash) (top : ℕ × Root) (found : Found) (m : Map) → IsWhole d → HalfIn d.reclaim.phase (space_of d) flash top found m
 whole_in d flash top found m whole = half_in d.reclaim.phase (space_of d) flash top found m whole.moves whole.epoch
 
--- it may make a step of a reclaim
-pub may_reclaim : (d : Parts) (board : BoardState) (may : MayReclaim d board) → (top : ℕ × Root) × (found : Found) × (m : Map) × spaces.MayReclaim (space_of d) board.pages top found m
-may_reclaim d board may =
-    let s = may.may.stands.1 in (
-      s.top,
-      s.found,
-      may.may.stands.0,
-      record {
-        stands = space_stands d d.log.shape board.pages s.top s.found s.without may.may.stands.0 may.none_pending s.with
-            (whole_in d board.pages s.top s.found may.may.stands.0 s.whole) s.whole.settles.none_leaves;
-        turn = may.turn;
-      },
-    )
-
--- for each map that it represents
+-- it may make a step of a reclaim, for each map that it represents
 pub may_for : (d : Parts) (board : BoardState) (shape : Shape) (m : Map) → MayReclaim d board → (s : StandsFor d shape board.pages m) → spaces.MayReclaim (space_of d) board.pages s.top s.found m
 may_for d board shape m may s =
     record { stands = space_stands d shape board.pages s.top s.found s.without m may.none_pending s.with (whole_in d board.pages s.top s.found m s.whole) s.whole.settles.none_leaves; turn = may.turn }
+
+pub may_reclaim : (d : Parts) (board : BoardState) (may : MayReclaim d board) → (top : ℕ × Root) × (found : Found) × (m : Map) × spaces.MayReclaim (space_of d) board.pages top found m
+may_reclaim d board may = let s = may.may.stands in (s.1.top, s.1.found, s.0, may_for d board d.log.shape s.0 may s.1)
 
 -- ---- the index after a step
 
@@ -167,10 +157,8 @@ module _ (d : Parts) (x' : ReclaimParts) (keeps : KeepsLog (space_of d) x') (fla
   settles_then = record { whole = ap (λ (l : LogState). repeats_next l.next) keeps ∙ was; none_leaves = stands.none_leaves }
 
   course_at : (p : Phase) → x'.job.phase ≡ p → HalfIn p x' flash top found m → IsHalfAtMost (over_space d x') flash top found m
-  course_at Idle is half = inl (record { settles = settles_then; moves = ap commits_in is; epoch = half })
-  course_at (Copies c) is half = inl (record { settles = settles_then; moves = ap commits_in is; epoch = half })
   course_at (Commits victim) is half = inr (inr (record { settles = settles_then; victim = victim; phase = is; half = half; none_pending = stands.none_pending }))
-  course_at (GivesBack victim) is half = inl (record { settles = settles_then; moves = ap commits_in is; epoch = half })
+  course_at p is half = inl (record { settles = settles_then; moves = ap commits_in is; epoch = half })
 
   pub course_then : IsHalfAtMost (over_space d x') flash top found m
   course_then = course_at x'.job.phase refl stands.half
@@ -200,18 +188,14 @@ fails_all d old new may breaks shape m was =
 
 -- ---- by the answer
 
-false_true : false ≡ true → ⊥
-false_true e = cc
-
 module _ (d : Parts) (x' : ReclaimParts) (old new : BoardState) (may : MayReclaim d old) (keeps : KeepsLog (space_of d) x') (ready : IsReady new d.log.shape) where
   lessens : steps.ReclaimMoves (space_of d) old x' new → spaces.Falls (space_of d) x' → Lessens d (over_space d x') old new
   lessens moves falls = record { holds = holds_all d x' old new may keeps ready moves; leaves = leaves_index d x' keeps; falls = falls }
 
   runs_on : (p : Phase) → runs_in p ≡ true → steps.RoomIn p x' → steps.LogIn p (space_of d) x' → RunsOn p d (over_space d x')
-  runs_on Idle runs room same = false_true runs
+  runs_on Idle runs room same = not_both false runs refl
   runs_on (Copies c) runs room same = same
-  runs_on (Commits victim) runs room same = room
-  runs_on (GivesBack victim) runs room same = room
+  runs_on p runs room same = room
 
   pub does_reclaim : (r : Reclaimed) → steps.Does (space_of d) old x' new r → DoesReclaim d (over_space d x') old new r
   does_reclaim Worked w = (lessens w.moves w.falls, runs_on x'.job.phase w.runs w.room w.log)
@@ -230,31 +214,12 @@ module _ (d : Parts) (x' : ReclaimParts) (old new : BoardState) (may : MayReclai
 
 -- ---- a read failed
 
-module _ (d : Parts) (page : List ℕ) (flash : Flash) where
-  -- the drive with another page between a read and a program
-  abbrev with_page : Parts
-  with_page = record d { reclaim = record d.reclaim { page = page } }
-
-  with_again : (shape : Shape) (top : ℕ × Root) (found : Found) (without m : Map) → DriveOnFlashWith d shape flash top found without m
-      → ReclaimOnFlash shape (record d.reclaim { page = page }) d.values.live d.pool flash (places found d.log.pending) → DriveOnFlashWith with_page shape flash top found without m
-  with_again shape top found without m with reclaim = record {
-    shape_is = with.shape_is;
-    is_flash = with.is_flash;
-    index = with.index;
-    committed = with.committed;
-    pending = with.pending;
-    placed = with.placed;
-    former = with.former;
-    former_read = with.former_read;
-    reclaim = reclaim;
-    uses = with.uses;
-  }
-
 pub cannot_read : (d : Parts) (x' : ReclaimParts) (old new : BoardState) → MayReclaim d old → steps.Unread (space_of d) old x' new → CannotRead d (over_space d x') old new
 cannot_read d x' old new may u =
     let page : List ℕ = x'.job.page in
     let pages : new.pages ≡ old.pages = ap (λ (b : BoardState). b.pages) u.only in
-    let is : over_space d x' ≡ with_page d page old.pages = ap (over_space d) u.rest in
+    let later : Parts = record d { reclaim = record d.reclaim { page = page } } in
+    let is : over_space d x' ≡ later = ap (over_space d) u.rest in
     record {
       rest = is;
       stands = λ shape m was.
@@ -269,8 +234,8 @@ cannot_read d x' old new may u =
             top = was.top;
             found = was.found;
             without = was.without;
-            with = with_again d page old.pages shape was.top was.found was.without m was.with reclaim;
-            whole = whole_like d (with_page d page old.pages) refl (λ none. none) refl refl was.whole;
+            with = agrees_like d d.levels d.arena d.schedule page shape old.pages was.top was.found was.without m was.with was.with.index reclaim;
+            whole = whole_like d later refl (λ none. none) refl refl was.whole;
           });
       only = u.only;
       read = u.read;

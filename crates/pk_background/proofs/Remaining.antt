@@ -2,26 +2,22 @@
 use Rattle.std.proofs.Common.{◌≡◌, ◌⊎◌, inl, inr, ℕ, ◌+◌, ◌-◌, ◌<◌, ◌≤◌, refl, sym, ap, subst, ◌∙◌, arith, Bool, true, false, cond, length, Option, Some, None}
 use Rattle.std.specs.Prelude.{◌==◌, ◌&&◌, ◌||◌, if◌then◌else◌, nat_lt, is_none, map}
 use Rattle.std.proofs.lemmas.Bool.Decides.{nat_tests}
-use Rattle.pk_base.{specs.Shape.Shape, specs.Shape.IsShape, specs.Shape.buffer, specs.Shape.dense, specs.Shape.epoch_commits, proofs.ZeroLemmas.some_is_not_zero}
+use Rattle.pk_base.{specs.Shape.Shape, specs.Shape.IsShape, specs.Shape.buffer, specs.Shape.dense, specs.Shape.epoch_commits, proofs.Logic.not_both, proofs.ZeroLemmas.some_is_not_zero}
 use Rattle.pk_plan.specs.declared.owner.Owner.TheVariants.{Values as for_values}
 use Rattle.pk_pool.{specs.Blocks.used_by, specs.Unready.unready}
 use Rattle.pk_jrn.specs.Epochs.{left_of as pages_left}
 use Rattle.pk_law_work.{specs.Backlog.Backlog, specs.Backlog.is_tight, specs.Backlog.due_level, specs.Rest.Lowers, specs.Rest.left_of, specs.Rest.whole_freeze}
 use Rattle.pk_law_work.specs.Work.{work, after_freeze, merging, merging_from, filling, filling_from, freezing_from, reclaiming, reclaiming_from}
 use Rattle.pk_law_work.proofs.Lowering.{freeze_moves, freeze_ends}
-use Rattle.pk_root.{specs.declared.next.Next.Next, specs.declared.next.Next.TheVariants.Erase, specs.declared.next.Next.TheVariants.Program, specs.declared.next.Next.TheVariants.Again}
+use Rattle.pk_root.{specs.declared.next.Next.Next, specs.declared.next.Next.TheVariants.Erase}
 use Rattle.pk_root.specs.Installing.{repeats_next}
 use Rattle.pk_compact.{specs.declared.freezing.FreezeJob.FreezeJob, specs.FreezeSteps.taken_by, specs.FreezeSteps.freeze_left, specs.FreezeSteps.install_steps}
 use Rattle.pk_log.specs.State.{LogState}
 use Rattle.pk_level.specs.Arenas.{unfilled}
-use Rattle.pk_schedule.{specs.declared.phase.Phase.Phase, specs.declared.phase.Phase.TheVariants.Idle, specs.declared.phase.Phase.TheVariants.Running, specs.declared.phase.Phase.TheVariants.Ready}
 use Rattle.pk_schedule.specs.Index.{Index}
 use Rattle.pk_schedule.specs.Steps.{FreezeMoves, Freezes, KeepsActive, backlog_of as backlog_of_index, merge_left, freeze_rest_of, has_no_merge, is_between}
 use Rattle.pk_parts.specs.Parts.{Parts, index_of, sight_of, backlog_of, is_reclaim_due, reclaim_left, has_moves, may_freeze}
-use Rattle.pk_background.{specs.Ticking.WantsFreeze, proofs.Ticking.no_merge_is, proofs.Ticking.due_so, proofs.Indexing.with_index}
-
-false_true : false ≡ true → ⊥
-false_true e = cc
+use Rattle.pk_background.{specs.Ticking.WantsFreeze, proofs.Ticking.no_merge_is, proofs.Ticking.none_left, proofs.Ticking.due_so, proofs.Indexing.with_index}
 
 some_none : (left : ℕ) → ◌≡◌ {A = Option ℕ} (Some left) None → ⊥
 some_none left e = cc
@@ -96,12 +92,6 @@ module _ (d : Parts) (x' : Index) (many : used_by for_values x'.pool.states ≡ 
 
 -- ---- a step of a freeze
 
--- no merge has steps left if none runs
-none_left : (p : Phase) (x : Index) → is_between p ≡ true → merge_left p x ≡ None
-none_left Idle x e = refl
-none_left (Running level) x e = absurd (false_true e)
-none_left (Ready level) x e = absurd (false_true e)
-
 -- a freeze that has taken a block has steps left
 freeze_some_left : (job : FreezeJob) (next : Next) → (length (taken_by job) == 0) ≡ false → freeze_rest_of job next ≡ Some (freeze_left job next)
 freeze_some_left job next e = ap (λ b. cond b None (Some (freeze_left job next))) e
@@ -109,8 +99,7 @@ freeze_some_left job next e = ap (λ b. cond b None (Some (freeze_left job next)
 -- an install is made in three steps at most
 install_few : (next : Next) → (1 ≤ install_steps next) × (install_steps next ≤ 3)
 install_few (Erase beside) = (omega arith, omega arith)
-install_few (Program page) = (omega arith, omega arith)
-install_few (Again page) = (omega arith, omega arith)
+install_few next = (omega arith, omega arith)
 
 -- no more remains than of a whole freeze, which remains if none has begun
 left_least : (job : FreezeJob) (next : Next) → freeze_left job next ≤ left_of whole_freeze (freeze_rest_of job next)
@@ -217,7 +206,7 @@ module _ (d : Parts) (x' : Index) (merged : has_no_merge (index_of d) ≡ true) 
     where
       fresh_left : (takes_more : Bool) (n used : ℕ) → takes_more ≡ true → used ≡ 0 → 0 < n → 0 < (if takes_more then n - used else 0)
       fresh_left true n used takes unused some = omega (arith, unused, some)
-      fresh_left false n used takes unused some = absurd (false_true takes)
+      fresh_left false n used takes unused some = absurd (not_both false takes refl)
 
 -- a required freeze runs, or may be needed
 pub freeze_wanted : (d : Parts) → WantsFreeze d → freeze_rest_of d.schedule.freeze d.log.next ≡ None → may_freeze d ≡ true

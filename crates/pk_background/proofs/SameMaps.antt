@@ -1,15 +1,16 @@
 -- Steps one after another, each of which keeps the map, but not the places of its values.
-use Rattle.std.proofs.Common.{◌≡◌, inl, inr, ℕ, ◌+◌, ◌≤◌, List, [], ◌++◌, Some, Result, Ok, Err, false, refl, sym, ap, subst, ◌∙◌, arith}
+use Rattle.std.proofs.Common.{◌≡◌, inl, inr, ℕ, ◌+◌, ◌≤◌, List, [], ◌++◌, Some, Result, Ok, false, refl, sym, ap, subst, ◌∙◌, arith}
 use Rattle.pk_base.{specs.Shape.Shape, specs.Page.Flash, specs.Map.Map, specs.Mark.all_posted}
-use Rattle.pk_nand.{specs.declared.types.Fault.Fault, specs.BoardState.BoardState, specs.Calls.IsReady, specs.Crash.ReachedBy, proofs.Reaching.Reached-start}
-use Rattle.pk_model.{specs.Reading.reading, specs.Growth.Goes, specs.Crashes.CrashFinds, specs.Crashes.background, specs.Crashes.commit}
+use Rattle.pk_nand.{specs.declared.types.Fault.Fault, specs.BoardState.BoardState, specs.Calls.IsReady}
+use Rattle.pk_model.{specs.Reading.reading, specs.Found.Found, specs.Growth.Reaches, specs.Growth.Goes, specs.Crashes.CrashFinds, specs.Crashes.background, specs.Crashes.commit}
 use Rattle.pk_model.proofs.Growing.{Reaches-then, Goes-then, at_end, weaken, weaken_went}
+use Rattle.pk_law_steps.specs.Under.{places}
 use Rattle.pk_log.specs.State.{LogState}
-use Rattle.pk_parts.{specs.Parts.Parts, specs.Parts.is_half, specs.Moves.StandsFor, specs.Moves.MayStep, specs.Moves.Keeps, specs.Moves.KeepsAll, specs.Moves.BreaksAll}
-use Rattle.pk_parts.{proofs.Keeping.cut_of_both, proofs.Keeping.board_has, proofs.Halves.stands as whole_stands, proofs.Standing.reads_as, proofs.Standing.reads_between}
+use Rattle.pk_parts.{specs.Parts.Parts, specs.Parts.is_half, specs.Moves.StandsFor, specs.Moves.MayStep, specs.Moves.Keeps, specs.Moves.KeepsAll, specs.Moves.KeepsAllBetween, specs.Moves.BreaksAll, specs.Moves.StandsBetween}
+use Rattle.pk_parts.{proofs.Keeping.cut_of_both, proofs.Keeping.board_has, proofs.Halves.stands as whole_stands, proofs.Standing.reads_as, proofs.Standing.reads_between, proofs.Staying.fresh_then}
 use Rattle.pk_background.{specs.Emptying.StepOrRead, specs.Emptying.KeepsOrReads, specs.Reclaiming.HoldsAll, specs.Reclaiming.FailsAll, specs.Reclaiming.CannotRead}
 use Rattle.pk_background.{specs.Pairing.FinishesHalf, specs.Pairing.FailsToFinish, specs.Spacing.SameMap, specs.Spacing.SameMapAll, specs.Spacing.MovesOrReads, specs.Spacing.StaysSame}
-use Rattle.pk_background.proofs.ReadSteps.{Passes, passes_none, reading_passes, reading_then, reading_failed, reading_end}
+use Rattle.pk_background.proofs.ReadSteps.{Passes, passes_none, reading_passes, reading_then, reading_end, read_cuts}
 
 -- a step that leaves the values where they are
 pub same_kept : (a b : Parts) (shape : Shape) (m : Map) (s0 s1 : BoardState) → Keeps a b shape m s0 s1 → SameMap b shape m s0 s1
@@ -54,7 +55,7 @@ pub SameMapAll-none : (a : Parts) (s : BoardState) → SameMapAll a a s s
 SameMapAll-none a s shape m stands = record {
   stands = stands;
   still = inl refl;
-  cuts = ([], Reached-start s s (CrashFinds shape commit s.pages m) refl refl refl refl (refl, inl refl), tt);
+  cuts = read_cuts shape (CrashFinds shape commit s.pages m) s s refl (refl, inl refl);
 }
 
 -- ---- a step of a reclaim
@@ -62,50 +63,68 @@ SameMapAll-none a s shape m stands = record {
 commit_cut : (shape : Shape) (start : Flash) (m : Map) (flash : Flash) (posted : List ℕ) → CrashFinds shape background start m flash posted → CrashFinds shape commit start m flash posted
 commit_cut shape start m flash posted cut = (cut.0, inr cut.1)
 
+-- a cut of a background step is one of a commit
+pub commit_cuts : (shape : Shape) (m : Map) (s0 s1 : BoardState) → Reaches shape s0 s1 (CrashFinds shape background s0.pages m) → Reaches shape s0 s1 (CrashFinds shape commit s0.pages m)
+commit_cuts shape m s0 s1 run = (run.0, weaken run.0 s0 s1 (CrashFinds shape background s0.pages m) (CrashFinds shape commit s0.pages m) (commit_cut shape s0.pages m) run.1, run.2)
+
 -- no pair is half made after it
 pub same_held : (a b : Parts) (s0 s1 : BoardState) → b.log.pending ≡ [] → is_half b ≡ false → HoldsAll a b s0 s1 → SameMapAll a b s0 s1
 same_held a b s0 s1 none whole holds shape m stands =
     let is = holds shape m stands in
-    let run = is.cuts in
     record {
       stands = whole_stands b shape s1.pages m is.stands whole;
       still = inr (ap (reading shape s1.pages) (sym none) ∙ reads_between b shape s1.pages m is.stands);
-      cuts = (run.0, weaken run.0 s0 s1 (CrashFinds shape background s0.pages m) (CrashFinds shape commit s0.pages m) (commit_cut shape s0.pages m) run.1, run.2);
+      cuts = commit_cuts shape m s0 s1 is.cuts;
     }
 
 -- a step that leaves a pair half made, and its second program
-module _ (a b : Parts) (s0 s1 s2 : BoardState) (ready : IsReady s0 a.log.shape) (none : b.log.pending ≡ []) (holds : HoldsAll a b s0 s1) where
-  module _ (shape : Shape) (m : Map) (stands : StandsFor a shape s0.pages m) where
-    seen_half : (flash : Flash) (posted : List ℕ) → CrashFinds shape background s1.pages m flash posted
-        → CrashFinds shape commit s0.pages m flash (all_posted (holds shape m stands).cuts.0 ++ posted)
-    seen_half flash posted cut =
-        let run = (holds shape m stands).cuts in
-        let ends = at_end run.0 s0 s1 (CrashFinds shape background s0.pages m) run.1 in
-        (ap (λ (xs : List ℕ). xs ++ posted) ends.0 ∙ cut.0, inr cut.1)
+module _ (a b : Parts) (shape : Shape) (m : Map) (s0 s1 : BoardState) (ready : IsReady s0 a.log.shape) (was : StandsFor a shape s0.pages m)
+    (stands : StandsBetween b shape s1.pages m) (cuts : Reaches shape s0 s1 (CrashFinds shape commit s0.pages m)) where
+  -- a cut of the program finds the map
+  seen_half : (flash : Flash) (posted : List ℕ) → CrashFinds shape background s1.pages m flash posted → CrashFinds shape commit s0.pages m flash (all_posted cuts.0 ++ posted)
+  seen_half flash posted cut =
+      let ends = at_end cuts.0 s0 s1 (CrashFinds shape commit s0.pages m) cuts.1 in
+      (ap (λ (xs : List ℕ). xs ++ posted) ends.0 ∙ cut.0, inr cut.1)
 
-    first_cuts : ReachedBy (holds shape m stands).cuts.0 s0 s1 (CrashFinds shape commit s0.pages m)
-    first_cuts =
-        let run = (holds shape m stands).cuts in
-        weaken run.0 s0 s1 (CrashFinds shape background s0.pages m) (CrashFinds shape commit s0.pages m) (commit_cut shape s0.pages m) run.1
-
-  pub same_finished : (c : Parts) → FinishesHalf b c s1 s2 → SameMapAll a c s0 s2
-  same_finished c fin shape m stands =
-      let is = holds shape m stands in
-      let done = fin.finished shape m is.stands in
+  pub then_finished : (c : Parts) (s2 : BoardState) → b.log.pending ≡ [] → FinishesHalf b c s1 s2 → SameMap c shape m s0 s2
+  then_finished c s2 none fin =
+      let done = fin.finished shape m stands in
       let empty : c.log.pending ≡ [] = ap (λ (l : LogState). l.pending) fin.log ∙ none in
       record {
         stands = done.stands;
         still = inr (ap (reading shape s2.pages) (sym empty) ∙ reads_as c shape s2.pages m done.stands);
-        cuts = Reaches-then shape is.cuts.0 s0 s1 (CrashFinds shape commit s0.pages m)
-            (board_has a s0 shape m ready stands) (first_cuts shape m stands) is.cuts.2 s2 (CrashFinds shape background s1.pages m)
-            (seen_half shape m stands) done.cuts;
+        cuts = Reaches-then shape cuts.0 s0 s1 (CrashFinds shape commit s0.pages m) (board_has a s0 shape m ready was) cuts.1 cuts.2 s2 (CrashFinds shape background s1.pages m) seen_half done.cuts;
       }
 
+  pub then_broken : (s2 : BoardState) → FailsToFinish b s1 s2 → Goes shape s0 s2 (CrashFinds shape commit s0.pages m)
+  then_broken s2 fails =
+      Goes-then shape cuts.0 s0 s1 (CrashFinds shape commit s0.pages m) (board_has a s0 shape m ready was) cuts.1 cuts.2 s2 (CrashFinds shape background s1.pages m) seen_half (fails.fails shape m stands)
+
+-- one of the background
+module _ (a b : Parts) (s0 s1 s2 : BoardState) (ready : IsReady s0 a.log.shape) (none : b.log.pending ≡ []) (holds : HoldsAll a b s0 s1) where
+  pub same_finished : (c : Parts) → FinishesHalf b c s1 s2 → SameMapAll a c s0 s2
+  same_finished c fin shape m was = let is = holds shape m was in then_finished a b shape m s0 s1 ready was is.stands (commit_cuts shape m s0 s1 is.cuts) c s2 none fin
+
   pub breaks_finished : FailsToFinish b s1 s2 → BreaksAll a s0 s2
-  breaks_finished fails shape m stands =
-      let is = holds shape m stands in
-      Goes-then shape is.cuts.0 s0 s1 (CrashFinds shape commit s0.pages m) (board_has a s0 shape m ready stands) (first_cuts shape m stands) is.cuts.2 s2 (CrashFinds shape background s1.pages m)
-      (seen_half shape m stands) (fails.fails shape m is.stands)
+  breaks_finished fails shape m was = let is = holds shape m was in then_broken a b shape m s0 s1 ready was is.stands (commit_cuts shape m s0 s1 is.cuts) s2 fails
+
+-- and one inside a command
+module _ (a b : Parts) (s0 s1 s2 : BoardState) (ready : IsReady s0 a.log.shape) (none : b.log.pending ≡ []) (keeps : KeepsAllBetween a b s0 s1) where
+  pub KeepsAll-finished : (c : Parts) → FinishesHalf b c s1 s2 → KeepsAll a c s0 s2
+  KeepsAll-finished c fin shape m was =
+      let is = keeps shape m was in
+      let done = fin.finished shape m is.stands in
+      let same = then_finished a b shape m s0 s1 ready was is.stands is.cuts c s2 none fin in
+      record {
+        stands = done.stands;
+        same_places = λ there.
+            ap (places done.stands.found) (ap (λ (l : LogState). l.pending) fin.log) ∙ ap (λ (f : Found). places f b.log.pending) (done.same_found is.stands) ∙ is.same_places there;
+        still = same.still;
+        cuts = same.cuts;
+      }
+
+  pub BreaksAll-finished : FailsToFinish b s1 s2 → BreaksAll a s0 s2
+  BreaksAll-finished fails shape m was = let is = keeps shape m was in then_broken a b shape m s0 s1 ready was is.stands is.cuts s2 fails
 
 pub breaks_failed : (a : Parts) (s0 s1 : BoardState) → FailsAll a s0 s1 → BreaksAll a s0 s1
 breaks_failed a s0 s1 fails shape m stands =
@@ -120,12 +139,7 @@ same_unread a b s0 s1 unread shape m stands =
     record {
       stands = subst S (sym same) (unread.stands shape m stands);
       still = inl (ap (λ (f : Flash). reading shape f []) same);
-      cuts = (
-        [],
-        Reached-start s0 s1 (CrashFinds shape commit s0.pages m) (ap (λ (s : BoardState). s.shape) only) same
-            (ap (λ (s : BoardState). s.trail) only) (ap (λ (s : BoardState). s.posted) only) (refl, inl refl),
-        tt,
-      );
+      cuts = read_cuts shape (CrashFinds shape commit s0.pages m) s0 s1 only (refl, inl refl);
     }
 
 -- ---- steps with their answers
@@ -143,21 +157,6 @@ pub moves_kept : (r : Result Unit Fault) (b c : Parts) (k : ℕ) (s1 s2 : BoardS
 moves_kept r b c k s1 s2 step =
     reading_then r (λ (x : Unit). KeepsAll b c s1 s2) (λ (x : Unit). SameMapAll b c s1 s2) (KeepsAll b c s1 s2) (SameMapAll b c s1 s2) (BreaksAll b s1 s2) (BreaksAll b s1 s2)
     b.log.shape 0 k k s1 s1 s2 (omega arith) (passes_none s1) (λ x kept. same_of b c s1 s2 kept) (λ kept. same_of b c s1 s2 kept) (λ broken. broken) step
-
-pub moves_failed : (e : Fault) (b c : Parts) (k most : ℕ) (s1 s2 : BoardState) → k ≤ most → MovesOrReads {T = Unit {0}} b c k s1 s2 (Err e) → MovesOrReads {T = Unit {0}} b c most s1 s2 (Err e)
-moves_failed e b c k most s1 s2 few step =
-    reading_failed e (λ (x : Unit). SameMapAll b c s1 s2) (λ (x : Unit). SameMapAll b c s1 s2)
-    (SameMapAll b c s1 s2) (SameMapAll b c s1 s2) (BreaksAll b s1 s2) (BreaksAll b s1 s2) b.log.shape k most s1 s2 few
-    (λ kept. kept) (λ broken. broken) step
-
-pub moves_within : (b c : Parts) (k most : ℕ) (s1 s2 : BoardState) → k ≤ most → MovesOrReads {T = Unit {0}} b c k s1 s2 (Ok tt) → MovesOrReads {T = Unit {0}} b c most s1 s2 (Ok tt)
-moves_within b c k most s1 s2 few step = record {
-  came = step.came;
-  rest = step.rest;
-  reads = (let read = step.reads.few in record { up = step.reads.up; few = omega (arith, few, read) });
-  roots_few = (let most_roots = step.roots_few in omega (arith, few, most_roots));
-  ready = step.ready;
-}
 
 pub passes_moved : (b c : Parts) (k : ℕ) (s1 s2 : BoardState) → MovesOrReads {T = Unit {0}} b c k s1 s2 (Ok tt) → Passes k s1 s2
 passes_moved b c k s1 s2 step = reading_passes tt (λ (x : Unit). SameMapAll b c s1 s2) (SameMapAll b c s1 s2) (BreaksAll b s1 s2) b.log.shape k s1 s2 step
@@ -183,11 +182,5 @@ stays_both a b c first second = record {
   frames = second.frames ∙ first.frames;
   stopped = second.stopped ∙ first.stopped;
   same_shape = second.same_shape ∙ first.same_shape;
-  fresh = record {
-    stays = λ e. second.fresh.stays (first.fresh.stays e);
-    begun = elim second.fresh.begun [
-      | inl same ↦ elim first.fresh.begun [ inl was ↦ inl (same ∙ was) | inr fresh ↦ inr (second.fresh.stays fresh) ]
-      | inr fresh ↦ inr fresh
-    ];
-  };
+  fresh = fresh_then a b c first.fresh second.fresh;
 }

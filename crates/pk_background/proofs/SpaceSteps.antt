@@ -1,34 +1,31 @@
 -- Steps of reclaims inside a Store, until a value has room.
 use Rattle.std.proofs.Common.{◌≡◌, ◌⊎◌, inl, inr, ℕ, ◌+◌, ◌-◌, ◌≤◌, ◌<◌, Bool, true, false, [], length, refl, sym, ap, subst, ◌∙◌, arith, nat_le, leb→le, T, Result, Ok, Err}
-use Rattle.std.specs.Prelude.{◌&&◌, ◌||◌, IsOk, OnOk}
-use Rattle.pk_base.specs.Shape.{Shape, data_blocks, most_pages}
+use Rattle.std.specs.Prelude.{◌&&◌, ◌||◌, OnOk}
+use Rattle.pk_base.{specs.Shape.Shape, specs.Shape.data_blocks, specs.Shape.most_pages, proofs.Logic.not_both}
 use Rattle.pk_plan.specs.declared.owner.Owner.TheVariants.{Values}
 use Rattle.pk_pool.specs.Blocks.{used_by}
 use Rattle.pk_nand.{specs.declared.types.Fault.Fault, specs.declared.types.Fault.TheVariants.Reading, specs.declared.types.Fault.TheVariants.Stopped, specs.BoardState.BoardState}
 use Rattle.pk_nand.{specs.Calls.IsReady, specs.Calls.last_count, specs.Effects.AtMostOneCall, specs.Effects.NoFault, specs.Effects.OnlyFlash, proofs.Effects.only_then}
 use Rattle.pk_model.specs.Wear.{roots}
 use Rattle.pk_law_work.{specs.Rest.whole_freeze, specs.Rest.whole_reclaim, specs.Work.emptying, specs.Calls.room_calls, specs.Calls.room_roots}
-use Rattle.pk_gc.{specs.declared.course.Phase.Phase, specs.declared.course.Course.Course, specs.declared.reclaimed.Reclaimed.Reclaimed, specs.State.steps_left, specs.Standing.held_blocks}
-use Rattle.pk_gc.specs.declared.course.Phase.TheVariants.{Idle, Copies, Commits, GivesBack}
-use Rattle.pk_gc.specs.declared.reclaimed.Reclaimed.TheVariants.{Worked, NeedsFreeze, Ended}
+use Rattle.pk_gc.{specs.declared.course.Phase.Phase, specs.declared.course.Course.Course, specs.State.steps_left, specs.Standing.held_blocks}
+use Rattle.pk_gc.specs.declared.course.Phase.TheVariants.{Idle, Copies}
+use Rattle.pk_gc.specs.declared.reclaimed.Reclaimed.TheVariants.{Worked, Ended}
 use Rattle.pk_gc.specs.Stepping.{runs_in}
 use Rattle.pk_background.{specs.Costs.Spends, specs.Pairing.FailsToFinish, specs.Pairing.FinishesCommit, specs.Pairing.FinishesCommitOr, specs.Pairing.CommitsOr, proofs.Inside.one_call}
-use Rattle.pk_background.{specs.Emptying.Came, specs.Emptying.KeepsOrReads, specs.Emptying.OnRunning, specs.Emptying.HasRoom, specs.Emptying.ReadsUpTo, proofs.Whole.none_then, proofs.Whole.halts_then}
+use Rattle.pk_background.{specs.Emptying.Came, specs.Emptying.KeepsOrReads, specs.Emptying.OnRunning, specs.Emptying.HasRoom, specs.Emptying.ReadsUpTo, proofs.Pairs.by_half, proofs.Results.either, proofs.Results.neither}
 use Rattle.pk_background.specs.Reclaiming.{MayReclaim, Lessens, LeavesIndex, RunsOn, DoesReclaim, Waits, CannotRead, FailsReclaim, is_tight_for}
-use Rattle.pk_background.proofs.ReadSteps.{running_says, running_both, running_ends}
+use Rattle.pk_background.proofs.ReadSteps.{no_fault_then, halts_behind, reading_within, running_says, running_both, running_ends}
 use Rattle.pk_background.specs.Spacing.{MovesOrReads, SameMapAll, StaysSame, where_so, needs, has_moves, space_left, space_roots, Awaits, MaySpace, SpacesOnce}
 use Rattle.pk_background.proofs.Callings.{few_none, few_one, few_program, few_within, few_then, spends_still, spends_within}
-use Rattle.pk_background.proofs.SameMaps.{same_held, same_finished, breaks_finished, same_unread, breaks_failed, moves_kept, moves_later, moves_within, moves_none, may_moved, passes_moved, stays_none}
+use Rattle.pk_background.proofs.SameMaps.{same_held, same_finished, breaks_finished, same_unread, breaks_failed, moves_kept, moves_later, moves_none, may_moved, passes_moved, stays_none}
 use Rattle.pk_background.proofs.SameMaps.{stays_both}
 use Rattle.pk_background.proofs.Spacing.{left_at, roots_at, AwaitsAt, works_less, works_roots, ends_less, ends_roots}
 use Rattle.pk_root.specs.Installing.{repeats_next}
 use Rattle.pk_log.specs.State.{LogState}
-use Rattle.pk_parts.{specs.Parts.Parts, specs.Parts.frames_of, specs.Parts.commits_in, specs.Parts.is_half, specs.Staying.Stays, proofs.Halves.not_made}
+use Rattle.pk_parts.{specs.Parts.Parts, specs.Parts.commits_in, specs.Parts.is_half, specs.Staying.Stays}
 use Rattle.pk_parts.specs.Moves.{BreaksAll, StandsFor, StandsBetween, MayStep, MayCommit, LeavesValues}
 use Rattle.pk_call.specs.Calling.{FewCalls}
-
-true_false : true ≡ false → ⊥
-true_false e = cc
 
 -- ---- what a step asks
 
@@ -44,23 +41,17 @@ turn_at : (p : Phase) (d : Parts) (count : ℕ) → AwaitsAt p count d → used_
     → (runs_in p ≡ true) ⊎ (used_by Values d.pool.states ≡ data_blocks d.log.shape - 1)
 turn_at p d count (inl runs) few = inl runs
 turn_at Idle d count (inr wanted) few = let full = wanted_full d count wanted in inr (omega (arith, full, few))
-turn_at (Copies c) d count (inr wanted) few = inl refl
-turn_at (Commits victim) d count (inr wanted) few = inl refl
-turn_at (GivesBack victim) d count (inr wanted) few = inl refl
+turn_at p d count (inr wanted) few = inl refl
 
 some_at : (p : Phase) (d : Parts) (count : ℕ) → AwaitsAt p count d → 1 ≤ left_at p count d
-some_at Idle d count (inl runs) = absurd (true_false (sym runs))
-some_at Idle d count (inr wanted) = let steps : where_so (needs count d) (whole_reclaim d.log.shape - 1)
-    ≡ whole_reclaim d.log.shape - 1 = ap (λ x. where_so x (whole_reclaim d.log.shape - 1)) wanted in omega (arith, steps)
-some_at (Copies c) d count awaits = omega arith
-some_at (Commits victim) d count awaits = omega arith
-some_at (GivesBack victim) d count awaits = omega arith
+some_at Idle d count (inl runs) = absurd (not_both false runs refl)
+some_at Idle d count (inr wanted) =
+    let steps : where_so (needs count d) (whole_reclaim d.log.shape - 1) ≡ whole_reclaim d.log.shape - 1 = ap (λ x. where_so x (whole_reclaim d.log.shape - 1)) wanted in omega (arith, steps)
+some_at p d count awaits = omega arith
 
 commits_run : (p : Phase) → commits_in p ≡ true → runs_in p ≡ true
-commits_run Idle e = absurd (true_false (sym e))
-commits_run (Copies c) e = refl
-commits_run (Commits victim) e = refl
-commits_run (GivesBack victim) e = refl
+commits_run Idle e = absurd (not_both false e refl)
+commits_run p e = refl
 
 reads_more : (n k : ℕ) (a b c : BoardState) → n ≤ k → ReadsUpTo n a b → c.reads ≡ b.reads → ReadsUpTo k a c
 reads_more n k a b c less r same = record { up = (let up = r.up in omega (arith, up, same)); few = (let few = r.few in omega (arith, few, same, less)) }
@@ -68,20 +59,12 @@ reads_more n k a b c less r same = record { up = (let up = r.up in omega (arith,
 -- ---- what is unchanged in a step
 
 pub leaves_stay : (b c : Parts) → LeavesIndex b c → StaysSame b c
-leaves_stay b c leaves = record {
-  frames = ap (λ (d : Parts). frames_of d) leaves;
-  stopped = ap (λ (d : Parts). d.stopped) leaves;
-  same_shape = ap (λ (d : Parts). d.log.shape) leaves;
-  fresh = record { stays = λ e. ap (λ (d : Parts). d.log.epoch.takes_more) leaves ∙ e; begun = inl (ap (λ (d : Parts). d.log.root.epoch) leaves) };
-}
+leaves_stay b c leaves =
+    subst (λ (d : Parts). StaysSame b d) (sym leaves) (record { frames = refl; stopped = refl; same_shape = refl; fresh = record { stays = λ e. e; begun = inl refl } })
 
 pub unread_stays : (b c : Parts) (s0 s1 : BoardState) → CannotRead b c s0 s1 → StaysSame b c
-unread_stays b c s0 s1 unread = record {
-  frames = ap (λ (d : Parts). frames_of d) unread.rest;
-  stopped = ap (λ (d : Parts). d.stopped) unread.rest;
-  same_shape = ap (λ (d : Parts). d.log.shape) unread.rest;
-  fresh = record { stays = λ e. ap (λ (d : Parts). d.log.epoch.takes_more) unread.rest ∙ e; begun = inl (ap (λ (d : Parts). d.log.root.epoch) unread.rest) };
-}
+unread_stays b c s0 s1 unread =
+    subst (λ (d : Parts). StaysSame b d) (sym unread.rest) (record { frames = refl; stopped = refl; same_shape = refl; fresh = record { stays = λ e. e; begun = inl refl } })
 
 pub values_stay : (b c : Parts) → LeavesValues b c → Stays b c → StaysSame b c
 values_stay b c leaves stays = record { frames = leaves.frames; stopped = ap (λ (d : Parts). d.stopped) leaves.rest; same_shape = leaves.same_shape; fresh = stays.fresh }
@@ -144,6 +127,14 @@ module _ {count : ℕ} {b : Parts} {s0 : BoardState} (may : MaySpace count b s0)
       worked : commits_in c.reclaim.phase ≡ false → SpacesOnce count b c s0 s1 (Ok tt)
       worked moves = stepped sound made.0 (stays_whole made.0 moves) first_less first_roots
 
+      pub may_end : MayCommit c s1
+      may_end =
+          let there = made.0.holds b.log.shape may.may.stands.0 it in
+          record {
+            ready = subst (λ (s : Shape). IsReady s1 s) (sym (same_shape made.0)) ready;
+            stands = (may.may.stands.0, subst (λ (s : Shape). StandsBetween c s s1.pages may.may.stands.0) (sym (same_shape made.0)) there.stands);
+          }
+
       module _ (e : Parts) (s2 : BoardState) where
         -- the second program of the commit was made
         committed : FinishesCommit c e s1 s2 → SpacesOnce count b e s0 s2 (Ok tt)
@@ -161,7 +152,7 @@ module _ {count : ℕ} {b : Parts} {s0 : BoardState} (may : MaySpace count b s0)
               made = 2;
               some = omega arith;
               step = record {
-                came = (same_finished b c s0 s1 s2 may.may.ready none made.0.holds e f, none_then s0 s1 s2 sound f.works.no_fault);
+                came = (same_finished b c s0 s1 s2 may.may.ready none made.0.holds e f, no_fault_then s0 s1 s2 sound f.works.no_fault);
                 rest = only_then s0 s1 s2 rest f.works.rest;
                 reads = reads_more 1 2 s0 s1 s2 (omega arith) (one_call s0 s1 reads calls) f.works.reads;
                 roots_few = omega (arith, same, same_roots);
@@ -185,7 +176,7 @@ module _ {count : ℕ} {b : Parts} {s0 : BoardState} (may : MaySpace count b s0)
               made = 2;
               some = omega arith;
               step = record {
-                came = (breaks_finished b c s0 s1 s2 may.may.ready none made.0.holds fails, halts_then s0 s1 s2 sound fails.stops);
+                came = (breaks_finished b c s0 s1 s2 may.may.ready none made.0.holds fails, halts_behind s0 s1 s2 sound (record { flash = fails.stops.flash; stop = fails.stops.stop; read = fails.stops.read }));
                 rest = only_then s0 s1 s2 rest fails.stops.rest;
                 reads = reads_more 1 2 s0 s1 s2 (omega arith) (one_call s0 s1 reads calls) fails.stops.reads;
                 roots_few = omega (arith, fewer, same_roots);
@@ -202,46 +193,21 @@ module _ {count : ℕ} {b : Parts} {s0 : BoardState} (may : MaySpace count b s0)
               stays = tt;
             }
 
-        pub may_end : MayCommit c s1
-        may_end =
-            let there = made.0.holds b.log.shape may.may.stands.0 it in
-            record {
-              ready = subst (λ (s : Shape). IsReady s1 s) (sym (same_shape made.0)) ready;
-              stands = (may.may.stands.0, subst (λ (s : Shape). StandsBetween c s s1.pages may.may.stands.0) (sym (same_shape made.0)) there.stands);
-            }
-
         ended_so : (r : Result Unit Fault) → commits_in c.reclaim.phase ≡ true → FinishesCommitOr c e s1 s2 r → SpacesOnce count b e s0 s2 r
         ended_so (Ok u) moves fin = committed fin
-        ended_so (Err f) moves fin = subst (λ (x : Fault). SpacesOnce count b e s0 s2 (Err x)) (sym fin.0) (uncommitted moves fin.2)
+        ended_so (Err f) moves fails = rw fails.0 (uncommitted moves fails.2)
 
-        rested_so : (r : Result Unit Fault) → commits_in c.reclaim.phase ≡ false → IsOk r × (e ≡ c) × (s2 ≡ s1) → SpacesOnce count b e s0 s2 r
-        rested_so (Ok u) moves is =
-            subst (λ (x : Parts). SpacesOnce count b x s0 s2 (Ok tt)) (sym is.1) (subst (λ (s : BoardState). SpacesOnce count b c s0 s (Ok tt)) (sym is.2) (worked moves))
-        rested_so (Err f) moves is = absurd (not_made f is.0)
+        pub worked_then : (r : Result Unit Fault) → CommitsOr c e s1 s2 r → SpacesOnce count b e s0 s2 r
+        worked_then r ends =
+            by_half (commits_in c.reclaim.phase) c e s1 s2 r (λ x s q. SpacesOnce count b x s0 s q) (λ moves. ended_so r moves (ends.half moves)) ends.whole worked
 
-        worked_then : (r : Result Unit Fault) → CommitsOr c e s1 s2 r → SpacesOnce count b e s0 s2 r
-        worked_then r ends = elim (commits_in c.reclaim.phase) as (λ z. commits_in c.reclaim.phase ≡ z → SpacesOnce count b e s0 s2 r) [
-          | true ↦ λ z. ended_so r z (ends.half z)
-          | false ↦ λ z. rested_so r z (ends.whole z)
-        ] refl
-
-    ended : NoFault s0 s1 → DoesReclaim b c s0 s1 Ended → SpacesOnce count b c s0 s1 (Ok tt)
+    pub ended : NoFault s0 s1 → DoesReclaim b c s0 s1 Ended → SpacesOnce count b c s0 s1 (Ok tt)
     ended sound made =
         let same = ap (λ (d : Parts). d.log.shape) made.0.leaves in
         let less = ends_less count b c same most b.reclaim.phase awaits it.with.reclaim.full made.1.given made.1.from in
         let roots_less = ends_roots count b c same most b.reclaim.phase awaits it.with.reclaim.full made.1.given made.1.from in
         stepped sound made.0 (stays_whole made.0 (ap commits_in made.1.idle)) (subst (λ (p : Phase). 1 + left_at p count c ≤ space_left count b) (sym made.1.idle) less)
         (subst (λ (p : Phase). roots_at p count c ≤ space_roots count b) (sym made.1.idle) roots_less)
-
-    pub space_worked : (x : Reclaimed) → x ≡ Worked → NoFault s0 s1 → DoesReclaim b c s0 s1 x
-        → (e : Parts) (s2 : BoardState) (r : Result Unit Fault) → CommitsOr c e s1 s2 r → SpacesOnce count b e s0 s2 r
-    space_worked x is sound made e s2 r ends = worked_then sound (subst (λ y. DoesReclaim b c s0 s1 y) is made) e s2 r ends
-
-    pub space_may_end : (x : Reclaimed) → x ≡ Worked → NoFault s0 s1 → DoesReclaim b c s0 s1 x → MayCommit c s1
-    space_may_end x is sound made = may_end sound (subst (λ y. DoesReclaim b c s0 s1 y) is made) c s1
-
-    pub space_ended : (x : Reclaimed) → x ≡ Ended → NoFault s0 s1 → DoesReclaim b c s0 s1 x → SpacesOnce count b c s0 s1 (Ok tt)
-    space_ended x is sound made = ended sound (subst (λ y. DoesReclaim b c s0 s1 y) is made)
 
     failed : (e : Fault) → Came {T = Unit {0}} (λ (u : Unit). SameMapAll b c s0 s1) (SameMapAll b c s0 s1) (BreaksAll b s0 s1) s0 s1 (Err e)
         → OnRunning {T = Unit {0}} (StaysSame b c) (Err e) → OnRunning {T = Unit {0}} (c.log.pending ≡ []) (Err e) → SpacesOnce count b c s0 s1 (Err e)
@@ -274,11 +240,10 @@ module _ {count : ℕ} {b : Parts} {s0 : BoardState} (may : MaySpace count b s0)
       let here : space_left count b ≡ left_at (Copies waits.course) count b = ap (λ p. left_at p count b) waits.copies in
       let calls = calls_left waits.course waits.tight in
       let few : roots s0 + room_calls b.log.shape < 18446744073709551615 = omega (arith, may.number, here, calls) in
-      subst (λ (d : Parts). roots s1 + room_calls d.log.shape < 18446744073709551615) (sym waits.same)
-      (subst (λ (s : BoardState). roots s + room_calls b.log.shape < 18446744073709551615) (sym waits.board) few)
+      rw (waits.same, waits.board) few
 
   pub waits_may : (c : Parts) (s1 : BoardState) → Waits b c s0 s1 → MayStep c s1
-  waits_may c s1 waits = subst (λ (d : Parts). MayStep d s1) (sym waits.same) (subst (λ (s : BoardState). MayStep b s) (sym waits.board) may.may)
+  waits_may c s1 waits = rw (waits.same, waits.board) may.may
 
   module _ (course : Course) (copies : b.reclaim.phase ≡ Copies course) (tight : is_tight_for b ≡ true) (d : Parts) (s2 : BoardState) where
     less_frozen : LeavesValues b d → is_tight_for d ≡ false → room_calls b.log.shape + space_left count d ≤ space_left count b
@@ -332,21 +297,13 @@ module _ {count : ℕ} {b : Parts} {s0 : BoardState} (may : MaySpace count b s0)
       → KeepsOrReads c d (room_calls c.log.shape) s1 s2 r → Spends (emptying c.log.shape 4 + whole_freeze) room_roots s1 s2 → OnOk r (HasRoom d)
       → OnRunning (d.log.pending ≡ []) r → OnRunning (LeavesValues c d) r → OnRunning (Stays c d) r → SpacesOnce count b d s0 s2 r
   space_frozen c d s1 s2 r waits step spends room none leaves stays =
-      let kept = subst (λ (s : BoardState). KeepsOrReads b d (room_calls b.log.shape) s s2 r) waits.board (subst (λ (x : Parts). KeepsOrReads x d (room_calls x.log.shape) s1 s2 r) waits.same step) in
-      let spent =
-      subst (λ (s : BoardState). Spends (emptying b.log.shape 4 + whole_freeze) room_roots s s2) waits.board
-      (subst (λ (x : Parts). Spends (emptying x.log.shape 4 + whole_freeze) room_roots s1 s2) waits.same spends) in
-      frozen_once waits.course waits.copies waits.tight d s2 r kept
-      (spends_within (emptying b.log.shape 4 + whole_freeze) (room_calls b.log.shape) room_roots room_roots s0 s2 (omega arith) (omega arith) spent) room none
-      (subst (λ (x : Parts). OnRunning (LeavesValues x d) r) waits.same leaves) (subst (λ (x : Parts). OnRunning (Stays x d) r) waits.same stays)
-
--- if the moves needed a freeze
-pub waits_is : (b c : Parts) (s0 s1 : BoardState) (x : Reclaimed) → x ≡ NeedsFreeze → DoesReclaim b c s0 s1 x → Waits b c s0 s1
-waits_is b c s0 s1 x is made = subst (λ y. DoesReclaim b c s0 s1 y) is made
+      frozen_once waits.course waits.copies waits.tight d s2 r (rw (waits.same, waits.board) at step)
+      (spends_within (emptying b.log.shape 4 + whole_freeze) (room_calls b.log.shape) room_roots room_roots s0 s2 (omega arith) (omega arith) (rw (waits.same, waits.board) at spends)) room none
+      (rw waits.same at leaves) (rw waits.same at stays)
 
 -- ---- several steps
 
-where_most : (b : Bool) (n : ℕ) → where_so b n ≤ n
+pub where_most : (b : Bool) (n : ℕ) → where_so b n ≤ n
 where_most true n = omega arith
 where_most false n = omega arith
 
@@ -406,7 +363,7 @@ module _ {count : ℕ} {a : Parts} {s0 : BoardState} {b : Parts} {s : BoardState
       omega (arith, few, on.roots_left, most)
 
   pub spacing_end : MovesOrReads {T = Unit {0}} a b (space_left count a) s0 s (Ok tt)
-  spacing_end = let left = on.left in moves_within a b on.made (space_left count a) s0 s (omega (arith, left)) on.step
+  spacing_end = reading_within (space_left count a) (omega (arith, on.left)) on.step
 
   pub end_spends : Spends (space_left count a) room_roots s0 s
   end_spends =
@@ -434,16 +391,8 @@ module _ {count : ℕ} {a : Parts} {s0 : BoardState} {b : Parts} {s : BoardState
 
 -- ---- whether there is more to do
 
-or_both : (x y : Bool) → (x || y) ≡ false → y ≡ false
-or_both true y e = absurd (true_false e)
-or_both false y e = e
-
-or_either : (x y : Bool) → (x || y) ≡ true → (x ≡ true) ⊎ (y ≡ true)
-or_either true y e = inl refl
-or_either false y e = inr e
-
 pub awaits_is : (count : ℕ) (d : Parts) → (runs_in d.reclaim.phase || needs count d) ≡ true → Awaits count d
-awaits_is count d e = or_either (runs_in d.reclaim.phase) (needs count d) e
+awaits_is count d e = either (runs_in d.reclaim.phase) (needs count d) e
 
 pub room_is : (count : ℕ) (d : Parts) → (runs_in d.reclaim.phase || needs count d) ≡ false → needs count d ≡ false
-room_is count d e = or_both (runs_in d.reclaim.phase) (needs count d) e
+room_is count d e = (neither (runs_in d.reclaim.phase) (needs count d) e).1

@@ -1,7 +1,7 @@
 -- What remains of the reclaims inside a Store, and how one of their steps lowers it.
 use Rattle.std.proofs.Common.{◌≡◌, ◌⊎◌, inl, inr, ℕ, ◌+◌, ◌-◌, ◌≤◌, Bool, true, false, refl, sym, ap, subst, ◌∙◌, arith, nat_le}
 use Rattle.std.{specs.Prelude.◌&&◌, specs.Prelude.not, specs.Prelude.unwrap_or, proofs.lemmas.Bool.le-leb}
-use Rattle.pk_base.specs.Shape.{Shape, data_blocks, most_pages}
+use Rattle.pk_base.{specs.Shape.Shape, specs.Shape.data_blocks, specs.Shape.most_pages, proofs.Logic.not_both}
 use Rattle.pk_plan.specs.declared.owner.Owner.TheVariants.{Values}
 use Rattle.pk_pool.{specs.Blocks.used_by, specs.Unready.unready}
 use Rattle.pk_law_work.{specs.Rest.whole_reclaim, specs.Rest.left_of, specs.Rest.Lowers, specs.Calls.room_calls, specs.Calls.room_roots}
@@ -14,8 +14,9 @@ use Rattle.pk_reclaim.{specs.Space.HasRoom as HasSpace, specs.Steps.RoomBehind}
 use Rattle.pk_background.specs.Reclaiming.{RunsOn, is_tight_for, space_of}
 use Rattle.pk_background.specs.Spacing.{where_so, needs, steps_for, has_moves}
 
-no_yes : false ≡ true → ⊥
-no_yes e = cc
+pub and_true : (x : Bool) → (x && true) ≡ x
+and_true true = refl
+and_true false = refl
 
 -- what remains when the reclaim has come this far
 abbrev pub left_at : Phase → ℕ → Parts → ℕ
@@ -35,7 +36,7 @@ FallsTo p b q c =
 abbrev pub AwaitsAt : Phase → ℕ → Parts → Type 0
 AwaitsAt p count d = (runs_in p ≡ true) ⊎ (needs count d ≡ true)
 
-tight_same : (b c : Parts) → c.log ≡ b.log → is_tight_for c ≡ is_tight_for b
+pub tight_same : (b c : Parts) → c.log ≡ b.log → is_tight_for c ≡ is_tight_for b
 tight_same b c same = ap (λ (l : LogState). is_tight_for (record b { log = l })) same
 
 module _ (count : ℕ) (b c : Parts) (same_shape : c.log.shape ≡ b.log.shape) (most : count ≤ most_pages b.log.shape) where
@@ -52,61 +53,42 @@ module _ (count : ℕ) (b c : Parts) (same_shape : c.log.shape ≡ b.log.shape) 
   none_room : needs count c ≡ false → (n : ℕ) → where_so (needs count c && is_tight_for c) n ≡ 0
   none_room room n = ap (λ x. where_so (x && is_tight_for c) n) room
 
+  -- the moves may need a freeze as before
+  still_tight : c.log ≡ b.log → (n : Shape → ℕ) → where_so (is_tight_for c) (n c.log.shape) ≡ where_so (is_tight_for b) (n b.log.shape)
+  still_tight same n = λ i. where_so (tight_same b c same i) (n (same_shape i))
+
+  begins : needs count b ≡ true → (n : ℕ) → where_so (needs count b && is_tight_for b) n ≡ where_so (is_tight_for b) n
+  begins wanted n = ap (λ x. where_so (x && is_tight_for b) n) wanted
+
   -- ---- a step of a reclaim that runs on
 
   pub works_less : (p q : Phase) → AwaitsAt p count b → FallsTo p b q c → RunsOn q b c → 1 + left_at q count c ≤ left_at p count b
   works_less p Idle awaits falls on = absurd on
-  works_less Idle (Copies d) (inl runs) falls on = absurd (no_yes runs)
+  works_less Idle q (inl runs) falls on = absurd (not_both false runs refl)
   works_less Idle (Copies d) (inr wanted) falls on =
-      let less = falls.less in
-      let ready = falls.none_ready in
-      let tight : where_so (is_tight_for c) (room_calls c.log.shape) ≡ where_so (is_tight_for b) (room_calls b.log.shape) = λ i. where_so (tight_same b c on i) (room_calls (same_shape i)) in
-      let steps = whole_left wanted in
-      let moves : where_so (needs count b && is_tight_for b) (room_calls b.log.shape) ≡ where_so (is_tight_for b)
-      (room_calls b.log.shape) = ap (λ x. where_so (x && is_tight_for b) (room_calls b.log.shape)) wanted in
-      omega (arith, less, ready, tight, steps, moves)
-  works_less (Copies e) (Copies d) awaits falls on =
-      let less = falls.less in
-      let ready = falls.none_ready in
-      let tight : where_so (is_tight_for c) (room_calls c.log.shape) ≡ where_so (is_tight_for b) (room_calls b.log.shape) = λ i. where_so (tight_same b c on i) (room_calls (same_shape i)) in
-      omega (arith, less, ready, tight)
-  works_less (Commits victim) (Copies d) awaits falls on = absurd (omega (arith, falls.less, falls.none_ready))
-  works_less (GivesBack victim) (Copies d) awaits falls on = absurd (omega (arith, falls.less, falls.none_ready))
-  works_less Idle (Commits other) (inl runs) falls on = absurd (no_yes runs)
+      omega (arith, falls.less, falls.none_ready, still_tight on room_calls, whole_left wanted, begins wanted (room_calls b.log.shape))
+  works_less (Copies e) (Copies d) awaits falls on = omega (arith, falls.less, falls.none_ready, still_tight on room_calls)
   works_less Idle (Commits other) (inr wanted) falls on = omega (arith, whole_left wanted)
   works_less (Copies e) (Commits other) awaits falls on = omega arith
-  works_less (Commits victim) (Commits other) awaits falls on = absurd (omega (arith, falls.less, falls.none_ready))
-  works_less (GivesBack victim) (Commits other) awaits falls on = absurd (omega (arith, falls.less, falls.none_ready))
-  works_less Idle (GivesBack other) (inl runs) falls on = absurd (no_yes runs)
   works_less Idle (GivesBack other) (inr wanted) falls on = omega (arith, whole_left wanted, none_left (has_room on), none_room (has_room on) (room_calls c.log.shape))
   works_less (Copies e) (GivesBack other) awaits falls on = omega (arith, none_left (has_room on), none_room (has_room on) (room_calls c.log.shape))
   works_less (Commits victim) (GivesBack other) awaits falls on = omega (arith, none_left (has_room on), none_room (has_room on) (room_calls c.log.shape))
-  works_less (GivesBack victim) (GivesBack other) awaits falls on = absurd (omega (arith, falls.less, falls.none_ready))
+  works_less p q awaits falls on = absurd (omega (arith, falls.less, falls.none_ready))
 
   -- no more roots
   pub works_roots : (p q : Phase) → AwaitsAt p count b → FallsTo p b q c → RunsOn q b c → roots_at q count c ≤ roots_at p count b
   works_roots p Idle awaits falls on = absurd on
-  works_roots Idle (Copies d) (inl runs) falls on = absurd (no_yes runs)
-  works_roots Idle (Copies d) (inr wanted) falls on =
-      let tight : where_so (is_tight_for c) room_roots ≡ where_so (is_tight_for b) room_roots = ap (λ t. where_so t room_roots) (tight_same b c on) in
-      let moves : where_so (needs count b && is_tight_for b) room_roots ≡ where_so (is_tight_for b) room_roots = ap (λ x. where_so (x && is_tight_for b) room_roots) wanted in
-      omega (arith, tight, moves)
-  works_roots (Copies e) (Copies d) awaits falls on =
-      let tight : where_so (is_tight_for c) room_roots ≡ where_so (is_tight_for b) room_roots = ap (λ t. where_so t room_roots) (tight_same b c on) in
-      omega (arith, tight)
-  works_roots (Commits victim) (Copies d) awaits falls on = absurd (omega (arith, falls.less, falls.none_ready))
-  works_roots (GivesBack victim) (Copies d) awaits falls on = absurd (omega (arith, falls.less, falls.none_ready))
+  works_roots Idle (Copies d) (inl runs) falls on = absurd (not_both false runs refl)
+  works_roots Idle (Copies d) (inr wanted) falls on = omega (arith, still_tight on (λ s. room_roots), begins wanted room_roots)
+  works_roots (Copies e) (Copies d) awaits falls on = omega (arith, still_tight on (λ s. room_roots))
   works_roots p (Commits other) awaits falls on = omega arith
   works_roots p (GivesBack other) awaits falls on = omega (arith, none_room (has_room on) room_roots)
+  works_roots p q awaits falls on = absurd (omega (arith, falls.less, falls.none_ready))
 
   -- ---- one that ends it
 
   full_needs : (used : ℕ) (fits : Bool) → data_blocks b.log.shape - 1 ≤ used → not fits && nat_le (data_blocks b.log.shape - 1) used ≡ not fits
-  full_needs used fits full = ap (λ x. not fits && x) (le-leb (data_blocks b.log.shape - 1) used full) ∙ both (not fits)
-    where
-      both : (x : Bool) → (x && true) ≡ x
-      both true = refl
-      both false = refl
+  full_needs used fits full = ap (λ x. not fits && x) (le-leb (data_blocks b.log.shape - 1) used full) ∙ and_true (not fits)
 
   -- a value needs a reclaim as before, if a block is freed
   needs_same : (victim : ℕ) → (runs_in (GivesBack victim) ≡ true → used_by Values b.pool.states ≡ data_blocks b.log.shape)
@@ -120,7 +102,7 @@ module _ (count : ℕ) (b c : Parts) (same_shape : c.log.shape ≡ b.log.shape) 
 
   pub ends_less : (p : Phase) → AwaitsAt p count b → (runs_in p ≡ true → used_by Values b.pool.states ≡ data_blocks b.log.shape) → used_by Values c.pool.states + 1 ≡ used_by Values b.pool.states
       → RoomBehind p (space_of b) (space_of c) → 1 + left_at Idle count c ≤ left_at p count b
-  ends_less Idle (inl runs) full given from = absurd (no_yes runs)
+  ends_less Idle (inl runs) full given from = absurd (not_both false runs refl)
   ends_less Idle (inr wanted) full given from = omega (arith, whole_left wanted, none_left (has_room from), none_room (has_room from) (room_calls c.log.shape))
   ends_less (Copies e) awaits full given from = omega (arith, none_left (has_room from), none_room (has_room from) (room_calls c.log.shape))
   ends_less (Commits victim) awaits full given from = absurd from
@@ -134,10 +116,9 @@ module _ (count : ℕ) (b c : Parts) (same_shape : c.log.shape ≡ b.log.shape) 
   -- no more roots
   pub ends_roots : (p : Phase) → AwaitsAt p count b → (runs_in p ≡ true → used_by Values b.pool.states ≡ data_blocks b.log.shape) → used_by Values c.pool.states + 1 ≡ used_by Values b.pool.states
       → RoomBehind p (space_of b) (space_of c) → roots_at Idle count c ≤ roots_at p count b
-  ends_roots Idle awaits full given from = omega (arith, none_room (has_room from) room_roots)
-  ends_roots (Copies e) awaits full given from = omega (arith, none_room (has_room from) room_roots)
   ends_roots (Commits victim) awaits full given from = absurd from
   ends_roots (GivesBack victim) awaits full given from =
       let same = needs_same victim full given from in
       let moves : where_so (needs count c && is_tight_for c) room_roots ≡ where_so (needs count b && is_tight_for b) room_roots = λ i. where_so (same i && tight_same b c from.0 i) room_roots in
       omega (arith, moves)
+  ends_roots p awaits full given from = omega (arith, none_room (has_room from) room_roots)

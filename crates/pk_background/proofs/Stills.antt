@@ -1,7 +1,7 @@
 -- Calls of the flash that change no page that is read, or kept.
 use Rattle.std.proofs.Common.{◌≡◌, ◌⊎◌, inl, inr, ℕ, zero, suc, ◌+◌, ◌/◌, ◌%◌, ◌<◌, ◌≤◌, refl, sym, ap, ◌∙◌, arith, List, [], ◌++◌, length, Some}
 use Rattle.pk_base.{specs.Shape.Shape, specs.Shape.charge, specs.Key.Key, specs.Page.Flash, specs.Page.page_at, specs.Entry.Entry}
-use Rattle.pk_base.specs.Mark.{program, erase, after, all_posted}
+use Rattle.pk_base.specs.Mark.{Mark, program, erase, after, all_posted}
 use Rattle.pk_segfmt.specs.Stored.{page_of}
 use Rattle.pk_rootfmt.specs.Root.{Root}
 use Rattle.pk_nand.{specs.BoardState.BoardState, specs.Cut.Interrupted, specs.Cut.Touches, specs.Calls.after_program, specs.Calls.ProgramFailed, proofs.Leaving.interrupted_done}
@@ -60,40 +60,32 @@ module _ (shape : Shape) (root : Root) (found : Found) (pending : List Entry) (k
     pub still_none : (new : BoardState) → new ≡ old → Reaches shape old new StillCut
     still_none new same = Reaches-none shape old StillCut has new same (refl, so_far)
 
+    -- a flash operation that touches no page that is read
+    module _ (mark : Mark) (unread : (k : ℕ) → Touches shape mark k → IsStill shape root found pending kept k → ⊥) where
+      within : (f : Flash) → Interrupted shape mark old.pages f [] → StillCut f []
+      within f cut = (refl, λ k is. untouched shape mark k _ _ (λ here. unread k here is) (cut.pages k) ∙ so_far k is)
+
+      grows : Grows shape old.pages (after shape mark old.pages)
+      grows = grows_still old.pages (after shape mark old.pages) so_far (within (after shape mark old.pages) (interrupted_done shape mark old.pages)).1
+
+      limited : (f : Flash) → Interrupted shape mark old.pages f [] → limits_at shape f ≡ limits_at shape old.pages
+      limited f cut = limits_still old.pages f so_far (within f cut).1
+
     -- an erase of a block of which no page is read
     module _ (block : ℕ) (unread : (k : ℕ) → k / shape.block_pages ≡ block → IsStill shape root found pending kept k → ⊥) where
-      within_erase : (f : Flash) → Interrupted shape (erase block) old.pages f [] → StillCut f []
-      within_erase f cut = (refl, λ k is. untouched shape (erase block) k _ _ (λ here. unread k here is) (cut.pages k) ∙ so_far k is)
-
-      grows_erase : Grows shape old.pages (after shape (erase block) old.pages)
-      grows_erase = grows_still old.pages (after shape (erase block) old.pages) so_far (within_erase (after shape (erase block) old.pages) (interrupted_done shape (erase block) old.pages)).1
-
-      limited_erase : (f : Flash) → Interrupted shape (erase block) old.pages f [] → limits_at shape f ≡ limits_at shape old.pages
-      limited_erase f cut = limits_still old.pages f so_far (within_erase f cut).1
-
       pub still_erase : (new : BoardState) → new ≡ after_erase old block → Reaches shape old new StillCut
-      still_erase new made = Reaches-erase shape old StillCut has block within_erase grows_erase limited_erase new made
+      still_erase new made = Reaches-erase shape old StillCut has block (within (erase block) unread) (grows (erase block) unread) (limited (erase block) unread) new made
 
       pub still_erase_failed : (new : BoardState) → EraseFailed old new block → Goes shape old new StillCut
-      still_erase_failed new failed = Goes-erase shape old StillCut has block within_erase grows_erase limited_erase new failed
+      still_erase_failed new failed = Goes-erase shape old StillCut has block (within (erase block) unread) (grows (erase block) unread) (limited (erase block) unread) new failed
 
     -- a program of a page that is not read, in a pair of which no page is
     module _ (page : ℕ) (bytes : List ℕ) (unread : (k : ℕ) → Touches shape (program page bytes) k → IsStill shape root found pending kept k → ⊥) where
-      within_program : (f : Flash) → Interrupted shape (program page bytes) old.pages f [] → StillCut f []
-      within_program f cut = (refl, λ k is. untouched shape (program page bytes) k _ _ (λ here. unread k here is) (cut.pages k) ∙ so_far k is)
-
-      grows_program : Grows shape old.pages (after shape (program page bytes) old.pages)
-      grows_program = grows_still old.pages (after shape (program page bytes) old.pages) so_far
-          (within_program (after shape (program page bytes) old.pages) (interrupted_done shape (program page bytes) old.pages)).1
-
-      limited_program : (f : Flash) → Interrupted shape (program page bytes) old.pages f [] → limits_at shape f ≡ limits_at shape old.pages
-      limited_program f cut = limits_still old.pages f so_far (within_program f cut).1
-
       pub still_program : (new : BoardState) → new ≡ after_program old page bytes → Reaches shape old new StillCut
-      still_program new made = Reaches-program shape old StillCut has page bytes within_program grows_program limited_program new made
+      still_program new made = Reaches-program shape old StillCut has page bytes (within (program page bytes) unread) (grows (program page bytes) unread) (limited (program page bytes) unread) new made
 
       pub still_program_failed : (new : BoardState) → ProgramFailed old new page bytes → Goes shape old new StillCut
-      still_program_failed new failed = Goes-program shape old StillCut has page bytes within_program grows_program limited_program new failed
+      still_program_failed new failed = Goes-program shape old StillCut has page bytes (within (program page bytes) unread) (grows (program page bytes) unread) (limited (program page bytes) unread) new failed
 
   -- the pages of a value, whole pairs
   module _ (old : BoardState) (has : old.shape ≡ Some shape) (so_far : SameStill old.pages) (key : Key) (page : ℕ) (value : List ℕ)

@@ -1,5 +1,5 @@
 -- How much the reclaims before a value take, and what is unchanged after their commit.
-use Rattle.std.proofs.Common.{◌≡◌, ℕ, ◌+◌, ◌-◌, ◌≤◌, ◌<◌, Bool, true, false, List, [], length, refl, sym, ap, subst, arith, Result, Ok, Err}
+use Rattle.std.proofs.Common.{◌≡◌, ℕ, ◌+◌, ◌-◌, ◌≤◌, ◌<◌, true, List, [], length, refl, sym, ap, subst, arith, Result, Ok, Err}
 use Rattle.std.specs.Prelude.{◌&&◌}
 use Rattle.pk_base.{specs.Entry.Place, specs.Key.Key, specs.Page.Flash, specs.Map.Map, specs.Shape.Shape, specs.Shape.data_blocks, specs.Shape.most_pages}
 use Rattle.pk_nand.{specs.declared.types.Fault.Fault, specs.BoardState.BoardState}
@@ -8,31 +8,27 @@ use Rattle.pk_law_work.{specs.Rest.whole_reclaim, specs.Calls.commit_calls, spec
 use Rattle.pk_law_steps.specs.Under.{places}
 use Rattle.pk_gc.{specs.declared.course.Phase.Phase, specs.Standing.held_blocks, specs.Standing.ReclaimStands, specs.Stepping.runs_in}
 use Rattle.pk_gc.specs.declared.course.Phase.TheVariants.{Idle, Copies, Commits, GivesBack}
-use Rattle.pk_background.{specs.Costs.Spends, specs.Costs.reclaim_calls, specs.Emptying.OnRunning, specs.Reclaiming.is_tight_for, proofs.Callings.spends_then, proofs.ReadSteps.running_says}
-use Rattle.pk_background.specs.Spacing.{MovesOrReads, StaysSame, where_so, needs, steps_for, has_moves, space_left, MaySpace}
-use Rattle.pk_background.{proofs.Emptied.keeps_reads, proofs.Emptied.passes_keeps, proofs.SpaceSteps.values_stay, proofs.Steps.may_after}
-use Rattle.pk_background.proofs.SameMaps.{same_of, moves_later, moves_kept, moves_failed, stays_both}
+use Rattle.pk_background.{specs.Costs.Spends, specs.Costs.reclaim_calls, specs.Emptying.OnRunning, specs.Reclaiming.is_tight_for, proofs.Callings.spends_then, proofs.ReadSteps.reading_within, proofs.ReadSteps.running_says}
+use Rattle.pk_background.specs.Spacing.{MovesOrReads, StaysSame, needs, steps_for, has_moves, space_left, MaySpace}
+use Rattle.pk_background.{proofs.Emptied.keeps_reads, proofs.Emptied.passes_keeps, proofs.SpaceSteps.values_stay, proofs.SpaceSteps.where_most, proofs.Steps.may_after}
+use Rattle.pk_background.proofs.SameMaps.{same_of, moves_later, moves_kept, stays_both}
 use Rattle.pk_parts.{specs.Parts.Parts, specs.Parts.counts_of, specs.Moves.StandsFor, specs.Moves.MayStep, specs.Moves.StepKeeps, specs.Moves.LeavesValues, specs.Moves.StandsBetween}
 use Rattle.pk_parts.{proofs.Halves.counted_of, specs.Staying.Stays, proofs.Reclaiming.reclaim_within}
 
 -- ---- how much the reclaims take
 
-where_few : (b : Bool) (n : ℕ) → where_so b n ≤ n
-where_few true n = omega arith
-where_few false n = omega arith
-
 steps_most : (p : Phase) (count : ℕ) (d : Parts) (flash : Flash) (es : List (Key × Place))
     → ReclaimStands p d.log.shape d.reclaim d.values.live flash es → steps_for p count d ≤ whole_reclaim d.log.shape
-steps_most Idle count d flash es stands = let few = where_few (needs count d) (whole_reclaim d.log.shape - 1) in omega (arith, few)
+steps_most Idle count d flash es stands = let few = where_most (needs count d) (whole_reclaim d.log.shape - 1) in omega (arith, few)
 steps_most (Copies c) count d flash es stands = let few = reclaim_within (Copies c) d.log.shape true d.reclaim d.values.live flash es stands in omega (arith, few)
 steps_most (Commits victim) count d flash es stands = omega arith
-steps_most (GivesBack victim) count d flash es stands = let few = where_few (needs count d) (whole_reclaim d.log.shape - 1) in omega (arith, few)
+steps_most (GivesBack victim) count d flash es stands = let few = where_most (needs count d) (whole_reclaim d.log.shape - 1) in omega (arith, few)
 
 space_within : (count : ℕ) (d : Parts) (board : BoardState) → MayStep d board → space_left count d ≤ whole_reclaim d.log.shape + room_calls d.log.shape
 space_within count d board may =
     let there = may.stands.1 in
     let steps = steps_most d.reclaim.phase count d board.pages (places there.found d.log.pending) there.with.reclaim.stands in
-    let room = where_few (has_moves d.reclaim.phase count d && is_tight_for d) (room_calls d.log.shape) in
+    let room = where_most (has_moves d.reclaim.phase count d && is_tight_for d) (room_calls d.log.shape) in
     omega (arith, steps, room)
 
 space_most : (count : ℕ) (d : Parts) (board : BoardState) → MayStep d board → space_left count d + 1 ≤ space_calls d.log.shape
@@ -72,7 +68,7 @@ module _ (count : ℕ) (a b : Parts) (s0 s1 : BoardState) (may : MayStep a s0) (
       spends_then commit_calls (space_left count b) (reclaim_calls a.log.shape) 0 room_roots room_roots s0 s1 s2 (omega (arith, most, calls)) (omega arith) first second
 
 pub space_not_made : (e : Fault) (a b : Parts) (s0 s1 : BoardState) → StepKeeps {T = Unit {0}} a b 0 s0 s1 (Err e) → MovesOrReads {T = Unit {0}} a b (space_calls a.log.shape) s0 s1 (Err e)
-space_not_made e a b s0 s1 step = moves_failed e a b 0 (space_calls a.log.shape) s0 s1 (omega arith) (moves_kept (Err e) a b 0 s0 s1 (keeps_reads (Err e) a b 0 s0 s1 step))
+space_not_made e a b s0 s1 step = reading_within (space_calls a.log.shape) (omega arith) (moves_kept (Err e) a b 0 s0 s1 (keeps_reads (Err e) a b 0 s0 s1 step))
 
 pub stays_made : (r : Result Unit Fault) (a b c : Parts) → LeavesValues a b → Stays a b → OnRunning (StaysSame b c) r → OnRunning (StaysSame a c) r
 stays_made r a b c leaves stays second = running_says (StaysSame b c) (StaysSame a c) r (stays_both a b c (values_stay a b leaves stays)) second
@@ -94,6 +90,4 @@ blocks_between d shape flash m s =
 
 pub blocks_at : (p : Phase) (used all : ℕ) → all - 1 ≤ used → (runs_in p ≡ true → used ≡ all) → all - 1 ≤ used - length (held_blocks p)
 blocks_at Idle used all least full = omega (arith, least)
-blocks_at (Copies c) used all least full = let same = full refl in omega (arith, same)
-blocks_at (Commits victim) used all least full = let same = full refl in omega (arith, same)
-blocks_at (GivesBack victim) used all least full = let same = full refl in omega (arith, same)
+blocks_at p used all least full = let same = full refl in omega (arith, same)

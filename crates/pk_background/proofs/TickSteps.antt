@@ -1,23 +1,36 @@
 -- From what one background step did to what a Tick promises.
-use Rattle.std.proofs.Common.{◌≡◌, inl, ◌+◌, ◌<◌, ◌≤◌, sym, ap, subst, ◌∙◌, arith, refl, true, false, List, [], Ok}
-use Rattle.pk_base.{specs.Shape.Shape, specs.Page.Flash, specs.Page.page_at, specs.Entry.Entry}
+use Rattle.std.proofs.Common.{◌≡◌, inl, ◌+◌, ◌<◌, ◌≤◌, sym, ap, subst, ◌∙◌, arith, refl, Bool, true, false, List, [], Ok}
+use Rattle.pk_base.{specs.Shape.Shape, specs.Page.Flash, specs.Page.page_at, specs.Entry.Entry, proofs.Logic.not_both}
 use Rattle.pk_rootfmt.specs.Newest.{newest_root}
-use Rattle.pk_nand.{specs.BoardState.BoardState, specs.BoardState.shape_or_none, specs.Calls.IsReady, specs.Calls.Rose, proofs.Reaching.Reached-start}
+use Rattle.pk_nand.{specs.BoardState.BoardState, specs.BoardState.shape_or_none, specs.Calls.IsReady, specs.Calls.Rose}
 use Rattle.pk_nand.specs.Effects.{AtMostOneCall, OneProgram, NoFault, OnlyFlash, OnlyReading, Stops}
 use Rattle.pk_model.{specs.Growth.Grows, specs.Growth.Reaches, specs.Growth.Goes, specs.Wear.roots, specs.Crashes.CrashFinds, specs.Crashes.background, specs.Reading.reading, specs.Spaces.limits_at}
 use Rattle.pk_model.proofs.Growing.{reached_limits}
-use Rattle.pk_call.{specs.Sight.IsIdle, specs.Drive.HoldsMap, specs.declared.types.Ticked.TheVariants.Worked, specs.declared.types.Ticked.TheVariants.Fault}
+use Rattle.pk_call.{specs.Sight.IsIdle, specs.Drive.HoldsMap, specs.declared.types.Ticked.TheVariants.Worked, specs.declared.types.Ticked.TheVariants.Idle, specs.declared.types.Ticked.TheVariants.Fault}
 use Rattle.pk_parts.{specs.Parts.Parts, specs.Parts.drive_limits, specs.Parts.frames_of, specs.Parts.sight_of, specs.Parts.is_half, specs.Moves.StandsFor, specs.Moves.StandsBetween}
 use Rattle.pk_parts.{specs.Staying.StaysOrFrees, proofs.OwnLimits.limits_on, proofs.Unchanging.for_its_map, proofs.Unchanging.agrees_ready, proofs.Halves.stands as whole_stands}
+use Rattle.pk_background.proofs.ReadSteps.{read_cuts}
 use Rattle.pk_parts.proofs.Standing.{agrees_so, agrees_between, reads_as, reads_between, stands_between}
 use Rattle.pk_background.{specs.Reclaiming.ReclaimHolds, specs.Reclaiming.HoldsAll, specs.Reclaiming.FailsAll, specs.Ticking.MayTick, specs.Ticking.Advances}
-use Rattle.pk_background.proofs.Ticking.{worked_fine, stopped_fine, stopped_idle, stopped_worked, worked_idle}
 
-true_false : true ≡ false → ⊥
-true_false e = cc
+-- ---- answers
 
-false_true : false ≡ true → ⊥
-false_true e = cc
+worked_fine : Worked ≡ Fault false → ⊥
+worked_fine e = cc
+
+stopped_fine : Fault true ≡ Fault false → ⊥
+stopped_fine e = cc
+
+stopped_idle : (b : Bool) → Fault b ≡ Idle → ⊥
+stopped_idle b e = cc
+
+stopped_worked : (b : Bool) → Fault b ≡ Worked → ⊥
+stopped_worked b e = cc
+
+worked_idle : Worked ≡ Idle → ⊥
+worked_idle e = cc
+
+-- ---- steps
 
 -- reads leave the tree
 pub read_grows : (shape : Shape) (old new : BoardState) → OnlyReading old new → Grows shape old.pages new.pages
@@ -60,7 +73,7 @@ module _ (d : Parts) (old : BoardState) (m : MayTick d old) where
             stands = λ _. for_its_map d old m.agrees (λ s f x. HoldsMap s f new (sight_of d') x)
                 (record { shape_is = ready.shape_is; frames_is = frames; limits_is = limits_after here.cuts; map_is = reads_between d' d.log.shape new.pages m.agrees.all here.stands });
             cuts = λ _. for_its_map d old m.agrees (λ s f x. Reaches s old new (CrashFinds s background old.pages x)) here.cuts;
-            cuts_stopped = λ e. absurd (false_true e);
+            cuts_stopped = λ e. absurd (not_both false e refl);
             idle_rests = λ e. absurd (worked_idle e);
             unmade = λ e. absurd (worked_fine e);
             grows = λ _. grown grows;
@@ -70,7 +83,7 @@ module _ (d : Parts) (old : BoardState) (m : MayTick d old) where
             up = (let e = sound.1 in omega (arith, e));
             flash_up = λ _. (let e = sound.0 in omega (arith, e));
             worked = λ _. sound;
-            stop = λ e. absurd (false_true e);
+            stop = λ e. absurd (not_both false e refl);
             no_stop = λ _. sound.2;
             installs = installs;
           };
@@ -100,14 +113,10 @@ module _ (d : Parts) (old : BoardState) (m : MayTick d old) where
           ticks = record {
             stands = λ _. for_its_map d old m.agrees (λ s f x. HoldsMap s f new (sight_of d') x)
                 (record { shape_is = ready.shape_is; frames_is = frames; limits_is = ap (limits_at d.log.shape) pages_same ∙ own_limits; map_is = reads_as d' d.log.shape new.pages m.agrees.all still });
-            cuts = λ _. for_its_map d old m.agrees (λ s f x. Reaches s old new (CrashFinds s background old.pages x)) (
-              [],
-              Reached-start old new (CrashFinds d.log.shape background old.pages m.agrees.all) (ap (λ (b : BoardState). b.shape) only) pages_same
-                  (ap (λ (b : BoardState). b.trail) only) (ap (λ (b : BoardState). b.posted) only)
-                  (refl, subst (λ (es : List Entry). reading d.log.shape old.pages es ≡ Ok m.agrees.all) m.none (reads_between d d.log.shape old.pages m.agrees.all its_stand)),
-              tt,
-            );
-            cuts_stopped = λ e. absurd (false_true e);
+            cuts = λ _. for_its_map d old m.agrees (λ s f x. Reaches s old new (CrashFinds s background old.pages x))
+                (read_cuts d.log.shape (CrashFinds d.log.shape background old.pages m.agrees.all) old new only
+                (refl, subst (λ (es : List Entry). reading d.log.shape old.pages es ≡ Ok m.agrees.all) m.none (reads_between d d.log.shape old.pages m.agrees.all its_stand)));
+            cuts_stopped = λ e. absurd (not_both false e refl);
             idle_rests = λ e. absurd (stopped_idle false e);
             unmade = λ _. (seen, only);
             grows = λ _. grown grows;
@@ -117,7 +126,7 @@ module _ (d : Parts) (old : BoardState) (m : MayTick d old) where
             up = omega (arith, rose, counted);
             flash_up = λ few. omega (arith, flash, few);
             worked = λ e. absurd (stopped_worked false e);
-            stop = λ e. absurd (false_true e);
+            stop = λ e. absurd (not_both false e refl);
             no_stop = λ _. ap (λ (b : BoardState). b.stop_faults) only;
             installs = installs;
           };
@@ -139,12 +148,12 @@ module _ (d : Parts) (old : BoardState) (m : MayTick d old) where
         → Advances d d' old new (Fault true)
     stop_advances busy none stopped goes stops = record {
       ticks = record {
-        stands = λ e. absurd (true_false e);
-        cuts = λ e. absurd (true_false e);
+        stands = λ e. absurd (not_both true refl e);
+        cuts = λ e. absurd (not_both true refl e);
         cuts_stopped = λ _. for_its_map d old m.agrees (λ s f x. Goes s old new (CrashFinds s background old.pages x)) goes;
         idle_rests = λ e. absurd (stopped_idle true e);
         unmade = λ e. absurd (stopped_fine e);
-        grows = λ e. absurd (true_false e);
+        grows = λ e. absurd (not_both true refl e);
         rest = rest;
         calls = calls;
         unread = λ e. absurd (stopped_fine e);
@@ -152,16 +161,16 @@ module _ (d : Parts) (old : BoardState) (m : MayTick d old) where
         flash_up = λ few. (let e = stops.flash in omega (arith, e, few));
         worked = λ e. absurd (stopped_worked true e);
         stop = λ _. stops.stop;
-        no_stop = λ e. absurd (true_false e);
+        no_stop = λ e. absurd (not_both true refl e);
         installs = installs;
       };
       stops = stopped;
       none = none;
-      agrees = λ e. absurd (true_false e);
-      moves = λ e. absurd (true_false e);
+      agrees = λ e. absurd (not_both true refl e);
+      moves = λ e. absurd (not_both true refl e);
       repeats = repeats;
-      finishes = λ half e. absurd (true_false e);
-      number = λ e. absurd (true_false e);
+      finishes = λ half e. absurd (not_both true refl e);
+      number = λ e. absurd (not_both true refl e);
       lowers = λ e. absurd (stopped_worked true e);
       idle = λ e. absurd (stopped_idle true e);
       busy = λ idle. absurd (busy idle);

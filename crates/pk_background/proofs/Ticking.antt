@@ -1,21 +1,21 @@
 -- A background step: a spare block is erased, or nothing is done.
 use Rattle.std.proofs.Common.{◌≡◌, ◌≢◌, inl, inr, ℕ, zero, suc, ◌+◌, ◌-◌, ◌*◌, ◌/◌, ◌<◌, ◌≤◌, refl, sym, ap, subst, ◌∙◌, arith, Bool, true, false, cond, List, [], ◌∷◌, ◌++◌, length, Option, Some}
 use Rattle.std.proofs.Common.{None, Ok, nat_le}
-use Rattle.std.specs.Prelude.{slice_get, filter, count_by, map, unwrap_or, MatchOption, MatchBool, ◌&&◌, ◌==◌, not}
+use Rattle.std.specs.Prelude.{slice_get, filter, count_by, map, unwrap_or, MatchOption, ◌&&◌, ◌==◌, not}
 use Rattle.std.{proofs.lemmas.Bool.le-leb, proofs.lemmas.Bool.eqb-true, proofs.lemmas.Bool.eq-eqb, proofs.lemmas.Bool.Decides.leb_tells, specs.List.range_with_len, specs.List.concat}
 use Rattle.std.{proofs.lemmas.List.Sums.sum_by-cons, proofs.lemmas.List.length-append}
 use Rattle.pk_base.{specs.Shape.Shape, specs.Shape.most_pages, specs.Shape.data_blocks, specs.Page.Page, specs.Page.Flash, specs.Page.page_at, specs.Page.erased, specs.Page.whole, specs.Page.torn}
 use Rattle.pk_base.{specs.Mark.erase, specs.Mark.after, proofs.Logic.not_both, proofs.Logic.both_true}
-use Rattle.pk_rootfmt.{specs.Root.Root, specs.Root.named, specs.Newest.newest_root}
-use Rattle.pk_plan.specs.declared.owner.Owner.TheVariants.{Journal, Meta, Values}
-use Rattle.pk_nand.{specs.BoardState.BoardState, specs.BoardState.shape_or_none, specs.Calls.IsReady, specs.Operations.after_erase, specs.Operations.EraseFailed, proofs.Reaching.Reached-start}
-use Rattle.pk_nand.{proofs.Touching.untouched_after, proofs.Effects.works_erase, proofs.Effects.stops_erase, specs.Effects.AtMostOneCall, specs.Effects.made_no_call, specs.Effects.made_erase}
-use Rattle.pk_pool.{specs.declared.state.BlockState.BlockState, specs.Unready.unready, specs.Taking.ErasesOne, specs.Taking.ErasesNone, proofs.States.free_is_not_root}
-use Rattle.pk_pool.specs.declared.state.BlockState.TheVariants.{Root as RootBlock, Free, Ready, Owned, Leaving}
+use Rattle.pk_rootfmt.{specs.Root.Root, specs.Root.named}
+use Rattle.pk_plan.{specs.declared.owner.Owner.Owner, specs.declared.owner.Owner.TheVariants.Journal, specs.declared.owner.Owner.TheVariants.Meta, specs.declared.owner.Owner.TheVariants.Values}
+use Rattle.pk_nand.{specs.BoardState.BoardState, specs.BoardState.shape_or_none, specs.Calls.IsReady, specs.Operations.after_erase, specs.Operations.EraseFailed}
+use Rattle.pk_nand.{proofs.Touching.untouched_after}
+use Rattle.pk_pool.{specs.declared.state.BlockState.BlockState, specs.Unready.unready, proofs.States.free_is_not_root}
+use Rattle.pk_pool.specs.declared.state.BlockState.TheVariants.{Root as RootBlock, Free, Ready}
 use Rattle.pk_pool.specs.Blocks.{Blocks, PoolOnFlash, IsShared, IsOwned, IsNowhere, NoneLeaves, is_free, is_ready, is_owned_by, used_by, with_state, freed, freed_state}
 use Rattle.pk_pool.{proofs.Sharing.count-set, proofs.Sharing.behind_roots, proofs.Sharing.all_counted, proofs.Sharing.none_free, proofs.Leaving.shared_freed, proofs.Leaving.state_after}
 use Rattle.pk_schedule.{proofs.Settled.none_leaves_set, specs.declared.phase.Phase.Phase, specs.Index.Index, specs.Index.MergeStands, specs.Index.merging, specs.Index.output}
-use Rattle.pk_schedule.specs.declared.phase.Phase.TheVariants.{Idle as NoMerge, Running, Ready as ReadyOutput}
+use Rattle.pk_schedule.specs.declared.phase.Phase.TheVariants.{Idle as NoMerge}
 use Rattle.pk_schedule.specs.Steps.{merge_left, has_no_merge, is_between}
 use Rattle.pk_run.specs.Kept.{Kept as KeptRun, empty}
 use Rattle.pk_jrn.specs.Epochs.{left_of as pages_left}
@@ -23,20 +23,19 @@ use Rattle.pk_law_work.specs.Backlog.{Backlog, due_level, is_tight}
 use Rattle.pk_law_work.specs.Work.{work, filling, filling_from, merging as merging_left, merging_from}
 use Rattle.pk_compact.specs.FreezeSteps.{taken_by}
 use Rattle.pk_model.{specs.Found.Found, specs.Reading.reading, specs.Growth.Grows, specs.Growth.Reaches, specs.Growth.Goes, specs.Wear.roots, specs.Crashes.CrashFinds, specs.Crashes.background}
-use Rattle.pk_model.proofs.Growing.{reached_limits, weaken, weaken_went}
-use Rattle.pk_call.{specs.Sight.is_erased, specs.Sight.has_open_room, specs.Sight.IsIdle, specs.Drive.HoldsMap, specs.Seen.stopped_by, specs.declared.types.Ticked.Ticked}
-use Rattle.pk_call.specs.declared.types.Ticked.TheVariants.{Worked, Idle, Fault}
+use Rattle.pk_model.proofs.Growing.{weaken, weaken_went}
+use Rattle.pk_call.{specs.Sight.is_erased, specs.Sight.has_open_room, specs.Sight.IsIdle}
 use Rattle.pk_law_steps.{specs.Under.places, proofs.Untouched.under_reads}
 use Rattle.pk_values.{specs.State.fits_open, specs.State.has_left, specs.Placed.HoldsValues, specs.Placed.ValuesOnFlash, specs.Placed.IsOpenIn, proofs.Unchanged.block_elsewhere, specs.Laws.SameValues}
 use Rattle.pk_live.specs.declared.open_block.OpenBlock.{OpenBlock}
 use Rattle.pk_gc.specs.Stepping.{runs_in}
 use Rattle.pk_parts.specs.Parts.{Parts, frames_of, sight_of, counts_of, index_of, block_if_open, outputs_of, backlog_of, is_reclaim_due, reclaim_left, has_moves, may_freeze, is_half, settled_parts}
-use Rattle.pk_parts.{specs.Agreeing.DriveOnFlashWith, specs.Agreeing.DriveOnFlash, specs.Agreeing.IsWhole, proofs.Holding.filled_if, proofs.Holding.held_if, proofs.OwnLimits.limits_on}
-use Rattle.pk_parts.{proofs.Reclaiming.reclaim_elsewhere, proofs.Reclaiming.holds_none, proofs.Unchanging.own, proofs.Unchanging.own_whole, proofs.Unchanging.for_its_map}
-use Rattle.pk_parts.proofs.Halves.{with_settled, whole_of, whole_like, is_whole, counted_of, pool_same}
+use Rattle.pk_parts.{specs.Agreeing.DriveOnFlashWith, specs.Agreeing.DriveOnFlash, specs.Agreeing.IsWhole, proofs.Holding.filled_if, proofs.Holding.held_if}
+use Rattle.pk_parts.{proofs.Reclaiming.reclaim_elsewhere, proofs.Reclaiming.holds_none, proofs.Unchanging.own, proofs.Unchanging.own_whole}
+use Rattle.pk_parts.proofs.Halves.{between, whole_of, whole_like, is_whole, counted_of, pool_same}
 use Rattle.pk_level.specs.Arenas.{unfilled}
-use Rattle.pk_background.{specs.Filling.lacks_frames, specs.Ticking.Ticks, specs.Ticking.HasNoStep, specs.Ticking.WantsReclaim, specs.Ticking.WantsFreeze}
-use Rattle.pk_background.proofs.Unread.{KeepsOwners, SameRead, same_top, still_without, still_all, agrees_elsewhere}
+use Rattle.pk_background.{specs.Filling.lacks_frames, specs.Reclaiming.ReclaimHolds, specs.Ticking.HasNoStep, specs.Ticking.WantsReclaim, specs.Ticking.WantsFreeze}
+use Rattle.pk_background.proofs.Unread.{KeepsOwners, SameRead, same_top, still_without, agrees_elsewhere}
 use Rattle.pk_background.proofs.Stills.{IsStill, SameStill, StillCut, read_still, still_end, went_end, still_erase, still_erase_failed}
 use Rattle.pk_background.proofs.Beside.{IsIndexed, spare_still, beside_still, same_roots}
 
@@ -65,51 +64,7 @@ due_so d shape used same many = λ i. (many i - length (outputs_of d) == data_bl
 -- what remains of a merge does not depend on the pool
 merge_beside : (p : Phase) (x : Index) (q : Blocks) → merge_left p (record x { pool = q }) ≡ merge_left p x
 merge_beside NoMerge x q = refl
-merge_beside (Running level) x q = refl
-merge_beside (ReadyOutput level) x q = refl
-
--- ---- nothing is done
-
-pub ticks_nothing : (d : Parts) (old new : BoardState) (d' : Parts) (answer : Ticked) → d' ≡ d → new ≡ old → d.log.pending ≡ []
-    → stopped_by answer ≡ false → (answer ≡ Fault false → ⊥) → Ticks old new (sight_of d) (sight_of d') answer
-ticks_nothing d old new d' answer same_drive same_board none runs fine =
-    let T : BoardState → Type 0 = λ b. Ticks old b (sight_of d) (sight_of d') answer in
-    let U : Parts → Type 0 = λ x. Ticks old old (sight_of d) (sight_of x) answer in
-    subst T (sym same_board) (subst U (sym same_drive) (record {
-      stands = λ _ shape frames m st. st;
-      cuts = λ _ shape frames m st. ([], Reached-start old old (CrashFinds shape background old.pages m) refl refl refl refl (refl, subst (λ p. reading shape old.pages p ≡ Ok m) none st.map_is), tt);
-      cuts_stopped = λ e. absurd (yes_no (stopped_by answer) runs e);
-      idle_rests = λ _. (refl, refl);
-      unmade = λ e. absurd (fine e);
-      grows = λ _. inl refl;
-      rest = refl;
-      calls = made_no_call (refl, refl, refl);
-      unread = λ e. absurd (fine e);
-      up = omega arith;
-      flash_up = λ _. omega arith;
-      worked = λ _. (refl, refl, refl, refl);
-      stop = λ e. absurd (yes_no (stopped_by answer) runs e);
-      no_stop = λ _. refl;
-      installs = omega arith;
-    }))
-
-pub worked_fine : Worked ≡ Fault false → ⊥
-worked_fine e = cc
-
-pub idle_fine : Idle ≡ Fault false → ⊥
-idle_fine e = cc
-
-pub stopped_fine : Fault true ≡ Fault false → ⊥
-stopped_fine e = cc
-
-pub stopped_idle : (b : Bool) → Fault b ≡ Idle → ⊥
-stopped_idle b e = cc
-
-pub stopped_worked : (b : Bool) → Fault b ≡ Worked → ⊥
-stopped_worked b e = cc
-
-pub worked_idle : Worked ≡ Idle → ⊥
-worked_idle e = cc
+merge_beside p x q = refl
 
 -- ---- a spare block is erased
 
@@ -127,10 +82,6 @@ module _ (d : Parts) (old new : BoardState) (a : DriveOnFlash d old.shape old.pa
 
   has : old.shape ≡ Some d.log.shape
   has = a.told_is ∙ ap (λ s. Some s) (sym a.with.shape_is)
-
-  -- the tree is unchanged
-  grown : (new : BoardState) → newest_root d.log.shape (page_at new.pages) ≡ newest_root d.log.shape (page_at old.pages) → Grows (shape_or_none old.shape) old.pages new.pages
-  grown new same = inl (subst (λ o. newest_root (shape_or_none o) (page_at new.pages) ≡ newest_root (shape_or_none o) (page_at old.pages)) (sym has) same)
 
   unread : (k : ℕ) → k / d.log.shape.block_pages ≡ block → IsStill d.log.shape a.top.1 a.found d.log.pending Kept k → ⊥
   unread = spare_still d d.log.shape old.pages a.top a.found a.without a.all (own_whole d old a whole) block
@@ -178,39 +129,30 @@ module _ (d : Parts) (old new : BoardState) (a : DriveOnFlash d old.shape old.pa
         (block_elsewhere d.log.shape d.values d.pool (outputs_of d) block Free Ready old.pages new.pages (places a.found d.log.pending)
         (own_whole d old a whole).placed free refl refl values_same (subst (λ p. PoolOnFlash p new.pages) marked fits))
 
-    journal_same : used_by Journal q.states ≡ used_by Journal d.pool.states
-    journal_same =
-        let all = count-set (is_owned_by Journal) d.pool.states block Free Ready free in
-        ap (λ p. used_by Journal p.states) marked ∙ omega (arith, all)
-
-    values_many : used_by Values q.states ≡ used_by Values d.pool.states
-    values_many =
-        let all = count-set (is_owned_by Values) d.pool.states block Free Ready free in
-        ap (λ p. used_by Values p.states) marked ∙ omega (arith, all)
-
-    meta_same : used_by Meta q.states ≡ used_by Meta d.pool.states
-    meta_same =
-        let all = count-set (is_owned_by Meta) d.pool.states block Free Ready free in
-        ap (λ p. used_by Meta p.states) marked ∙ omega (arith, all)
+    -- each owner has as many blocks
+    as_many : (o : Owner) → used_by o q.states ≡ used_by o d.pool.states
+    as_many o =
+        let all = count-set (is_owned_by o) d.pool.states block Free Ready free in
+        ap (λ p. used_by o p.states) marked ∙ omega (arith, all)
 
     agrees_now : DriveOnFlashWith (record d { pool = q }) d.log.shape new.pages a.top a.found a.without a.all
     agrees_now =
         let owners : KeepsOwners d.pool q = λ b o is. owned b (o, is) ∙ is in
         let its : q.shape ≡ d.log.shape = ap (λ p. p.shape) marked ∙ (own_whole d old a whole).placed.shape_is in
         agrees_elsewhere d d.values q d.log.shape old.pages new.pages a.top a.found a.without a.all (own_whole d old a whole) same ready.flash owners
-        (beside_still d d.log.shape old.pages a.top a.found a.without a.all (own_whole d old a whole) q new.pages owners its fits journal_same meta_same kept_same) placed
+        (beside_still d d.log.shape old.pages a.top a.found a.without a.all (own_whole d old a whole) q new.pages owners its fits (as_many Journal) (as_many Meta) kept_same) placed
         (reclaim_elsewhere d.log.shape d.reclaim d.values d.pool q old.pages new.pages (places a.found d.log.pending)
-        (own_whole d old a whole).reclaim (own_whole d old a whole).placed values_many (λ k held not_open. all_same k held))
+        (own_whole d old a whole).reclaim (own_whole d old a whole).placed (as_many Values) (λ k held not_open. all_same k held))
 
     less_left : unready q.states + 1 ≡ unready d.pool.states
     less_left =
         let all = count-set (λ s. not (is_ready s)) d.pool.states block Free Ready free in
         ap (λ p. unready p.states + 1) marked ∙ omega (arith, all)
 
-    pub lowers_erased : (sight_of (record d { pool = q })).work < (sight_of d).work
+    lowers_erased : (sight_of (record d { pool = q })).work < (sight_of d).work
     lowers_erased =
         let merge = merge_beside d.schedule.phase (index_of d) q in
-        let due : is_reclaim_due (record d { pool = q }) ≡ is_reclaim_due d = due_so d d.log.shape (used_by Values q.states) refl values_many in
+        let due : is_reclaim_due (record d { pool = q }) ≡ is_reclaim_due d = due_so d d.log.shape (used_by Values q.states) refl (as_many Values) in
         let may : may_freeze (record d { pool = q }) ≡ may_freeze d = ap (λ b. has_moves b d.reclaim.phase && is_tight d.log.shape (length d.log.active.entries) (pages_left d.log.epoch)) due in
         let backlog : backlog_of (record d { pool = q }) ≡ record (backlog_of d) { unready = unready q.states } = λ i.
         record (backlog_of d) { merge = merge i; reclaim = reclaim_left d.log.shape d.values.live.heads (due i) d.reclaim.phase; may_freeze = may i; unready = unready q.states } in
@@ -218,77 +160,28 @@ module _ (d : Parts) (old new : BoardState) (a : DriveOnFlash d old.shape old.pa
         let less = erase_lowers d.log.shape (backlog_of d) (unready q.states) (omega (arith, less_left)) in
         omega (arith, same, less)
 
-    pub agrees_erased : DriveOnFlash (record d { pool = q }) new.shape new.pages
-    agrees_erased =
-        let after_whole = whole_like d after_it refl (λ none. subst NoneLeaves (sym marked) (none_leaves_set d.pool block Ready refl none)) refl refl whole in
-        record {
-          shape = d.log.shape;
-          top = a.top;
-          found = a.found;
-          without = a.without;
-          all = a.all;
-          told_is = ready.shape_is;
-          with = with_settled after_it d.log.shape new.pages a.top a.found a.without a.all after_whole.settles agrees_now;
-          course = inl after_whole;
-        }
-
-    pub ticks_erased : d.log.pending ≡ [] → Ticks old new (sight_of d) (sight_of (record d { pool = q })) Worked
-    ticks_erased none =
-        let works = works_erase old new block made in
-        record {
-          stands = λ _. for_its_map d old a (λ s f m. HoldsMap s f new (sight_of (record d { pool = q })) m)
-              (record {
-                shape_is = ready.shape_is;
-                frames_is = refl;
-                limits_is = reached_limits d.log.shape old new Still has reached ∙ limits_on d old.shape old.pages a;
-                map_is = under_reads d.log.shape new.pages d.log.pending a.top a.found a.all
-                    (still_all d d.values d.pool d.log.shape old.pages new.pages a.top a.found a.without a.all (own_whole d old a whole) same);
-              });
-          cuts = λ _. for_its_map d old a (λ s f m. Reaches s old new (CrashFinds s background old.pages m))
-              (reached.0, weaken reached.0 old new Still (CrashFinds d.log.shape background old.pages a.all) (cut_is none) reached.1, reached.2);
-          cuts_stopped = λ e. absurd (yes_no false refl e);
-          idle_rests = λ e. absurd (worked_idle e);
-          unmade = λ e. absurd (worked_fine e);
-          grows = λ _. grown new (same_top d.log.shape a.top.1 a.found d.log.pending old.pages new.pages same);
-          rest = works.rest;
-          calls = subst (λ b. AtMostOneCall old b) (sym made) (made_erase (refl, refl, refl));
-          unread = λ e. absurd (worked_fine e);
-          up = (let e = works.no_fault.1 in omega (arith, e));
-          flash_up = λ _. (let e = works.no_fault.0 in omega (arith, e));
-          worked = λ _. works.no_fault;
-          stop = λ e. absurd (yes_no false refl e);
-          no_stop = λ _. works.no_fault.2;
-          installs = (let e = same_roots d.log.shape old new has ready.shape_is (same_top d.log.shape a.top.1 a.found d.log.pending old.pages new.pages same) in omega (arith, e));
-        }
+    pub erase_holds : d.log.pending ≡ [] → ReclaimHolds after_it d.log.shape a.all old new × Grows d.log.shape old.pages new.pages × (roots new ≤ roots old + 1) × ((sight_of after_it).work < (sight_of d).work)
+    erase_holds none =
+        let then_whole = whole_like d after_it refl (λ none_left. subst NoneLeaves (sym marked) (none_leaves_set d.pool block Ready refl none_left)) refl refl whole in
+        let tree = same_top d.log.shape a.top.1 a.found d.log.pending old.pages new.pages same in
+        let still_roots = same_roots d.log.shape old new has ready.shape_is tree in (
+          record {
+            stands = between after_it d.log.shape new.pages a.all (record { top = a.top; found = a.found; without = a.without; with = agrees_now; whole = then_whole });
+            cuts = (reached.0, weaken reached.0 old new Still (CrashFinds d.log.shape background old.pages a.all) (cut_is none) reached.1, reached.2);
+          },
+          inl tree,
+          omega (arith, still_roots),
+          lowers_erased,
+        )
 
   -- ---- by one that failed
 
-  pub ticks_failed : (d' : Parts) → EraseFailed old new block → d.log.pending ≡ [] → Ticks old new (sight_of d) (sight_of d') (Fault true)
-  ticks_failed d' failed none =
-      let stops = stops_erase old new block failed in
+  pub erase_broken : EraseFailed old new block → d.log.pending ≡ [] → Goes d.log.shape old new (CrashFinds d.log.shape background old.pages a.all) × (roots new ≤ roots old + 1)
+  erase_broken failed none =
       let went = still_erase_failed d.log.shape a.top.1 a.found d.log.pending Kept old.pages old has (λ k is. refl) block unread new failed in
-      let made = failed.rest in
-      record {
-        stands = λ e. absurd (yes_no true e refl);
-        cuts = λ e. absurd (yes_no true e refl);
-        cuts_stopped = λ _. for_its_map d old a (λ s f m. Goes s old new (CrashFinds s background old.pages m))
-            (went.0, weaken_went went.0 old new Still (CrashFinds d.log.shape background old.pages a.all) (cut_is none) went.1, went.2);
-        idle_rests = λ e. absurd (stopped_idle true e);
-        unmade = λ e. absurd (stopped_fine e);
-        grows = λ e. absurd (yes_no true e refl);
-        rest = stops.rest;
-        calls = made_erase (ap (λ b. b.reads) made, ap (λ b. b.programs) made, ap (λ b. b.erases) made);
-        unread = λ e. absurd (stopped_fine e);
-        up = (let e = stops.read in omega (arith, e));
-        flash_up = λ few. (let e = stops.flash in omega (arith, e, few));
-        worked = λ e. absurd (stopped_worked true e);
-        stop = λ _. stops.stop;
-        no_stop = λ e. absurd (yes_no true e refl);
-        installs =
-            (let e = same_roots d.log.shape old new has (ap (λ b. b.shape) made ∙ has)
-            (same_top d.log.shape a.top.1 a.found d.log.pending old.pages new.pages
-            (read_still d.log.shape a.top.1 a.found d.log.pending Kept old.pages new.pages (went_end d.log.shape a.top.1 a.found d.log.pending Kept old.pages old new went))) in omega (arith, e));
-      }
+      let same = read_still d.log.shape a.top.1 a.found d.log.pending Kept old.pages new.pages (went_end d.log.shape a.top.1 a.found d.log.pending Kept old.pages old new went) in
+      let still_roots = same_roots d.log.shape old new has (ap (λ b. b.shape) failed.rest ∙ has) (same_top d.log.shape a.top.1 a.found d.log.pending old.pages new.pages same) in
+      ((went.0, weaken_went went.0 old new Still (CrashFinds d.log.shape background old.pages a.all) (cut_is none) went.1, went.2), omega (arith, still_roots))
 
 -- ---- counts of blocks
 
@@ -296,10 +189,7 @@ module _ (d : Parts) (old new : BoardState) (a : DriveOnFlash d old.shape old.pa
 pub ready_freed : (states : List BlockState) → count_by is_ready (map freed_state states) ≡ count_by is_ready states
 ready_freed [] = refl
 ready_freed (RootBlock ∷ ss) = omega (arith, ready_freed ss, sum_by-cons {X = BlockState})
-ready_freed (Free ∷ ss) = omega (arith, ready_freed ss, sum_by-cons {X = BlockState})
-ready_freed (Ready ∷ ss) = omega (arith, ready_freed ss, sum_by-cons {X = BlockState})
-ready_freed (Owned o ∷ ss) = omega (arith, ready_freed ss, sum_by-cons {X = BlockState})
-ready_freed (Leaving o ∷ ss) = omega (arith, ready_freed ss, sum_by-cons {X = BlockState})
+ready_freed (s ∷ ss) = omega (arith, ready_freed ss, sum_by-cons {X = BlockState})
 
 some_free : (states : List BlockState) (b : ℕ) → slice_get states b ≡ Some Free → 1 ≤ count_by is_free states
 some_free states b free =
@@ -347,16 +237,20 @@ room_is shape pool flash (Some o) is =
 
 -- ---- when nothing remains to be done
 
-pub between_merges : (p : Phase) → is_between p ≡ true → merging p ≡ 0
-between_merges NoMerge e = refl
-between_merges (Running level) e = absurd (yes_no (is_between (Running level)) refl e)
-between_merges (ReadyOutput level) e = absurd (yes_no (is_between (ReadyOutput level)) refl e)
+-- none runs
+pub no_phase : (p : Phase) → is_between p ≡ true → p ≡ NoMerge
+no_phase NoMerge e = refl
+no_phase p e = absurd (yes_no false refl e)
+
+-- so no merge has steps left
+pub none_left : (p : Phase) (x : Index) → is_between p ≡ true → merge_left p x ≡ None
+none_left p x e = ap (λ q. merge_left q x) (no_phase p e)
 
 -- no run is taken if no merge runs
-none_taken : (p : Phase) (x : Index) (flash : Flash) (root : Root) (found : Found) → MergeStands p x flash root found → is_between p ≡ true → length (output x.schedule).blocks ≡ 0
-none_taken NoMerge x flash root found stands e = ap (λ (o : Option KeptRun). length (unwrap_or o (empty x.schedule.job.merger.shape x.schedule.job.target)).blocks) stands.output
-none_taken (Running level) x flash root found stands e = absurd (yes_no (is_between (Running level)) refl e)
-none_taken (ReadyOutput level) x flash root found stands e = absurd (yes_no (is_between (ReadyOutput level)) refl e)
+none_taken : (x : Index) (flash : Flash) (root : Root) (found : Found) → MergeStands x.schedule.phase x flash root found → is_between x.schedule.phase ≡ true → length (output x.schedule).blocks ≡ 0
+none_taken x flash root found stands e =
+    let idle = subst (λ p. MergeStands p x flash root found) (no_phase x.schedule.phase e) stands in
+    ap (λ (o : Option KeptRun). length (unwrap_or o (empty x.schedule.job.merger.shape x.schedule.job.target)).blocks) idle.output
 
 -- if no merge is due, none runs, and nothing is frozen
 pub no_merge_is : (x : Index) → has_no_merge x ≡ true → (is_between x.schedule.phase ≡ true) × (length x.log.frozen.entries ≡ 0)
@@ -412,7 +306,7 @@ module _ (d : Parts) (old : BoardState) (a : DriveOnFlash d old.shape old.pages)
   none_unready no_step =
       let all = all_blocks in
       let taken = ap (λ (bs : List ℕ). length bs) no_step.no_freeze in
-      let output = none_taken d.schedule.phase (index_of (settled_parts d)) old.pages a.top.1 a.found with.index.merge (no_merge_is (index_of d) no_step.no_merge).0 in
+      let output = none_taken (index_of (settled_parts d)) old.pages a.top.1 a.found with.index.merge (no_merge_is (index_of d) no_step.no_merge).0 in
       let whole = whole_of d old.pages a.top a.found a.without a.course no_step.whole in
       let no_free = none_free states (subst (λ (p : Blocks). IsNowhere Free p.states) (sym (pool_same d whole.settles)) no_step.none_free) in
       let values = values_are in
@@ -437,7 +331,7 @@ module _ (d : Parts) (old : BoardState) (a : DriveOnFlash d old.shape old.pages)
       record {
         top = a.top;
         is_newest = with.committed.is_top;
-        no_merge = between_merges d.schedule.phase merged.0;
+        no_merge = ap merging (no_phase d.schedule.phase merged.0);
         none_frozen = merged.1;
         no_reclaim = no_step.no_reclaim;
         all_erased = all_unready no_step no_step.no_reclaim;
@@ -499,34 +393,3 @@ module _ (d : Parts) (old : BoardState) (a : DriveOnFlash d old.shape old.pages)
   pub busy_wanted : WantsFreeze d → IsIdle d.log.shape old.pages (sight_of d) → ⊥
   busy_wanted (inl some) idle = busy_freeze some idle
   busy_wanted (inr (runs, may)) idle = busy_reclaim (inl runs) idle
-
--- ---- a call that erases a spare block, or finds none
-
-abbrev pub Erases : Parts → Parts → BoardState → BoardState → Bool → Type 0
-Erases d d' old new r = MatchBool r (ErasesOne d.pool old d'.pool new) (ErasesNone d.pool old d'.pool new)
-
-pub one_erased : (d d' : Parts) (old new : BoardState) (r : Bool) → Erases d d' old new r → r ≡ true → ErasesOne d.pool old d'.pool new
-one_erased d d' old new r is e = subst (Erases d d' old new) e is
-
-pub none_erased : (d d' : Parts) (old new : BoardState) (r : Bool) → Erases d d' old new r → r ≡ false → ErasesNone d.pool old d'.pool new
-none_erased d d' old new r is e = subst (Erases d d' old new) e is
-
--- if none is found the drive is the same
-pub kept_drive : (d d' : Parts) (old new : BoardState) → ErasesNone d.pool old d'.pool new → d' ≡ record d { pool = d'.pool } → d' ≡ d
-kept_drive d d' old new is rest = rest ∙ ap (λ p. record d { pool = p }) is.kept
-
-module _ (d d' : Parts) (old new : BoardState) (a : DriveOnFlash d old.shape old.pages) (whole : IsWhole d)
-    (one : ErasesOne d.pool old d'.pool new) (rest : d' ≡ record d { pool = d'.pool }) (shared : IsShared d.pool.shape d.pool.states)
-    (ready : IsReady new d.pool.shape) (owned : (b : ℕ) → IsOwned d.pool b → slice_get d'.pool.states b ≡ slice_get d.pool.states b) (fits : PoolOnFlash d'.pool new.pages) where
-  own_ready : IsReady new d.log.shape
-  own_ready = subst (λ s. IsReady new s) (own_whole d old a whole).placed.shape_is ready
-
-  pub step_agrees : DriveOnFlash d' new.shape new.pages
-  step_agrees = subst (λ x. DriveOnFlash x new.shape new.pages) (sym rest) (agrees_erased d old new a whole one.block one.lowest.here shared one.erase own_ready d'.pool one.marked fits owned)
-
-  pub step_lowers : (sight_of d').work < (sight_of d).work
-  step_lowers = subst (λ x. (sight_of x).work < (sight_of d).work) (sym rest) (lowers_erased d old new a whole one.block one.lowest.here shared one.erase own_ready d'.pool one.marked fits owned)
-
-  pub step_ticks : d.log.pending ≡ [] → Ticks old new (sight_of d) (sight_of d') Worked
-  step_ticks none = subst (λ x. Ticks old new (sight_of d) (sight_of x) Worked) (sym rest)
-      (ticks_erased d old new a whole one.block one.lowest.here shared one.erase own_ready d'.pool one.marked fits owned none)

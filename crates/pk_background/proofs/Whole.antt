@@ -2,7 +2,7 @@
 use Rattle.std.proofs.Common.{◌≡◌, inl, inr, ℕ, ◌+◌, ◌<◌, ◌≤◌, refl, sym, ap, subst, ◌∙◌, arith, Bool, true, false, ◌||◌, if◌then◌else◌, Result, Ok, Err}
 use Rattle.pk_base.{specs.Shape.Shape, proofs.Logic.not_both}
 use Rattle.pk_nand.{specs.declared.types.Fault.Fault, specs.declared.types.Fault.TheVariants.Reading, specs.declared.types.Fault.TheVariants.Stopped, specs.BoardState.BoardState}
-use Rattle.pk_nand.{specs.Calls.IsReady, specs.Calls.Rose, specs.Effects.NoFault, specs.Effects.Stops, proofs.Effects.works_then, proofs.Effects.stops_then, proofs.Effects.only_then}
+use Rattle.pk_nand.{specs.Calls.IsReady, proofs.Effects.works_then, proofs.Effects.stops_then, proofs.Effects.only_then}
 use Rattle.pk_model.specs.Wear.{roots}
 use Rattle.pk_root.specs.Installing.{repeats_next}
 use Rattle.pk_law_work.{specs.Backlog.due_level, specs.Work.merging_left, specs.Work.repeating}
@@ -10,29 +10,20 @@ use Rattle.pk_log.specs.State.{LogState}
 use Rattle.pk_schedule.{specs.declared.phase.Stepped.Stepped, specs.declared.phase.Stepped.TheVariants.Worked, specs.declared.phase.Stepped.TheVariants.Idle}
 use Rattle.pk_schedule.specs.Steps.{FreezeMoves, Freezes, backlog_of}
 use Rattle.pk_gc.specs.State.{JobState}
-use Rattle.pk_parts.{specs.Parts.Parts, specs.Parts.frames_of, specs.Parts.index_of, specs.Parts.is_half, specs.Parts.commits_in, proofs.Halves.not_made, proofs.Staying.stays_then}
-use Rattle.pk_parts.{specs.Moves.StandsBetween, specs.Moves.MayCommit, specs.Moves.LeavesValues, specs.Moves.KeepsAll, specs.Moves.BreaksAll, proofs.Keeping.KeepsAll-none, proofs.Keeping.keeps_whole}
-use Rattle.pk_background.specs.Emptying.{Came, ReadsUpTo, Halts, MayEmpty, MergesOnce, MergesWhole, FreezesOnce, FreezesWhole, merges_left, merges_due}
-use Rattle.pk_background.{specs.Pairing.FinishesRoot, specs.Pairing.FailsToFinish, specs.Pairing.SettlesOr, proofs.Callings.few_one, proofs.Callings.few_program, proofs.Callings.few_then}
-use Rattle.pk_background.{proofs.Completing.KeepsAll-finished, proofs.Completing.BreaksAll-finished, proofs.Steps.leaves_twice}
+use Rattle.pk_parts.{specs.Parts.Parts, specs.Parts.frames_of, specs.Parts.index_of, specs.Parts.is_half, specs.Parts.commits_in, proofs.Staying.stays_then}
+use Rattle.pk_parts.{specs.Moves.StandsBetween, specs.Moves.MayCommit, specs.Moves.LeavesValues, specs.Moves.KeepsAll, specs.Moves.KeepsAllBetween, specs.Moves.BreaksAll, proofs.Keeping.KeepsAll-none, proofs.Keeping.keeps_whole}
+use Rattle.pk_background.specs.Emptying.{Came, ReadsUpTo, MayEmpty, MergesOnce, MergesWhole, FreezesOnce, FreezesWhole, merges_left, merges_due}
+use Rattle.pk_background.{proofs.Pairs.by_half, proofs.Pairs.or_fault, specs.Pairing.FinishesRootOr, specs.Pairing.FinishesRoot, specs.Pairing.FailsToFinish, specs.Pairing.SettlesOr, proofs.Callings.few_one, proofs.Callings.few_program, proofs.Callings.few_then}
+use Rattle.pk_background.{proofs.ReadSteps.no_fault_then, proofs.ReadSteps.halts_behind, proofs.SameMaps.KeepsAll-finished, proofs.SameMaps.BreaksAll-finished, proofs.Steps.leaves_twice}
 
 worked_idle : {E : Type 0} → ◌≡◌ {A = Result Stepped E} (Ok Worked) (Ok Idle) → ⊥
 worked_idle e = cc
 
-err_worked : {E : Type 0} (f : E) → ◌≡◌ {A = Result Stepped E} (Err f) (Ok Worked) → ⊥
-err_worked f e = cc
-
-err_idle : {E : Type 0} (f : E) → ◌≡◌ {A = Result Stepped E} (Err f) (Ok Idle) → ⊥
-err_idle f e = cc
-
-true_false_ok : {E : Type 0} (x : Bool) → x ≡ true → ◌≡◌ {A = Result Bool E} (Ok x) (Ok false) → ⊥
-true_false_ok x is e = cc
-
-false_true_ok : {E : Type 0} (x : Bool) → x ≡ false → ◌≡◌ {A = Result Bool E} (Ok x) (Ok true) → ⊥
-false_true_ok x is e = cc
-
-err_ok : {E : Type 0} (f : E) (x : Bool) → ◌≡◌ {A = Result Bool E} (Err f) (Ok x) → ⊥
+err_ok : {T E : Type 0} (f : E) (x : T) → ◌≡◌ {A = Result T E} (Err f) (Ok x) → ⊥
 err_ok f x e = cc
+
+ok_same : {E : Type 0} (x y : Bool) → ◌≡◌ {A = Result Bool E} (Ok x) (Ok y) → x ≡ y
+ok_same x y e = cc
 
 -- ---- what a second program leaves
 
@@ -48,16 +39,6 @@ root_leaves b c s1 s2 fin =
       same_shape = ap (λ (l : LogState). l.shape) f.log;
       as_many = f.counted;
     }
-
-pub none_then : (a b c : BoardState) → NoFault a b → NoFault b c → NoFault a c
-none_then a b c first second = (second.0 ∙ first.0, second.1 ∙ first.1, second.2 ∙ first.2, second.3 ∙ first.3)
-
-pub halts_then : (a b c : BoardState) → NoFault a b → Stops b c → Halts a c
-halts_then a b c sound stops = record {
-  flash = subst (λ n. Rose n c.flash_faults) sound.0 stops.flash;
-  stop = subst (λ n. Rose n c.stop_faults) sound.2 stops.stop;
-  read = stops.read ∙ sound.1;
-}
 
 reads_same : (n : ℕ) (a b c : BoardState) → ReadsUpTo n a b → c.reads ≡ b.reads → ReadsUpTo n a c
 reads_same n a b c r same = record { up = (let up = r.up in omega (arith, up, same)); few = (let few = r.few in omega (arith, few, same)) }
@@ -75,21 +56,19 @@ module _ (a b : Parts) (s0 s1 : BoardState) (may : MayEmpty a s0) where
   ready_then : LeavesValues a b → IsReady s1 a.log.shape → IsReady s1 b.log.shape
   ready_then leaves ready = subst (λ (s : Shape). IsReady s1 s) (sym leaves.same_shape) ready
 
-  pub may_settle_merge : MergesOnce a b s0 s1 (Ok Worked) → MayCommit b s1
-  may_settle_merge once =
-      let there = once.step.came.0 a.log.shape may.may.stands.0 may.may.stands.1 in
+  settles_next : KeepsAllBetween a b s0 s1 → LeavesValues a b → IsReady s1 a.log.shape → MayCommit b s1
+  settles_next keeps leaves ready =
+      let there = keeps a.log.shape may.may.stands.0 may.may.stands.1 in
       record {
-        ready = ready_then once.leaves once.step.ready;
-        stands = (may.may.stands.0, subst (λ (s : Shape). StandsBetween b s s1.pages may.may.stands.0) (sym once.leaves.same_shape) there.stands);
+        ready = ready_then leaves ready;
+        stands = (may.may.stands.0, subst (λ (s : Shape). StandsBetween b s s1.pages may.may.stands.0) (sym leaves.same_shape) there.stands);
       }
 
+  pub may_settle_merge : MergesOnce a b s0 s1 (Ok Worked) → MayCommit b s1
+  may_settle_merge once = settles_next once.step.came.0 once.leaves once.step.ready
+
   pub may_settle_freeze : FreezesOnce a b s0 s1 (Ok tt) → MayCommit b s1
-  may_settle_freeze once =
-      let there = once.step.ended a.log.shape may.may.stands.0 may.may.stands.1 in
-      record {
-        ready = ready_then once.leaves once.step.ready;
-        stands = (may.may.stands.0, subst (λ (s : Shape). StandsBetween b s s1.pages may.may.stands.0) (sym once.leaves.same_shape) there.stands);
-      }
+  may_settle_freeze once = settles_next once.step.ended once.leaves once.step.ready
 
   -- ---- a step of the merges
 
@@ -129,7 +108,7 @@ module _ (a b : Parts) (s0 s1 : BoardState) (may : MayEmpty a s0) where
           made = 2;
           some = omega arith;
           step = record {
-            came = (KeepsAll-finished a b c s0 s1 s2 may.may.ready once.none_pending once.step.came.0 f, none_then s0 s1 s2 once.step.came.1 f.works.no_fault);
+            came = (KeepsAll-finished a b s0 s1 s2 may.may.ready once.none_pending once.step.came.0 c f, no_fault_then s0 s1 s2 once.step.came.1 f.works.no_fault);
             rest = only_then s0 s1 s2 once.step.rest f.works.rest;
             reads = reads_same 1 s0 s1 s2 once.step.reads f.works.reads;
             roots_few = omega (arith, same, once.step.roots_few);
@@ -149,14 +128,6 @@ module _ (a b : Parts) (s0 s1 : BoardState) (may : MayEmpty a s0) where
     merged_whole : repeats_next b.log.next ≡ false → MergesWhole a b s0 s1 (Ok Worked)
     merged_whole whole = alone (Ok Worked) once (keeps_whole a b s0 s1 (then_whole once.leaves whole) once.step.came.0, once.step.came.1)
 
-    pub merged_settled : SettlesOr b c s1 s2 (Ok tt) → MergesWhole a c s0 s2 (Ok Worked)
-    merged_settled set = elim (repeats_next b.log.next) as (λ z. repeats_next b.log.next ≡ z → MergesWhole a c s0 s2 (Ok Worked)) [
-      | true ↦ λ e. merged_half (set.half e)
-      | false ↦ λ e.
-          let is = set.whole e in
-          subst (λ (x : Parts). MergesWhole a x s0 s2 (Ok Worked)) (sym is.1) (subst (λ (s : BoardState). MergesWhole a b s0 s (Ok Worked)) (sym is.2) (merged_whole e))
-    ] refl
-
     -- the second program failed
     merged_broken : repeats_next b.log.next ≡ true → c.log.pending ≡ b.log.pending → FailsToFinish b s1 s2 → MergesWhole a c s0 s2 (Err Stopped)
     merged_broken repeats same fails =
@@ -168,16 +139,16 @@ module _ (a b : Parts) (s0 s1 : BoardState) (may : MayEmpty a s0) where
           made = 2;
           some = omega arith;
           step = record {
-            came = (BreaksAll-finished a b s0 s1 s2 may.may.ready once.none_pending once.step.came.0 fails, halts_then s0 s1 s2 once.step.came.1 fails.stops);
+            came = (BreaksAll-finished a b s0 s1 s2 may.may.ready once.none_pending once.step.came.0 fails, halts_behind s0 s1 s2 once.step.came.1 (record { flash = fails.stops.flash; stop = fails.stops.stop; read = fails.stops.read }));
             rest = only_then s0 s1 s2 once.step.rest fails.stops.rest;
             reads = reads_same 1 s0 s1 s2 once.step.reads fails.stops.reads;
             roots_few = omega (arith, fewer, once.step.roots_few);
             ready = subst (λ (s : Shape). IsReady s2 s) shape_b fails.ready;
           };
-          idle = λ e. absurd (err_idle Stopped e);
+          idle = λ e. absurd (err_ok Stopped Idle e);
           calls = few_then 1 1 s0 s1 s2 (few_one s0 s1 once.calls) (few_program s1 s2 fails.program);
           within = omega (arith, first, one);
-          less = λ e. absurd (err_worked Stopped e);
+          less = λ e. absurd (err_ok Stopped Worked e);
           installs = omega (arith, fewer, due);
           due = tt;
           none_pending = same ∙ once.none_pending;
@@ -185,11 +156,12 @@ module _ (a b : Parts) (s0 s1 : BoardState) (may : MayEmpty a s0) where
           stays = tt;
         }
 
-    pub merged_unsettled : (f : Fault) → SettlesOr b c s1 s2 (Err f) → MergesWhole a c s0 s2 (Err f)
-    merged_unsettled f set = elim (repeats_next b.log.next) as (λ z. repeats_next b.log.next ≡ z → MergesWhole a c s0 s2 (Err f)) [
-      | true ↦ λ e. let is = set.half e in subst (λ (x : Fault). MergesWhole a c s0 s2 (Err x)) (sym is.0) (merged_broken e is.1 is.2)
-      | false ↦ λ e. absurd (not_made f (set.whole e).0)
-    ] refl
+    merged_then : repeats_next b.log.next ≡ true → (r : Result Unit Fault) → FinishesRootOr b c s1 s2 r → MergesWhole a c s0 s2 (or_fault Worked r)
+    merged_then repeats (Ok u) fin = merged_half fin
+    merged_then repeats (Err f) fails = rw fails.0 (merged_broken repeats fails.1 fails.2)
+
+    pub merged_settled : (r : Result Unit Fault) → SettlesOr b c s1 s2 r → MergesWhole a c s0 s2 (or_fault Worked r)
+    merged_settled r set = by_half (repeats_next b.log.next) b c s1 s2 r (λ x s q. MergesWhole a x s0 s (or_fault Worked q)) (λ e. merged_then e r (set.half e)) set.whole merged_whole
 
   pub merged_idle : MergesOnce a b s0 s1 (Ok Idle) → MergesWhole a b s0 s1 (Ok Idle)
   merged_idle once = let idle = once.idle refl in alone (Ok Idle) once (KeepsAll-none a b s0 s1 idle.1 idle.2, once.step.came.1)
@@ -222,7 +194,7 @@ module _ (a b : Parts) (s0 s1 : BoardState) (may : MayEmpty a s0) where
         record {
           made = 2;
           step = record {
-            ended = KeepsAll-finished a b c s0 s1 s2 may.may.ready once.none_pending once.step.ended f;
+            ended = KeepsAll-finished a b s0 s1 s2 may.may.ready once.none_pending once.step.ended c f;
             broken = tt;
             works = works_then s0 s1 s2 once.step.works f.works;
             stops = tt;
@@ -232,13 +204,13 @@ module _ (a b : Parts) (s0 s1 : BoardState) (may : MayEmpty a s0) where
           };
           calls = few_then 1 1 s0 s1 s2 (few_one s0 s1 once.calls) (few_program s1 s2 f.program);
           within = omega (arith, done.lowers.less, done.lowers.none_ready);
-          goes_on = λ e. absurd (true_false_ok x is e);
+          goes_on = λ e. absurd (not_both x is (ok_same x false e));
           begins = λ _. record {
             active = ap (λ (l : LogState). l.active) f.log ∙ done.active;
             unused = ap (λ (l : LogState). l.epoch.used) f.log ∙ done.unused;
             takes_more = ap (λ (l : LogState). l.epoch.takes_more) f.log ∙ done.takes_more;
           };
-          no_root = λ e. absurd (true_false_ok x is e);
+          no_root = λ e. absurd (not_both x is (ok_same x false e));
           none_pending = ap (λ (l : LogState). l.pending) f.log ∙ once.none_pending;
           leaves = leaves_twice a b c once.leaves (root_leaves b c s1 s2 fin);
           stays = stays_then a b c once.stays f.stays;
@@ -259,20 +231,12 @@ module _ (a b : Parts) (s0 s1 : BoardState) (may : MayEmpty a s0) where
       calls = few_one s0 s1 once.calls;
       within = omega arith;
       goes_on = λ _. (refl, goes_on whole);
-      begins = λ e. absurd (false_true_ok x is e);
+      begins = λ e. absurd (not_both x (ok_same x true e) is);
       no_root = λ _. once.no_root whole;
       none_pending = once.none_pending;
       leaves = once.leaves;
       stays = once.stays;
     }
-
-    pub frozen_settled : (x : Bool) → x ≡ repeats_next b.log.next → SettlesOr b c s1 s2 (Ok tt) → FreezesWhole a c s0 s2 (Ok x)
-    frozen_settled x is set = elim (repeats_next b.log.next) as (λ z. repeats_next b.log.next ≡ z → FreezesWhole a c s0 s2 (Ok x)) [
-      | true ↦ λ e. frozen_half x (is ∙ e) e (set.half e)
-      | false ↦ λ e.
-          let same = set.whole e in
-          subst (λ (y : Parts). FreezesWhole a y s0 s2 (Ok x)) (sym same.1) (subst (λ (s : BoardState). FreezesWhole a b s0 s (Ok x)) (sym same.2) (frozen_whole x (is ∙ e) e))
-    ] refl
 
     frozen_broken : repeats_next b.log.next ≡ true → c.log.pending ≡ b.log.pending → FailsToFinish b s1 s2 → FreezesWhole a c s0 s2 (Err Stopped)
     frozen_broken repeats same fails =
@@ -299,11 +263,13 @@ module _ (a b : Parts) (s0 s1 : BoardState) (may : MayEmpty a s0) where
           stays = tt;
         }
 
-    pub frozen_unsettled : (f : Fault) → SettlesOr b c s1 s2 (Err f) → FreezesWhole a c s0 s2 (Err f)
-    frozen_unsettled f set = elim (repeats_next b.log.next) as (λ z. repeats_next b.log.next ≡ z → FreezesWhole a c s0 s2 (Err f)) [
-      | true ↦ λ e. let is = set.half e in subst (λ (x : Fault). FreezesWhole a c s0 s2 (Err x)) (sym is.0) (frozen_broken e is.1 is.2)
-      | false ↦ λ e. absurd (not_made f (set.whole e).0)
-    ] refl
+    frozen_then : (x : Bool) → x ≡ repeats_next b.log.next → repeats_next b.log.next ≡ true → (r : Result Unit Fault) → FinishesRootOr b c s1 s2 r → FreezesWhole a c s0 s2 (or_fault x r)
+    frozen_then x is repeats (Ok u) fin = frozen_half x (is ∙ repeats) repeats fin
+    frozen_then x is repeats (Err f) fails = rw fails.0 (frozen_broken repeats fails.1 fails.2)
+
+    pub frozen_settled : (x : Bool) → x ≡ repeats_next b.log.next → (r : Result Unit Fault) → SettlesOr b c s1 s2 r → FreezesWhole a c s0 s2 (or_fault x r)
+    frozen_settled x is r set =
+        by_half (repeats_next b.log.next) b c s1 s2 r (λ y s q. FreezesWhole a y s0 s (or_fault x q)) (λ e. frozen_then x is e r (set.half e)) set.whole (λ e. frozen_whole x (is ∙ e) e)
 
   pub frozen_failed : (f : Fault) → FreezesOnce a b s0 s1 (Err f) → FreezesWhole a b s0 s1 (Err f)
   frozen_failed f once = record {

@@ -3,41 +3,28 @@ use Rattle.pk_parts.proofs.Staying.{stays_then}
 use Rattle.pk_background.proofs.emptying.freeze_log.Goals as goal
 
 pub freezes-init : goal.freezes-init
-freezes-init g c = ongoing_begin c.args.parts.now (g.B.Nand.state c.args.board.now) c.requires.may c.requires.none_pending c.requires.none_merges
+freezes-init g c = ongoing_begin _ _ c.requires.may c.requires.none_pending c.requires.none_merges
 
 pub freeze_whole-requires-clause-may : goal.freeze_whole-requires-clause-may
-freeze_whole-requires-clause-may g c = may_freeze c.args.parts.now (g.B.Nand.state c.args.board.now) c.freezes.parts
-    (g.B.Nand.state c.freezes.board) c.requires.may.ready c.freezes.invariant c.requires.number
+freeze_whole-requires-clause-may g c = may_freeze _ _ _ _ c.requires.may.ready c.freezes.invariant c.requires.number
 
 pub returns-in-Ok-true-clause-step : goal.returns-in-Ok-true-clause-step
-returns-in-Ok-true-clause-step g c =
-    ongoing_end c.args.parts.now (g.B.Nand.state c.args.board.now) c.freezes.parts (g.B.Nand.state c.freezes.board) c.requires.may.ready c.freezes.invariant
-    c.freeze_whole.new.parts (g.B.Nand.state c.freeze_whole.new.board) c.in-Ok-true.field-0 c.in-Ok-true.ensures
+returns-in-Ok-true-clause-step g c = ongoing_end _ _ _ _ c.requires.may.ready c.freezes.invariant _ _ _ c.in-Ok-true.ensures
 
 pub returns-in-Ok-true-clause-room : goal.returns-in-Ok-true-clause-room
-returns-in-Ok-true-clause-room g c =
-    room_behind c.args.parts.now (g.B.Nand.state c.args.board.now) c.freezes.parts (g.B.Nand.state c.freezes.board) c.requires.may.ready c.freezes.invariant
-    c.freeze_whole.new.parts (g.B.Nand.state c.freeze_whole.new.board) c.in-Ok-true.field-0 c.in-Ok-true.field-0-test c.in-Ok-true.ensures
+returns-in-Ok-true-clause-room g c = room_behind _ _ _ _ c.requires.may.ready c.freezes.invariant _ _ _ c.in-Ok-true.field-0-test c.in-Ok-true.ensures
 
 pub returns-in-Ok-true-clause-moves : goal.returns-in-Ok-true-clause-moves
 returns-in-Ok-true-clause-moves g c = stays_then _ _ _ c.freezes.invariant.stays c.in-Ok-true.ensures.stays
 
 pub freezes-preserved : goal.freezes-preserved
-freezes-preserved g c =
-    ongoing_more c.args.parts.now (g.B.Nand.state c.args.board.now) c.freezes.parts (g.B.Nand.state c.freezes.board) c.requires.may.ready c.freezes.invariant
-    c.freeze_whole.new.parts (g.B.Nand.state c.freeze_whole.new.board) c.in-Ok-false.field-0 c.in-Ok-false.field-0-test c.in-Ok-false.ensures
+freezes-preserved g c = ongoing_more _ _ _ _ c.requires.may.ready c.freezes.invariant _ _ _ c.in-Ok-false.field-0-test c.in-Ok-false.ensures
 
 pub returns-in-Err-clause-step : goal.returns-in-Err-clause-step
-returns-in-Err-clause-step g c =
-    ongoing_failed c.args.parts.now (g.B.Nand.state c.args.board.now) c.freezes.parts (g.B.Nand.state c.freezes.board) c.requires.may.ready c.freezes.invariant
-    c.freeze_whole.new.parts (g.B.Nand.state c.freeze_whole.new.board) c.in-Err.fault c.in-Err.ensures
+returns-in-Err-clause-step g c = ongoing_failed _ _ _ _ c.requires.may.ready c.freezes.invariant _ _ _ c.in-Err.ensures
 
 pub returns-in-Ok-true-clause-spends : goal.returns-in-Ok-true-clause-spends
-returns-in-Ok-true-clause-spends g c =
-    ongoing_spends c.args.parts.now (g.B.Nand.state c.args.board.now) c.freezes.parts (g.B.Nand.state c.freezes.board) c.requires.may.ready c.freezes.invariant
-    c.freeze_whole.new.parts (g.B.Nand.state c.freeze_whole.new.board) _ c.in-Ok-true.ensures
+returns-in-Ok-true-clause-spends g c = ongoing_spends _ _ _ _ c.requires.may.ready c.freezes.invariant _ _ _ c.in-Ok-true.ensures
 
 pub returns-in-Err-clause-spends : goal.returns-in-Err-clause-spends
-returns-in-Err-clause-spends g c =
-    ongoing_spends c.args.parts.now (g.B.Nand.state c.args.board.now) c.freezes.parts (g.B.Nand.state c.freezes.board) c.requires.may.ready c.freezes.invariant
-    c.freeze_whole.new.parts (g.B.Nand.state c.freeze_whole.new.board) _ c.in-Err.ensures
+returns-in-Err-clause-spends g c = ongoing_spends _ _ _ _ c.requires.may.ready c.freezes.invariant _ _ _ c.in-Err.ensures

@@ -29,29 +29,18 @@ did g c =
     }
 
 pub step-requires-clause-may : goal.step-requires-clause-may
-step-requires-clause-may g c =
-    let may = rw (← c.parts.view_is) at c.requires in
-    some_work _ (g.B.Nand.state c.args.board.now) may
+step-requires-clause-may g c = some_work _ _ (rw (← c.parts.view_is) at c.requires)
 
 pub returns-clause-once : goal.returns-clause-once
 returns-clause-once g c =
-    let may = rw (← c.parts.view_is) at c.requires in
-    let x = index c.step.new.log c.step.new.levels c.step.new.arena c.step.new.pool c.step.new.self in
-    rw (← c.parts.view_is) (merges_once _ (g.B.Nand.state c.args.board.now) may x (g.B.Nand.state c.step.new.board) c.step.result
-    (did g (goal.at.returns-clause-once g c).After-step) c.read_count.ensures.faults (omega (arith, c.read_count.ensures.value, c.read_count.type_inv)))
+    rw (← c.parts.view_is) (merges_once _ _ (rw (← c.parts.view_is) at c.requires) _ _ _ (did g (goal.at.returns-clause-once g c).After-step)
+    c.read_count.ensures.faults (omega (arith, c.read_count.ensures.value, c.read_count.type_inv)))
 
 pub returns-clause-does : goal.returns-clause-does
 returns-clause-does g c =
     let e = c.step.ensures in
-    let may = rw (← c.parts.view_is) at c.requires in
-    let x = index c.step.new.log c.step.new.levels c.step.new.arena c.step.new.pool c.step.new.self in
-    rw (← c.parts.view_is) (merge_does _ (g.B.Nand.state c.args.board.now) may x (g.B.Nand.state c.step.new.board) e.same_freeze c.step.result
-    (did g (goal.at.returns-clause-does g c).After-step) e.works)
+    rw (← c.parts.view_is) (merge_does _ _ (rw (← c.parts.view_is) at c.requires) _ _ e.same_freeze _ (did g (goal.at.returns-clause-does g c).After-step) e.works)
 
 pub returns-clause-fails : goal.returns-clause-fails
 returns-clause-fails g c =
-    let e = c.step.ensures in
-    let may = rw (← c.parts.view_is) at c.requires in
-    let x = index c.step.new.log c.step.new.levels c.step.new.arena c.step.new.pool c.step.new.self in
-    rw (← c.parts.view_is) (merge_fails _ (g.B.Nand.state c.args.board.now) may x (g.B.Nand.state c.step.new.board) e.same_freeze c.step.result
-    (did g (goal.at.returns-clause-fails g c).After-step))
+    rw (← c.parts.view_is) (merge_fails _ _ (rw (← c.parts.view_is) at c.requires) _ _ c.step.ensures.same_freeze _ (did g (goal.at.returns-clause-fails g c).After-step))

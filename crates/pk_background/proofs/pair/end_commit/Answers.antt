@@ -3,9 +3,7 @@ use Rattle.pk_background.proofs.Pairs.{committed_half, committed_whole}
 use Rattle.pk_background.proofs.pair.end_commit.Goals as goal
 
 pub returns-then-commits : goal.returns-then-commits
-returns-then-commits g c =
-    committed_half c.args.parts.now c.finish_commit.new.parts (g.B.Nand.state c.args.board.now)
-    (g.B.Nand.state c.finish_commit.new.board) c.finish_commit.result (sym c.commits.ensures ∙ c.if-commits.true) c.finish_commit.ensures
+returns-then-commits g c = committed_half _ _ _ _ _ (sym c.commits.ensures ∙ c.if-commits.true) c.finish_commit.ensures
 
 pub returns-else-commits : goal.returns-else-commits
-returns-else-commits g c = committed_whole c.args.parts.now (g.B.Nand.state c.args.board.now) (sym c.commits.ensures ∙ c.if-commits.false)
+returns-else-commits g c = committed_whole _ _ (sym c.commits.ensures ∙ c.if-commits.false)

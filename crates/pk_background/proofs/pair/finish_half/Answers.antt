@@ -11,8 +11,7 @@ pub finish_root-requires-clause-half : goal.finish_root-requires-clause-half
 finish_root-requires-clause-half g c = ap (λ (d : Parts). repeats_next d.log.next) (sym c.parts.view_is) ∙ (sym c.repeats_next.ensures ∙ c.if-repeats_next.true)
 
 pub returns-then-repeats_next : goal.returns-then-repeats_next
-returns-then-repeats_next g c =
-    root_finishes c.args.parts.now c.finish_root.new.parts (g.B.Nand.state c.args.board.now) (g.B.Nand.state c.finish_root.new.board) c.finish_root.result c.finish_root.ensures
+returns-then-repeats_next g c = root_finishes _ _ _ _ c.finish_root.result c.finish_root.ensures
 
 pub finish_commit-requires-clause-may : goal.finish_commit-requires-clause-may
 finish_commit-requires-clause-may g c = record { ready = c.requires.may.ready; stands = c.requires.may.stands }

@@ -9,10 +9,7 @@ finish_root-requires-clause-half g c = ap (λ (d : Parts). repeats_next d.log.ne
 
 pub returns-then-repeats_next : goal.returns-then-repeats_next
 returns-then-repeats_next g c =
-    settled_half c.args.parts.now c.finish_root.new.parts (g.B.Nand.state c.args.board.now) (g.B.Nand.state c.finish_root.new.board) c.finish_root.result
-    (ap (λ (d : Parts). repeats_next d.log.next) (sym c.parts.view_is) ∙ (sym c.repeats_next.ensures ∙ c.if-repeats_next.true)) c.finish_root.ensures
+    settled_half _ _ _ _ _ (ap (λ (d : Parts). repeats_next d.log.next) (sym c.parts.view_is) ∙ (sym c.repeats_next.ensures ∙ c.if-repeats_next.true)) c.finish_root.ensures
 
 pub returns-else-repeats_next : goal.returns-else-repeats_next
-returns-else-repeats_next g c =
-    settled_whole c.args.parts.now (g.B.Nand.state c.args.board.now)
-    (ap (λ (d : Parts). repeats_next d.log.next) (sym c.parts.view_is) ∙ (sym c.repeats_next.ensures ∙ c.if-repeats_next.false))
+returns-else-repeats_next g c = settled_whole _ _ (ap (λ (d : Parts). repeats_next d.log.next) (sym c.parts.view_is) ∙ (sym c.repeats_next.ensures ∙ c.if-repeats_next.false))

@@ -6,7 +6,7 @@ use Rattle.pk_background.{specs.Emptying.HasRoom, proofs.Results.on_ok, proofs.R
 use Rattle.pk_background.proofs.Steps.{leaves_none, leaves_twice, leaves_committed, shape_committed, may_after}
 use Rattle.pk_background.proofs.Emptied.{none_reads, room_committed, committed_spends, not_committed}
 use Rattle.pk_background.proofs.Callings.{few_within, few_commit, spends_same, spends_still}
-use Rattle.pk_parts.{specs.Moves.LeavesValues, specs.Staying.Stays, proofs.Staying.stays_same, proofs.Staying.stays_then, proofs.Halves.may_commit}
+use Rattle.pk_parts.{proofs.Staying.stays_same, proofs.Staying.stays_then, proofs.Halves.may_commit}
 use Rattle.pk_background.proofs.room.make_room.Goals as goal
 
 pub commit_pending-requires : goal.commit_pending-requires
@@ -25,22 +25,17 @@ pub returns-then-not-needs_freeze-clause-idle : goal.returns-then-not-needs_free
 returns-then-not-needs_freeze-clause-idle g c = λ _. (refl, refl)
 
 pub empty_active-requires-clause-may : goal.empty_active-requires-clause-may
-empty_active-requires-clause-may g c =
-    let e = c.in-Ok.ensures in
-    may_after c.args.parts.now c.commit_pending.new.self 0 (g.B.Nand.state c.args.board.now)
-    (g.B.Nand.state c.commit_pending.new.board) tt c.requires.may (shape_committed c.args.parts.now c.commit_pending.new.self e.rest) e.step
+empty_active-requires-clause-may g c = let e = c.in-Ok.ensures in may_after _ _ _ _ _ tt c.requires.may (shape_committed c.args.parts.now _ e.rest) e.step
 
 pub empty_active-requires-clause-number : goal.empty_active-requires-clause-number
 empty_active-requires-clause-number g c =
+    let e = c.in-Ok.ensures in
     still_numbers c.args.parts.now c.commit_pending.new.self (g.B.Nand.state c.args.board.now) (g.B.Nand.state c.commit_pending.new.board)
-    (shape_committed c.args.parts.now c.commit_pending.new.self c.in-Ok.ensures.rest) c.in-Ok.ensures.step.roots_few c.requires.number
+    (shape_committed c.args.parts.now _ e.rest) e.step.roots_few c.requires.number
 
 pub returns-in-Ok-clause-step : goal.returns-in-Ok-clause-step
 returns-in-Ok-clause-step g c =
-    let e = c.in-Ok.ensures in
-    room_committed c.empty_active.result c.args.parts.now c.commit_pending.new.self c.empty_active.new.parts
-    (g.B.Nand.state c.args.board.now) (g.B.Nand.state c.commit_pending.new.board) (g.B.Nand.state c.empty_active.new.board)
-    c.requires.may.ready (shape_committed c.args.parts.now c.commit_pending.new.self e.rest) e.step c.empty_active.ensures.step
+    let e = c.in-Ok.ensures in room_committed _ _ _ _ _ _ _ c.requires.may.ready (shape_committed c.args.parts.now _ e.rest) e.step c.empty_active.ensures.step
 
 pub returns-in-Ok-clause-room : goal.returns-in-Ok-clause-room
 returns-in-Ok-clause-room g c =
@@ -54,24 +49,16 @@ returns-in-Ok-clause-pending g c =
 
 pub returns-in-Ok-clause-leaves : goal.returns-in-Ok-clause-leaves
 returns-in-Ok-clause-leaves g c =
-    let a = c.args.parts.now in
-    let b = c.commit_pending.new.self in
-    let d = c.empty_active.new.parts in
-    running_says (LeavesValues b d) (LeavesValues a d) c.empty_active.result (leaves_twice a b d (leaves_committed a b c.in-Ok.ensures.rest)) c.empty_active.ensures.leaves
+    running_says _ _ c.empty_active.result (leaves_twice _ _ c.empty_active.new.parts (leaves_committed c.args.parts.now _ c.in-Ok.ensures.rest)) c.empty_active.ensures.leaves
 
 pub returns-in-Ok-clause-moves : goal.returns-in-Ok-clause-moves
-returns-in-Ok-clause-moves g c =
-    let a = c.args.parts.now in
-    let b = c.commit_pending.new.self in
-    let d = c.empty_active.new.parts in
-    running_says (Stays b d) (Stays a d) c.empty_active.result (stays_then a b d c.in-Ok.ensures.moves) c.empty_active.ensures.moves
+returns-in-Ok-clause-moves g c = running_says _ _ c.empty_active.result (stays_then _ _ c.empty_active.new.parts c.in-Ok.ensures.moves) c.empty_active.ensures.moves
 
 pub returns-in-Ok-clause-idle : goal.returns-in-Ok-clause-idle
 returns-in-Ok-clause-idle g c = rw (← c.parts.view_is) (not_wanted_ok _ c.empty_active.result _ (sym c.needs_freeze.ensures ∙ c.if-not-needs_freeze.false))
 
 pub returns-in-Err-clause-step : goal.returns-in-Err-clause-step
-returns-in-Err-clause-step g c = not_committed c.in-Err.fault c.args.parts.now c.commit_pending.new.self
-    (g.B.Nand.state c.args.board.now) (g.B.Nand.state c.commit_pending.new.board) c.in-Err.ensures.step
+returns-in-Err-clause-step g c = not_committed _ _ _ _ _ c.in-Err.ensures.step
 
 pub returns-in-Err-clause-pending : goal.returns-in-Err-clause-pending
 returns-in-Err-clause-pending g c = running_stopped Unit _ c.in-Err.fault c.in-Err.ensures.step.stopped
@@ -88,17 +75,12 @@ returns-then-not-needs_freeze-clause-spends g c = spends_same _ _ (g.B.Nand.stat
 pub returns-in-Ok-clause-spends : goal.returns-in-Ok-clause-spends
 returns-in-Ok-clause-spends g c =
     let a = c.args.parts.now in
-    let b = c.commit_pending.new.self in
-    let s0 = g.B.Nand.state c.args.board.now in
-    let s1 = g.B.Nand.state c.commit_pending.new.board in
     let e = c.commit_pending.ensures in
-    committed_spends a b s0 s1 (g.B.Nand.state c.empty_active.new.board) (shape_committed a b c.in-Ok.ensures.rest)
-    (spends_still commit_calls 0 s0 s1 (few_commit a.log.pending s0 s1 e.program e.idle) e.step.roots_few) c.empty_active.ensures.spends
+    committed_spends a c.commit_pending.new.self _ _ _ (shape_committed a c.commit_pending.new.self c.in-Ok.ensures.rest)
+    (spends_still commit_calls 0 _ _ (few_commit a.log.pending _ _ e.program e.idle) e.step.roots_few) c.empty_active.ensures.spends
 
 pub returns-in-Err-clause-spends : goal.returns-in-Err-clause-spends
 returns-in-Err-clause-spends g c =
-    let s0 = g.B.Nand.state c.args.board.now in
-    let s1 = g.B.Nand.state c.commit_pending.new.board in
+    let a = c.args.parts.now in
     let e = c.commit_pending.ensures in
-    let most = room_calls c.args.parts.now.log.shape in
-    spends_still most room_roots s0 s1 (few_within commit_calls most s0 s1 (omega arith) (few_commit c.args.parts.now.log.pending s0 s1 e.program e.idle)) e.step.roots_few
+    spends_still (room_calls a.log.shape) room_roots _ _ (few_within commit_calls (room_calls a.log.shape) _ _ (omega arith) (few_commit a.log.pending _ _ e.program e.idle)) e.step.roots_few

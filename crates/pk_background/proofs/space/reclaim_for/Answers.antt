@@ -6,7 +6,7 @@ use Rattle.pk_parts.proofs.Stopping.{fails_stopped}
 use Rattle.pk_background.proofs.space.reclaim_for.Goals as goal
 
 pub reclaims-init : goal.reclaims-init
-reclaims-init g c = spacing_begin c.args.count c.args.parts.now (g.B.Nand.state c.args.board.now) c.requires.may
+reclaims-init g c = spacing_begin _ _ _ c.requires.may
 
 pub awaits_space-requires : goal.awaits_space-requires
 awaits_space-requires g c = most_still c.requires.may.may.ready c.reclaims.invariant c.requires.some
@@ -21,10 +21,10 @@ pub make_space_once-requires-clause-awaits : goal.make_space_once-requires-claus
 make_space_once-requires-clause-awaits g c = awaits_is c.args.count c.reclaims.parts (sym c.awaits_space.ensures ∙ c.if-not-awaits_space.false)
 
 pub reclaims-preserved : goal.reclaims-preserved
-reclaims-preserved g c = spacing_more c.requires.may.may.ready c.reclaims.invariant c.make_space_once.new.parts (g.B.Nand.state c.make_space_once.new.board) c.in-Ok.ensures
+reclaims-preserved g c = spacing_more c.requires.may.may.ready c.reclaims.invariant _ _ c.in-Ok.ensures
 
 pub reclaims-smaller : goal.reclaims-smaller
-reclaims-smaller g c = less_spacing c.requires.may.may.ready c.reclaims.invariant c.make_space_once.new.parts (g.B.Nand.state c.make_space_once.new.board) c.in-Ok.ensures
+reclaims-smaller g c = less_spacing c.requires.may.may.ready c.reclaims.invariant _ _ c.in-Ok.ensures
 
 pub returns-then-not-awaits_space-clause-step : goal.returns-then-not-awaits_space-clause-step
 returns-then-not-awaits_space-clause-step g c = spacing_end c.requires.may.may.ready c.reclaims.invariant
@@ -36,23 +36,23 @@ pub returns-in-Err-clause-step : goal.returns-in-Err-clause-step
 returns-in-Err-clause-step g c =
     fails_step c.in-Err.fault c.fail.result c.make_space_once.new.parts c.fail.new.self c.fail.ensures.same c.fail.ensures.rest _ _
     (λ e. SameMapAll c.args.parts.now e (g.B.Nand.state c.args.board.now) (g.B.Nand.state c.make_space_once.new.board)) _ _ _ _ _
-    (spacing_failed c.requires.may.may.ready c.reclaims.invariant c.in-Err.fault c.make_space_once.new.parts (g.B.Nand.state c.make_space_once.new.board) c.in-Err.ensures)
+    (spacing_failed c.requires.may.may.ready c.reclaims.invariant _ _ _ c.in-Err.ensures)
 
 pub returns-in-Err-clause-none : goal.returns-in-Err-clause-none
 returns-in-Err-clause-none g c =
     fails_running c.in-Err.fault c.fail.result c.make_space_once.new.parts c.fail.new.self c.fail.ensures.same c.fail.ensures.rest (λ e. e.log.pending ≡ [])
-    (failed_none c.requires.may.may.ready c.reclaims.invariant c.in-Err.fault c.make_space_once.new.parts (g.B.Nand.state c.make_space_once.new.board) c.in-Err.ensures)
+    (failed_none c.requires.may.may.ready c.reclaims.invariant _ _ _ c.in-Err.ensures)
 
 pub returns-in-Err-clause-stays : goal.returns-in-Err-clause-stays
 returns-in-Err-clause-stays g c =
     fails_running c.in-Err.fault c.fail.result c.make_space_once.new.parts c.fail.new.self c.fail.ensures.same c.fail.ensures.rest (λ e. StaysSame c.args.parts.now e)
-    (failed_stays c.requires.may.may.ready c.reclaims.invariant c.in-Err.fault c.make_space_once.new.parts (g.B.Nand.state c.make_space_once.new.board) c.in-Err.ensures)
+    (failed_stays c.requires.may.may.ready c.reclaims.invariant _ _ _ c.in-Err.ensures)
 
 pub returns-then-not-awaits_space-clause-spends : goal.returns-then-not-awaits_space-clause-spends
 returns-then-not-awaits_space-clause-spends g c = end_spends c.requires.may.may.ready c.reclaims.invariant
 
 pub returns-in-Err-clause-spends : goal.returns-in-Err-clause-spends
-returns-in-Err-clause-spends g c = broken_spends c.requires.may.may.ready c.reclaims.invariant c.in-Err.fault c.make_space_once.new.parts (g.B.Nand.state c.make_space_once.new.board) c.in-Err.ensures
+returns-in-Err-clause-spends g c = broken_spends c.requires.may.may.ready c.reclaims.invariant _ _ _ c.in-Err.ensures
 
 pub returns-in-Err-clause-stops : goal.returns-in-Err-clause-stops
 returns-in-Err-clause-stops g c = fails_stopped c.in-Err.fault c.fail.result c.make_space_once.new.parts c.fail.new.self c.fail.ensures.same c.fail.ensures.rest

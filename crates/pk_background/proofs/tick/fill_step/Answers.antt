@@ -7,12 +7,13 @@ use Rattle.pk_background.proofs.tick.fill_step.Goals as goal
 
 pub returns-in-Ok : goal.returns-in-Ok
 returns-in-Ok g c =
+    let r = c.requires in
     let levels = subst (λ (d : Parts). IsLevels d.levels) c.parts.view_is c.known.ensures.levels in
     let runs = subst (λ (d : Parts). AllByRecursion IsKept d.levels.runs) c.parts.view_is c.known.ensures.runs in
-    fills_one c.args.parts.now (g.B.Nand.state c.args.board.now) c.requires.may c.requires.whole c.requires.merged c.fill_once.new.parts (g.B.Nand.state c.fill_once.new.board)
-    c.in-Ok.ensures.fills c.fill_once.ensures.ready c.requires.unfilled levels runs
+    fills_one _ _ r.may r.whole r.merged _ _ c.in-Ok.ensures.fills c.fill_once.ensures.ready r.unfilled levels runs
 
 pub returns-in-Err : goal.returns-in-Err
 returns-in-Err g c =
-    fills_none c.args.parts.now (g.B.Nand.state c.args.board.now) c.requires.may c.requires.whole c.requires.merged c.fill_once.new.parts (g.B.Nand.state c.fill_once.new.board)
-    c.in-Err.ensures.err.0 c.in-Err.ensures.err.1 c.in-Err.ensures.kept c.fill_once.ensures.ready c.requires.unfilled
+    let r = c.requires in
+    let e = c.in-Err.ensures in
+    fills_none _ _ r.may r.whole r.merged _ _ e.err.0 e.err.1 e.kept c.fill_once.ensures.ready r.unfilled
