@@ -1,4 +1,4 @@
-use Rattle.std.proofs.Common.{◌≡◌, ◌+◌, ◌-◌, [], min, arith, refl, ap, List}
+use Rattle.std.proofs.Common.{◌≡◌, ◌+◌, ◌-◌, [], min, arith, refl, ap, ◌∙◌, rules, List}
 use Rattle.pk_base.specs.Entry.{Entry}
 use Rattle.pk_level.specs.Levels.{RunsOnFlash}
 use Rattle.pk_walk.specs.Walking.{Reads, ReadsFail, most_read}

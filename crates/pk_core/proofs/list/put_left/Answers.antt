@@ -1,4 +1,4 @@
-use Rattle.std.proofs.Common.{refl, Some, None}
+use Rattle.std.proofs.Common.{refl, ◌∙◌, Some, None}
 use Rattle.pk_core.proofs.Listing.{fills_start, fills_may, fills_more, fills_less, fills_end, fills_reads, fills_fails, walks_on}
 use Rattle.pk_core.proofs.list.put_left.Goals as goal
 

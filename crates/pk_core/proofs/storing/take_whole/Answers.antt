@@ -1,4 +1,4 @@
-use Rattle.std.{proofs.Common.arith, specs.Prelude.OnOk}
+use Rattle.std.{proofs.Common.arith, proofs.Common.rules, specs.Prelude.OnOk}
 use Rattle.pk_background.{proofs.ReadSteps.running_stopped}
 use Rattle.pk_changes.specs.Programming.{TakesQuietly, ReadsQuietly}
 use Rattle.pk_core.proofs.Whole.{Wholes, wholes, fails_half, numbers_then, can_take_then, takes_whole, stays_whole, moves_whole, take_spends, takes_unmade, unmade_spends, quiet_from}
