@@ -6,7 +6,7 @@ use Rattle.pk_base.{specs.Shape.Shape, specs.Shape.IsShape, specs.Shape.page_cou
 use Rattle.pk_base.specs.Page.{Page, Flash, page_at, erased, whole, page_in, page_of_pair, commit_at}
 use Rattle.pk_jrnfmt.specs.Epoch.{epoch}
 use Rattle.pk_meta.specs.Run.{run}
-use Rattle.pk_nand.{specs.BoardState.BoardState, specs.Calls.IsReady, specs.Calls.ProgramsFailed, specs.Calls.after_programs, specs.Pairs.programs_of_pair}
+use Rattle.pk_nand.{specs.BoardState.BoardState, specs.Calls.IsReady, specs.Calls.after_programs, specs.Pairs.programs_of_pair}
 use Rattle.pk_nand.proofs.Leaving.{page_at-slice_set, page_at-slice_set_same}
 use Rattle.pk_rootfmt.{specs.Root.Root, specs.Root.root_bytes, specs.Root.is_root, specs.Held.first_with, specs.Newest.newest_root, specs.Newest.root_of, proofs.AgainLemmas.reads_back}
 use Rattle.pk_model.{specs.Found.Found, specs.Found.found_under, specs.Found.older_epoch, specs.Found.newest_epoch, specs.Found.runs_from, specs.Values.values_of, specs.Laws.IsWholePage}
@@ -138,15 +138,8 @@ pub record Formed (shape : Shape) (flash : Flash) (limits : List ℕ) : Type 0 w
 pub programs_form : (board new : BoardState) (shape : Shape) (limits bytes : List ℕ) → IsShape shape → IsReady board shape → ((q : ℕ) → q < page_count shape → page_at board.pages q ≡ erased)
     → bytes ≡ root_bytes shape (first_with limits) → is_root shape (first_with limits) ≡ true → new ≡ after_programs board (programs_of_pair 0 bytes) → Formed shape new.pages limits
 programs_form board new shape limits bytes is_shape ready are_erased spelled grammar is =
-    let P : List ℕ → Type 0 = λ x. Formed shape (slice_set (slice_set board.pages 0 (whole x)) 1 (whole x)) limits in
-    subst (λ (s : BoardState). Formed shape s.pages limits) (sym is) (subst P (sym spelled) (record {
+    subst (λ (s : BoardState). Formed shape s.pages limits) (sym is)
+    (subst (λ x. Formed shape (slice_set (slice_set board.pages 0 (whole x)) 1 (whole x)) limits) (sym spelled) (record {
       holds = holds_nothing shape board.pages is_shape ready.flash.size are_erased limits grammar;
       newest = is_top shape board.pages is_shape ready.flash.size are_erased limits grammar;
     }))
-
-pub programs_of : (board new : BoardState) (bytes written : List ℕ) → bytes ≡ written → new ≡ after_programs board (programs_of_pair 0 bytes) → new ≡ after_programs board (programs_of_pair 0 written)
-programs_of board new bytes written same is = is ∙ ap (λ (x : List ℕ). after_programs board (programs_of_pair 0 x)) same
-
--- one of the programs failed
-pub programs_failed : (board new : BoardState) (bytes written : List ℕ) → bytes ≡ written → ProgramsFailed board new (programs_of_pair 0 bytes) → ProgramsFailed board new (programs_of_pair 0 written)
-programs_failed board new bytes written same failed = subst (λ (x : List ℕ). ProgramsFailed board new (programs_of_pair 0 x)) same failed

@@ -1,5 +1,5 @@
 -- How many frames are leased: at least one for each page of the pinned levels, and at most one for each page of the levels that may have some.
-use Rattle.std.proofs.Common.{◌≡◌, ℕ, zero, suc, ◌+◌, ◌-◌, ◌≤◌, ◌<◌, Bool, true, false, List, [], ◌∷◌, ◌++◌, length, map, take, sum, refl, ap, sym, subst, ◌∙◌, arith, append-nil, length-append}
+use Rattle.std.proofs.Common.{◌≡◌, ℕ, zero, suc, ◌+◌, ◌-◌, ◌≤◌, List, [], ◌∷◌, ◌++◌, length, map, take, sum, ap, sym, subst, ◌∙◌, arith, length-append}
 use Rattle.std.proofs.lemmas.List.Sums.{sum_by-cons}
 use Rattle.pk_base.{specs.Shape.Shape, specs.Shape.run_pages, specs.Shape.pinned, specs.Page.Flash, specs.Map.Map, specs.Entry.Entry}
 use Rattle.pk_adapt.specs.Adapted.{adapted}

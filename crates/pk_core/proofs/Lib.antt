@@ -3,7 +3,6 @@ pub mod Seen
 pub mod Committing
 pub mod Leased
 pub mod Amounts
-pub mod Quieted
 pub mod Came
 pub mod Unchanging
 pub mod Counting

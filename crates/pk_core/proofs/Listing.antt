@@ -1,8 +1,8 @@
 -- Keys that a walk gives, listed one after another.
-use Rattle.std.proofs.Common.{◌≡◌, ℕ, ◌+◌, ◌-◌, ◌<◌, ◌≤◌, refl, sym, ap, subst, ◌∙◌, arith, Bool, true, false, nat_le, min, List, [], ◌∷◌, ◌++◌, length, take, drop, flat_map, if◌then◌else◌, ◌==◌}
-use Rattle.std.proofs.Common.{Option, Some, None, T, leb-false, leb→le}
+use Rattle.std.proofs.Common.{◌≡◌, ℕ, ◌+◌, ◌-◌, ◌<◌, ◌≤◌, refl, sym, ap, subst, ◌∙◌, arith, Bool, true, false, min, List, [], ◌∷◌, ◌++◌, length, take, drop, flat_map, if◌then◌else◌, ◌==◌, Option}
+use Rattle.std.proofs.Common.{Some, None, T}
+use Rattle.std.{proofs.lemmas.Bool.le-leb, proofs.lemmas.Bool.lt-leb, proofs.Math.Seq.take-add}
 use Rattle.std.proofs.lemmas.List.{append_assoc, append-nil, flat_map_more, drop-append-le, length-take-le, drop-take, length-append}
-use Rattle.std.proofs.Math.Seq.{take-add}
 use Rattle.pk_base.{specs.Key.Key, specs.Key.space_of, specs.Shape.Shape, specs.Entry.Entry, specs.Entry.Place, specs.Entry.key_of, specs.Seen.entry as seen, specs.Fields.u32, specs.Page.Flash}
 use Rattle.pk_base.specs.declared.entry.Entry.{Entry as RustEntry}
 use Rattle.pk_nand.{specs.BoardState.BoardState, specs.Calls.IsReady, specs.Operations.ReadFailed, specs.Counts.after_reads}
@@ -25,25 +25,11 @@ use Rattle.pk_call.specs.declared.types.Outcome.{Outcome}
 listed_some : (k : Key) → 2 ≤ length (listed k)
 listed_some k = omega arith
 
-le_yes : (a b : ℕ) → a ≤ b → nat_le a b ≡ true
-le_yes a b h = by_test (nat_le a b) refl
-  where
-    by_test : (t : Bool) → nat_le a b ≡ t → nat_le a b ≡ true
-    by_test true e = e
-    by_test false e = let lt = leb-false a b e in absurd (omega (arith, h, lt))
-
-le_no : (a b : ℕ) → b < a → nat_le a b ≡ false
-le_no a b h = by_test (nat_le a b) refl
-  where
-    by_test : (t : Bool) → nat_le a b ≡ t → nat_le a b ≡ false
-    by_test false e = e
-    by_test true e = let le : a ≤ b = leb→le a b (subst T (sym e) tt) in absurd (omega (arith, h, le))
-
 fits_more : (room : ℕ) (k : Key) (ks : List Key) → length (listed k) ≤ room → fitting room (k ∷ ks) ≡ k ∷ fitting (room - length (listed k)) ks
-fits_more room k ks h = ap (λ (b : Bool). if b then k ∷ fitting (room - length (listed k)) ks else []) (le_yes (length (listed k)) room h)
+fits_more room k ks h = ap (λ (b : Bool). if b then k ∷ fitting (room - length (listed k)) ks else []) (le-leb (length (listed k)) room h)
 
 fits_none : (room : ℕ) (k : Key) (ks : List Key) → room < length (listed k) → fitting room (k ∷ ks) ≡ []
-fits_none room k ks h = ap (λ (b : Bool). if b then k ∷ fitting (room - length (listed k)) ks else []) (le_no (length (listed k)) room h)
+fits_none room k ks h = ap (λ (b : Bool). if b then k ∷ fitting (room - length (listed k)) ks else []) (lt-leb (length (listed k)) room h)
 
 pub lists_start : (all : List Key) (room : ℕ) (into : List ℕ) (at : Filled) → at.end ≡ 4 → at.count ≡ 0 → Lists all room into at all
 lists_start all room into at end_is count_is = record {
@@ -181,7 +167,7 @@ pub record Fills (d : Parts) (old now : BoardState) (w : Walk) (space room : ℕ
   pub reads : Reads (pages_read d.levels.runs d.walk.cursors) (pages_read d.levels.runs w.cursors) old now
   pub size : length into ≡ length start
 
-module _ (d : Parts) (old : BoardState) (space room : ℕ) (start : List ℕ) where
+module _ {d : Parts} {old : BoardState} {space room : ℕ} {start : List ℕ} where
   pub fills_start : (at : Filled) → at.end ≡ 4 → at.count ≡ 0 → at.room ≡ room → 4 ≤ room → MayWalk d.walk old d.levels d.arena d.log → Fills d old old d.walk space room start start at
   fills_start at end count room_is least may = record {
     room_is = room_is;
@@ -199,7 +185,7 @@ module _ (d : Parts) (old : BoardState) (space room : ℕ) (start : List ℕ) wh
     size = refl;
   }
 
-  module _ (now : BoardState) (e : Parts) (into : List ℕ) (at : Filled) (f : Fills d old now e.walk space room start into at) (same : e ≡ record d { walk = e.walk }) where
+  module _ {now : BoardState} {e : Parts} {into : List ℕ} {at : Filled} (f : Fills d old now e.walk space room start into at) (same : e ≡ record d { walk = e.walk }) where
     pub fills_may : d.walk.shape ≡ d.levels.shape → MayWalk e.walk now e.levels e.arena e.log
     fills_may shape = subst (λ (x : Parts). MayWalk e.walk now x.levels x.arena x.log) (sym same) (record { ready = f.ready; same_shape = f.same_shape ∙ shape; left = (f.rest, f.left) })
 
@@ -299,9 +285,6 @@ module _ (d e : Parts) (old : BoardState) (from : Key) (starts : Starts d e.walk
       let same = a.with.index.levels_shape in
       subst (λ (x : Parts). MayWalk e.walk old x.levels x.arena x.log) (sym rest)
       (record { ready = subst (λ (s : Shape). IsReady old s) (sym same) (agrees_ready d old a); same_shape = shape ∙ sym same; left = (left.0, left.1) })
-
-  pub starts_unread : pages_read d.levels.runs e.walk.cursors ≡ 0 → pages_read e.levels.runs e.walk.cursors ≡ 0
-  starts_unread none = subst (λ (x : Parts). pages_read x.levels.runs e.walk.cursors ≡ 0) (sym rest) none
 
   -- the bytes of the whole List
   pub starts_bytes : (space room size : ℕ) (at : Filled) (into new : List ℕ) → room ≡ min size 65536

@@ -27,9 +27,6 @@ left_is shape pool flash (Some o) b count is e room =
     let within = is.within in
     let here : count ≤ free_pages shape flash o.block = subst (λ x. count ≤ free_pages shape flash x) (sym same) room in
     le-leb (o.used + count) n (omega (arith, free, here, within))
-  where
-    some_same : (x y : ℕ) → ◌≡◌ {A = Option ℕ} (Some x) (Some y) → x ≡ y
-    some_same x y f = cc
 
 -- an entry that a list has counts before others
 found_front : (k : Key) (xs ys : List Entry) (place : Option Place) → find key_cmp k xs ≡ Some place → find key_cmp k (xs ++ ys) ≡ Some place

@@ -19,18 +19,17 @@ few_pending shape flash frames d is o =
 -- after the reads of an opening
 module _ (shape : Shape) (frames reads : ℕ) (old new : BoardState) (d : Parts) (is_shape : IsShape shape)
     (ready : IsReady old shape) (done : new ≡ after_reads reads old) (o : OpenedOn shape old.pages frames d) where
+  told : new.shape ≡ Some shape
+  told = ap (λ (s : BoardState). s.shape) done ∙ ready.shape_is
+
+  stands : StandsFor d shape new.pages o.all
+  stands = subst (λ (f : Flash). StandsFor d shape f o.all) (sym (ap (λ (s : BoardState). s.pages) done)) (record { top = o.top; found = o.found; without = o.all; with = o.with; whole = o.whole })
+
   pub agrees_behind : DriveOnFlash d new.shape new.pages × (length d.log.pending < page_entries d.log.shape)
-  agrees_behind =
-      let told : new.shape ≡ Some shape = ap (λ (s : BoardState). s.shape) done ∙ ready.shape_is in
-      let here : DriveOnFlash d new.shape old.pages = agrees_so d new.shape shape old.pages o.all told (record { top = o.top; found = o.found; without = o.all; with = o.with; whole = o.whole }) in
-      (subst (DriveOnFlash d new.shape) (sym (ap (λ (s : BoardState). s.pages) done)) here, few_pending shape old.pages frames d is_shape o)
+  agrees_behind = (agrees_so d new.shape shape new.pages o.all told stands, few_pending shape old.pages frames d is_shape o)
 
   pub stands_behind : (m : Map) × HoldsMap shape (terms_at shape new.pages frames) new (sight_of d) m
-  stands_behind =
-      let told : new.shape ≡ Some shape = ap (λ (s : BoardState). s.shape) done ∙ ready.shape_is in
-      let here : StandsFor d shape old.pages o.all = record { top = o.top; found = o.found; without = o.all; with = o.with; whole = o.whole } in
-      let there : StandsFor d shape new.pages o.all = subst (λ (f : Flash). StandsFor d shape f o.all) (sym (ap (λ (s : BoardState). s.pages) done)) here in
-      (o.all, still_stands d new shape (terms_at shape new.pages frames) o.all told o.frames_are refl (between d shape new.pages o.all there))
+  stands_behind = (o.all, still_stands d new shape (terms_at shape new.pages frames) o.all told o.frames_are refl (between d shape new.pages o.all stands))
 
   -- as many blocks are in use as have a page of a value
   pub blocks_behind : (tree : Tree) → IsTree shape new.pages tree → (sight_of d).counts.blocks ≡ live_blocks shape tree.found []

@@ -1,6 +1,7 @@
 -- The blocks of a flash whose states pass a test.
 use Rattle.std.proofs.Common.{◌≡◌, inl, inr, ℕ, zero, suc, ◌+◌, refl, sym, ap, subst, ◌∙◌, arith, Bool, true, false, cond, T, List, [], ◌∷◌, length, Some}
 use Rattle.std.{specs.Prelude.slice_get, specs.Prelude.count_by, specs.List.AllByRecursion, proofs.lemmas.List.Sums.sum_by-cons}
+use Rattle.pk_base.proofs.Logic.{some_same}
 use Rattle.pk_rootfmt.specs.Root.{differ}
 use Rattle.pk_pool.specs.declared.state.BlockState.{BlockState}
 use Rattle.pk_law_steps.proofs.Places.{In, differ_cons}
@@ -52,12 +53,9 @@ module _ (p : BlockState → Bool) where
   unfolding blocks_from
   block_in i [] k s is passes = cc
   block_in i (t ∷ ss) zero s is passes =
-      let same : t ≡ s = same_state t s is in
+      let same : t ≡ s = some_same t s is in
       let here : p t ≡ true = ap p same ∙ passes in
       subst (λ c. In (i + 0) (cond c (i ∷ blocks_from (suc i) ss) (blocks_from (suc i) ss))) (sym here) (inl (omega arith))
-    where
-      same_state : (x y : BlockState) → Some x ≡ Some y → x ≡ y
-      same_state x y e = cc
   block_in i (t ∷ ss) (suc k) s is passes =
       let rest : In (suc i + k) (blocks_from (suc i) ss) = block_in (suc i) ss k s is passes in
       let moved : In (i + suc k) (blocks_from (suc i) ss) = subst (λ b. In b (blocks_from (suc i) ss)) (omega arith) rest in

@@ -3,7 +3,7 @@ use Rattle.std.proofs.Common.{◌≡◌, ◌≢◌, inl, inr, ℕ, ◌+◌, ◌-
 use Rattle.std.proofs.Common.{Option, Some, None, is_some, cond}
 use Rattle.std.proofs.lemmas.Bool.{ne_eqb, cases_lt}
 use Rattle.std.{specs.Prelude.IsSome, specs.Prelude.if◌then◌else◌, specs.FinMap.Entries.find, specs.Ordering.eq_by_cmp, proofs.lemmas.List.reverse-append}
-use Rattle.pk_base.{specs.Shape.Shape, specs.Shape.IsShape, specs.Shape.charge, specs.Shape.buffer, specs.Shape.epoch_commits, specs.Entry.Entry, specs.Key.Key, specs.Key.key_cmp, specs.Firsts.firsts}
+use Rattle.pk_base.{specs.Shape.Shape, specs.Shape.IsShape, specs.Shape.buffer, specs.Shape.epoch_commits, specs.Entry.Entry, specs.Key.Key, specs.Key.key_cmp, specs.Firsts.firsts}
 use Rattle.pk_base.{specs.Page.Flash, specs.Page.page_at, specs.Page.commit_page, specs.Page.erased, specs.Map.Map, proofs.ShapeLemmas.block_pages_positive}
 use Rattle.pk_base.proofs.Logic.{some_same, ok_same}
 use Rattle.pk_buf.specs.Table.{Table}
@@ -12,9 +12,8 @@ use Rattle.pk_nand.{specs.BoardState.BoardState, specs.Counts.counted_by}
 use Rattle.pk_jrn.{specs.Epochs.JournalEpoch, specs.Epochs.left_of, specs.Epochs.pages_of, proofs.Puts.firsts-reverse, proofs.Puts.find-firsts}
 use Rattle.pk_log.specs.State.{needs_freeze}
 use Rattle.pk_model.specs.Found.{Found, found_under}
-use Rattle.pk_values.specs.State.{fits_open}
-use Rattle.pk_call.specs.Moving.{IsQuiet, commits_for}
-use Rattle.pk_parts.{specs.Parts.Parts, specs.Parts.sight_of, specs.Parts.is_half, specs.Parts.settled_parts, specs.Parts.most_looks, specs.Agreeing.DriveOnFlashWith, specs.Quiet.ReadsOnly}
+use Rattle.pk_call.specs.Moving.{IsQuiet}
+use Rattle.pk_parts.{specs.Parts.Parts, specs.Parts.sight_of, specs.Parts.settled_parts, specs.Agreeing.DriveOnFlashWith, specs.Quiet.ReadsOnly}
 use Rattle.pk_changes.specs.Programming.{Programs}
 
 -- ---- a key that needs no freeze
@@ -43,26 +42,11 @@ has_reversed q (x ∷ xs) =
 found_same : (q : Key) (xs : List Entry) → is_some (find key_cmp q (firsts (reverse xs))) ≡ is_some (find key_cmp q (firsts xs))
 found_same q xs = ap is_some (find-firsts q (reverse xs)) ∙ (has_reversed q xs ∙ ap is_some (sym (find-firsts q xs)))
 
-and_no : (b : Bool) → (b && false) ≡ false
-and_no true = refl
-and_no false = refl
-
-room_false : (full has : Bool) → (has ≡ true) ⊎ (full ≡ false) → (full && not has) ≡ false
-room_false full true (inl e) = and_no full
-room_false full false (inl e) = cc
-room_false true has (inr e) = cc
-room_false false has (inr e) = refl
-
-commit_false : (none no_commit : Bool) → (no_commit ≡ false) ⊎ (none ≡ false) → (none && no_commit) ≡ false
-commit_false none true (inl e) = cc
-commit_false none false (inl e) = and_no none
-commit_false true no_commit (inr e) = cc
-commit_false false no_commit (inr e) = refl
-
-both_false : (a b : Bool) → a ≡ false → b ≡ false → (a || b) ≡ false
-both_false true b e f = cc
-both_false false true e f = cc
-both_false false false e f = refl
+and_false : (a b : Bool) → (b ≡ false) ⊎ (a ≡ false) → (a && b) ≡ false
+and_false false b none = refl
+and_false true false none = refl
+and_false true true (inl e) = cc
+and_false true true (inr e) = cc
 
 some_true : {X : Type 0} (o : Option X) → IsSome o → is_some o ≡ true
 some_true (Some x) is = refl
@@ -124,35 +108,14 @@ module _ (d : Parts) (shape : Shape) (flash : Flash) (top : ℕ × Root) (found 
 
   pub quiet_needs_none : needs_freeze d.log k ≡ false
   quiet_needs_none =
-      both_false ((length d.log.active.entries == d.log.active.capacity) && not (is_some (find key_cmp k d.log.active.entries))) ((length d.log.pending == 0) && (left_of d.log.epoch == 0))
-      (room_false (length d.log.active.entries == d.log.active.capacity) (is_some (find key_cmp k d.log.active.entries)) room_is)
-      (commit_false (length d.log.pending == 0) (left_of d.log.epoch == 0) commit_is)
+      let room = and_false (length d.log.active.entries == d.log.active.capacity) (not (is_some (find key_cmp k d.log.active.entries))) (elim room_is [
+        | inl has ↦ inl (ap not has)
+        | inr full ↦ inr full
+      ]) in
+      let commit = and_false (length d.log.pending == 0) (left_of d.log.epoch == 0) commit_is in
+      λ i. room i || commit i
 
 -- ---- after the reads of a lookup
 
-behind_reads : (old mid new : BoardState) (most n : ℕ) → ReadsOnly old mid most → Programs n mid new → Programs n old new
-behind_reads old mid new most n made p = record {
-  programs = p.programs
-      ∙ ap (λ (b : BoardState). counted_by n b.programs) made.board;
-  erases = p.erases ∙ ap (λ (b : BoardState). b.erases) made.board;
-}
-
-pub quiet_store_behind : (d e : Parts) (old mid new : BoardState) (size : ℕ) (k k' : Key) (reads : ℕ) → e ≡ d → ReadsOnly old mid (most_looks d) → k ≡ k'
-    → (is_half e ≡ false → needs_freeze e.log k ≡ false → fits_open e.log.shape e.values (charge e.log.shape size) ≡ true
-    → Programs (charge e.log.shape size + commits_for e.log.shape (sight_of e)) mid new) → reads ≤ 4 - d.levels.pinned
-    → is_half d ≡ false → needs_freeze d.log k' ≡ false → fits_open d.log.shape d.values (charge d.log.shape size) ≡ true
-    → Programs (charge d.log.shape size + commits_for d.log.shape (sight_of d)) old new × (reads ≤ 4 - d.levels.pinned)
-quiet_store_behind d e old mid new size k k' reads same made named programs few whole none room =
-    let T : Parts → Type 0 = λ x. is_half x ≡ false → needs_freeze x.log k ≡ false → fits_open x.log.shape x.values (charge x.log.shape size) ≡ true
-    → Programs (charge x.log.shape size + commits_for x.log.shape (sight_of x)) mid new in (
-      behind_reads old mid new (most_looks d) (charge d.log.shape size + commits_for d.log.shape (sight_of d)) made
-          (subst T same programs whole (ap (needs_freeze d.log) named ∙ none) room),
-      few,
-    )
-
-pub quiet_delete_behind : (d e : Parts) (old mid new : BoardState) (k k' : Key) (reads : ℕ) → e ≡ d → ReadsOnly old mid (most_looks d) → k ≡ k'
-    → (is_half e ≡ false → needs_freeze e.log k ≡ false → Programs (commits_for e.log.shape (sight_of e)) mid new) → reads ≤ 4 - d.levels.pinned
-    → is_half d ≡ false → needs_freeze d.log k' ≡ false → Programs (commits_for d.log.shape (sight_of d)) old new × (reads ≤ 4 - d.levels.pinned)
-quiet_delete_behind d e old mid new k k' reads same made named programs few whole none =
-    let T : Parts → Type 0 = λ x. is_half x ≡ false → needs_freeze x.log k ≡ false → Programs (commits_for x.log.shape (sight_of x)) mid new in
-    (behind_reads old mid new (most_looks d) (commits_for d.log.shape (sight_of d)) made (subst T same programs whole (ap (needs_freeze d.log) named ∙ none)), few)
+pub behind_reads : {old mid new : BoardState} {most n : ℕ} → ReadsOnly old mid most → Programs n mid new → Programs n old new
+behind_reads {n = n} made p = record { programs = p.programs ∙ ap (λ (b : BoardState). counted_by n b.programs) made.board; erases = p.erases ∙ ap (λ (b : BoardState). b.erases) made.board }

@@ -11,8 +11,7 @@ use Rattle.pk_parts.{specs.Parts.Parts, specs.Parts.drive_limits, specs.Parts.Is
 use Rattle.pk_background.proofs.Callings.{few_within, few_none}
 use Rattle.pk_core.{specs.Agreeing.DriveOnFlashBetween, specs.Done.Executes, specs.Performing.Performs, proofs.Callings.few_told, proofs.Due.merges_next, proofs.Early.refused_done}
 use Rattle.pk_core.{proofs.Noted.stores_all, proofs.Quieting.quietly_stores, proofs.Quieting.quietly_deletes, proofs.Settling.settles_there, proofs.Settling.rests_there, proofs.Steadying.steadies}
-use Rattle.pk_core.proofs.Statuses.{early_refuses, early_sound, told_refused, told_sound, zero_runs}
-use Rattle.pk_core.proofs.Staying.{keeps_fresh, blocks_grow}
+use Rattle.pk_core.{proofs.Statuses.early_refuses, proofs.Statuses.told_refused, proofs.Statuses.told_sound, proofs.Statuses.zero_runs, proofs.Staying.keeps_fresh, proofs.Staying.blocks_grow}
 
 -- what is known of it
 pub record HasEnded (d e : Parts) (old new : BoardState) (r : Request) (v : List ℕ) (o : Outcome) (into : List ℕ) : Type 0 where
@@ -30,15 +29,15 @@ pub record AnswersBy (d e : Parts) (old new : BoardState) (r : Request) (v : Lis
   pub fits : o.data_len ≤ length into
   pub same : length into ≡ length buffer
 
-module _ (d e : Parts) (old new : BoardState) (r : Request) (v : List ℕ) (o : Outcome) (into : List ℕ) (h : HasEnded d e old new r v o into) where
+module _ {d e : Parts} {old new : BoardState} {r : Request} {v : List ℕ} {o : Outcome} {into : List ℕ} (h : HasEnded d e old new r v o into) where
   served : o.status ≡ 0 → o.stopped ≡ false
   served zero = zero_runs o h.executes.does.stop_status zero
 
   pub leaves_drive : LeavesDrive (DriveOnFlashBetween e) (sight_of e) old new o.stopped
   leaves_drive = record { stops = h.executes.stops; agrees = h.executes.agrees; rest = h.executes.does.rest }
 
-  pub answers_command : (buffer : List ℕ) → AnswersBy d e old new r v o buffer into → AnswersCommand old new (sight_of d) (sight_of e) r v o buffer into
-  answers_command buffer by = record {
+  pub answers_command : {buffer : List ℕ} → AnswersBy d e old new r v o buffer into → AnswersCommand old new (sight_of d) (sight_of e) r v o buffer into
+  answers_command by = record {
     stands = h.executes.does.stands;
     stop_status = h.executes.does.stop_status;
     early = λ some. let is = by.refused some in (is.0, is.1, ap sight_of is.2);
@@ -122,7 +121,7 @@ refused_ends d old r v o into status agreed runs keeps counted few is told = rec
     agrees = λ _. agreed;
     does = refused_done d old (command_of r v) status agreed.0 is o into few told;
   };
-  performs = performs_none d old r v o (told_refused o status 0 0 0 false told (early_refuses (length (drive_limits d)) d.log.shape (command_of r v) status is));
+  performs = performs_none d old r v o (told_refused o status 0 0 0 false told (early_refuses (length (drive_limits d)) d.log.shape (command_of r v) status is).0);
   keeps = keeps;
   counted = counted;
 }
@@ -134,8 +133,8 @@ refused_answers d old r v o into status is told =
     let bare : o.data_len ≡ 0 = ap (λ (x : Outcome). x.data_len) told in
     record {
       refused = λ _. (ap (λ (x : Outcome). x.stopped) told, refl, refl);
-      fine = λ _. (told_sound o status 0 0 0 false told (early_sound (length (drive_limits d)) d.log.shape (command_of r v) status is), refl);
-      bytes = λ _ zero. absurd (told_refused o status 0 0 0 false told (early_refuses (length (drive_limits d)) d.log.shape (command_of r v) status is) zero);
+      fine = λ _. (told_sound o status 0 0 0 false told (early_refuses (length (drive_limits d)) d.log.shape (command_of r v) status is).1, refl);
+      bytes = λ _ zero. absurd (told_refused o status 0 0 0 false told (early_refuses (length (drive_limits d)) d.log.shape (command_of r v) status is).0 zero);
       fits = omega (arith, bare);
       same = refl;
     }

@@ -1,15 +1,12 @@
 -- The background work settles, command by command.
-use Rattle.std.proofs.Common.{◌≡◌, inl, inr, ℕ, sym, ap, subst, ◌∙◌, arith, Option, Some}
-use Rattle.pk_base.specs.Shape.{Shape}
+use Rattle.std.proofs.Common.{◌≡◌, inl, inr, ℕ, sym, ap, subst, ◌∙◌, arith, Some}
+use Rattle.pk_base.{specs.Shape.Shape, proofs.Logic.some_same}
 use Rattle.pk_nand.{specs.BoardState.BoardState, specs.Effects.OnlyFlash}
 use Rattle.pk_pool.specs.Blocks.{IsShared}
 use Rattle.pk_call.{specs.Sight.IsIdle, specs.Settling.Settles, specs.Settling.RestsAfter}
 use Rattle.pk_parts.{specs.Parts.Parts, specs.Parts.sight_of, specs.Agreeing.DriveOnFlash}
 use Rattle.pk_background.{specs.Ticking.HasNoStep, proofs.Ticking.none_idle}
 use Rattle.pk_core.{specs.Stepping.Lessens, proofs.Steadying.few_left}
-
-some_same : (x y : Shape) → ◌≡◌ {A = Option Shape} (Some x) (Some y) → x ≡ y
-some_same x y e = cc
 
 module _ (d e : Parts) (old new : BoardState) (steps : ℕ) (a : DriveOnFlash e new.shape new.pages)
     (shared : IsShared e.pool.shape e.pool.states) (rest : OnlyFlash old new) (lessens : Lessens d e steps) where

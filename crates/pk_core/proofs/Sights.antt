@@ -23,28 +23,14 @@ works_up old new works = let same = works.no_fault.0 in omega (arith, same)
 pub stops_up : (old new : BoardState) → Stops old new → old.flash_faults ≤ last_count → old.flash_faults ≤ new.flash_faults
 stops_up old new stops few = let rose = stops.flash in omega (arith, rose, few)
 
--- ---- what changes the map, or makes steps
+-- ---- by the opcode
 
-no_look : (opcode number : ℕ) → opcode ≡ number → only_looks number ≡ false → only_looks opcode ≡ true → ⊥
-no_look opcode number is none only = let clash : false ≡ true = sym none ∙ (ap only_looks (sym is) ∙ only) in cc
+-- a test of an opcode does not say what it does not say of this number
+pub apart : (f : ℕ → Bool) (number : ℕ) (b : Bool) → f number ≡ b → (opcode : ℕ) → opcode ≡ number → f opcode ≡ not b → ⊥
+apart f number true says opcode is e = let clash : true ≡ false = sym says ∙ (ap f (sym is) ∙ e) in cc
+apart f number false says opcode is e = let clash : false ≡ true = sym says ∙ (ap f (sym is) ∙ e) in cc
 
-pub store_changes : (r : Request) → r.opcode ≡ 0x01 → only_looks r.opcode ≡ true → ⊥
-store_changes r is only = no_look r.opcode 0x01 is refl only
-
-pub delete_changes : (r : Request) → r.opcode ≡ 0x10 → only_looks r.opcode ≡ true → ⊥
-delete_changes r is only = no_look r.opcode 0x10 is refl only
-
-pub tick_changes : (r : Request) → r.opcode ≡ 0xC0 → only_looks r.opcode ≡ true → ⊥
-tick_changes r is only = no_look r.opcode 0xC0 is refl only
-
--- a Store and a Delete may raise the work
-pub store_raises : (r : Request) → r.opcode ≡ 0x01 → may_raise r.opcode ≡ false → ⊥
-store_raises r is none = let clash : true ≡ false = sym (ap may_raise is) ∙ none in cc
-
-pub delete_raises : (r : Request) → r.opcode ≡ 0x10 → may_raise r.opcode ≡ false → ⊥
-delete_raises r is none = let clash : true ≡ false = sym (ap may_raise is) ∙ none in cc
-
--- what only looks does not, nor does a Tick
+-- what only looks does not raise the work
 pub looks_raises : (r : Request) → only_looks r.opcode ≡ true → may_raise r.opcode ≡ true → ⊥
 looks_raises r only raises = by (r.opcode == 0x01) (r.opcode == 0x10) (r.opcode == 0xC0) only raises
   where
@@ -52,9 +38,3 @@ looks_raises r only raises = by (r.opcode == 0x01) (r.opcode == 0x10) (r.opcode 
     by true delete tick none some = cc
     by false true tick none some = cc
     by false false tick none some = cc
-
-pub tick_raises : (r : Request) → r.opcode ≡ 0xC0 → may_raise r.opcode ≡ true → ⊥
-tick_raises r is raises = let clash : false ≡ true = sym (ap may_raise is) ∙ raises in cc
-
-pub delete_no_store : (r : Request) → r.opcode ≡ 0x10 → r.opcode ≡ 0x01 → ⊥
-delete_no_store r is e = omega (arith, is, e)

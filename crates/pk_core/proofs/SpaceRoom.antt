@@ -1,5 +1,5 @@
 -- A value that its namespace has room for has room among all values.
-use Rattle.std.proofs.Common.{◌≡◌, ℕ, ◌≤◌, ◌==◌, true, false, List, length, sym, ap, subst, ◌∙◌, arith, eqb-true, refl}
+use Rattle.std.proofs.Common.{◌≡◌, ℕ, ◌≤◌, ◌==◌, true, false, List, length, sym, ap, subst, arith, eqb-true, refl}
 use Rattle.std.{specs.FinMap.insert, specs.FinMap.entries, specs.FinMap.entries-insert, specs.List.AllByRecursion}
 use Rattle.pk_base.{specs.Key.Key, specs.Key.space_of, specs.Map.Map, specs.Map.live}
 use Rattle.pk_nand.specs.BoardState.{BoardState}

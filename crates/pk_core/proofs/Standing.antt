@@ -1,20 +1,17 @@
 -- A drive that agrees with its board represents the map that the board holds.
-use Rattle.std.proofs.Common.{◌≡◌, refl, sym, ap, subst, ◌∙◌, Option, Some, unwrap_or}
-use Rattle.pk_base.{specs.Shape.Shape, specs.Page.Flash, specs.Map.Map, proofs.Logic.ok_same}
+use Rattle.std.proofs.Common.{◌≡◌, sym, subst, ◌∙◌, Option, Some}
+use Rattle.pk_base.{specs.Shape.Shape, specs.Page.Flash, specs.Map.Map, proofs.Logic.ok_same, proofs.Logic.some_same}
 use Rattle.pk_nand.specs.BoardState.{BoardState}
 use Rattle.pk_model.specs.Spaces.{Terms, limits_at}
 use Rattle.pk_call.specs.Drive.{HoldsMap}
-use Rattle.pk_parts.{specs.Parts.Parts, specs.Parts.drive_limits, specs.Parts.sight_of, specs.Parts.frames_of, specs.Agreeing.DriveOnFlash, specs.Moves.StandsBetween}
-use Rattle.pk_parts.{proofs.OwnLimits.limits_between, proofs.Standing.reads_between, proofs.Standing.stands_between}
-
-same_shape : (x y : Shape) → Some x ≡ Some y → x ≡ y
-same_shape x y e = ap (λ o. unwrap_or o x) e
+use Rattle.pk_parts.{specs.Parts.Parts, specs.Parts.sight_of, specs.Parts.frames_of, specs.Agreeing.DriveOnFlash, specs.Moves.StandsBetween}
+use Rattle.pk_parts.{proofs.Standing.reads_between, proofs.Standing.stands_between}
 
 -- the map of a drive that agrees with its board is the one that it represents
 pub stands_for : (d : Parts) (board : BoardState) (shape : Shape) (terms : Terms) (m : Map)
     → DriveOnFlash d board.shape board.pages → HoldsMap shape terms board (sight_of d) m → StandsBetween d shape board.pages m
 stands_for d board shape terms m agrees stands =
-    let shapes : agrees.shape ≡ shape = same_shape agrees.shape shape (sym agrees.told_is ∙ stands.shape_is) in
+    let shapes : agrees.shape ≡ shape = some_same agrees.shape shape (sym agrees.told_is ∙ stands.shape_is) in
     let here : StandsBetween d shape board.pages agrees.all = subst (λ s. StandsBetween d s board.pages agrees.all) shapes
     (record { top = agrees.top; found = agrees.found; without = agrees.without; with = agrees.with; course = agrees.course }) in
     subst (λ x. StandsBetween d shape board.pages x) (ok_same agrees.all m (sym (reads_between d shape board.pages agrees.all here) ∙ stands.map_is)) here
@@ -26,8 +23,3 @@ stands_here d told flash agrees = (agrees.all, stands_between d told flash agree
 pub still_stands : (d : Parts) (board : BoardState) (shape : Shape) (terms : Terms) (m : Map) → board.shape ≡ Some shape → frames_of d ≡ terms.frames → limits_at shape board.pages ≡ terms.limits
     → StandsBetween d shape board.pages m → HoldsMap shape terms board (sight_of d) m
 still_stands d board shape terms m told frames limits is = record { shape_is = told; frames_is = frames; limits_is = limits; map_is = reads_between d shape board.pages m is }
-
--- the limits that a board has for a map of the drive are its own
-pub own_limits : (d : Parts) (board : BoardState) (shape : Shape) (terms : Terms) (m : Map)
-    → DriveOnFlash d board.shape board.pages → HoldsMap shape terms board (sight_of d) m → drive_limits d ≡ terms.limits
-own_limits d board shape terms m agrees stands = sym (limits_between d shape board.pages m (stands_for d board shape terms m agrees stands)) ∙ stands.limits_is

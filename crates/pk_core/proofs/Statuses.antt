@@ -25,10 +25,14 @@ one_check P true x status here is = absurd (none_some status is)
 
 -- ---- the checks of a Store on the map
 
-pub store_refuses : (options live most status : ℕ) (there : Bool) → store_check options there live most ≡ Some status → status ≢ 0
+-- no success, and no read that failed
+abbrev Refuses : ℕ → Type 0
+Refuses x = (x ≢ 0) × (x ≢ 0x88)
+
+pub store_refuses : (options live most status : ℕ) (there : Bool) → store_check options there live most ≡ Some status → (status ≢ 0) × (status ≢ 0x88)
 store_refuses options live most status there is =
-    two_checks (λ x. x ≢ 0) (not (options % 2 == 1) || there) (not (options / 2 % 2 == 1 && there)) 0x87 0x89 status (check (nat_le live most) 0x81) (λ e. omega (arith, e)) (λ e. omega (arith, e))
-    (one_check (λ x. x ≢ 0) (nat_le live most) 0x81 status (λ e. omega (arith, e))) is
+    two_checks Refuses (not (options % 2 == 1) || there) (not (options / 2 % 2 == 1 && there)) 0x87 0x89 status (check (nat_le live most) 0x81) (λ e. omega (arith, e), λ e. omega (arith, e))
+    (λ e. omega (arith, e), λ e. omega (arith, e)) (one_check Refuses (nat_le live most) 0x81 status (λ e. omega (arith, e), λ e. omega (arith, e))) is
 
 -- ---- those that read the command alone
 
@@ -48,14 +52,9 @@ module _ (P : ℕ → Type 0) (opcode : P 0x01) (namespace : P 0x0B) (key : P 0x
   fault_says spaces shape c (Some k) status is = two_checks P (is_namespace spaces k c.namespace)
       (is_key_length k c.key_len) 0x0B 0x86 status (size_fault shape k c.size) namespace key (size_says shape k c.size status) is
 
-pub early_refuses : (spaces : ℕ) (shape : Shape) (c : Command) (status : ℕ) → early spaces shape c ≡ Some status → status ≢ 0
-early_refuses spaces shape c status is = fault_says (λ x. x ≢ 0) (λ e. omega (arith, e)) (λ e. omega (arith, e))
-    (λ e. omega (arith, e)) (λ e. omega (arith, e)) (λ e. omega (arith, e)) spaces shape c (op_of c.opcode) status is
-
--- nor does one of them report a read that failed
-pub early_sound : (spaces : ℕ) (shape : Shape) (c : Command) (status : ℕ) → early spaces shape c ≡ Some status → status ≢ 0x88
-early_sound spaces shape c status is = fault_says (λ x. x ≢ 0x88) (λ e. omega (arith, e)) (λ e. omega (arith, e))
-    (λ e. omega (arith, e)) (λ e. omega (arith, e)) (λ e. omega (arith, e)) spaces shape c (op_of c.opcode) status is
+pub early_refuses : (spaces : ℕ) (shape : Shape) (c : Command) (status : ℕ) → early spaces shape c ≡ Some status → (status ≢ 0) × (status ≢ 0x88)
+early_refuses spaces shape c status is = fault_says Refuses (λ e. omega (arith, e), λ e. omega (arith, e)) (λ e. omega (arith, e), λ e. omega (arith, e)) (λ e. omega (arith, e), λ e. omega (arith, e))
+    (λ e. omega (arith, e), λ e. omega (arith, e)) (λ e. omega (arith, e), λ e. omega (arith, e)) spaces shape c (op_of c.opcode) status is
 
 -- ---- an outcome of such a status
 

@@ -1,11 +1,11 @@
 -- What of a drive is unchanged, as the contract of a drive sees it.
 use Rattle.std.proofs.Common.{◌≡◌, ◌⊎◌, inl, inr, ℕ, sym, ap, subst, ◌∙◌, arith, Some}
-use Rattle.pk_base.{specs.Shape.charge, specs.Page.page_at, proofs.Logic.some_same}
+use Rattle.pk_base.{specs.Page.page_at, proofs.Logic.some_same}
 use Rattle.pk_rootfmt.{specs.Root.Root, specs.Newest.newest_root}
 use Rattle.pk_nand.{specs.BoardState.BoardState, specs.BoardState.shape_of, specs.BoardState.shape_or_none, specs.Effects.OnlyFlash}
 use Rattle.pk_call.specs.Moving.{KeepsFresh, BlocksGrow}
 use Rattle.pk_parts.{specs.Parts.Parts, specs.Parts.sight_of, specs.Agreeing.DriveOnFlash, proofs.Staying.fresh_then}
-use Rattle.pk_parts.specs.Staying.{StaysFresh, SameUse, OpensOne, MakesRoom, Stays, StaysOrOpens, StaysOrFrees}
+use Rattle.pk_parts.specs.Staying.{StaysFresh, SameUse, OpensOne, MakesRoom, StaysOrFrees}
 
 -- ---- background steps
 
@@ -44,11 +44,3 @@ pub blocks_grow : (d e : Parts) (opcode count : ℕ) → opcode ≡ 0x01 → Sam
 blocks_grow d e opcode count is (inl same) = blocks_stay d e opcode same
 blocks_grow d e opcode count is (inr (inl one)) = inr (is, one.used, one.other)
 blocks_grow d e opcode count is (inr (inr room)) = inl room.no_more
-
--- ---- the same of a drive that is another name for it, or of a count
-
-pub stays_from : (d d' e : Parts) → d' ≡ d → Stays d' e → Stays d e
-stays_from d d' e same s = subst (λ x. Stays x e) same s
-
-pub opens_from : (d d' e : Parts) (size : ℕ) → d' ≡ d → StaysOrOpens d' e (charge d'.log.shape size) → StaysOrOpens d e (charge d.log.shape size)
-opens_from d d' e size same s = subst (λ (x : Parts). StaysOrOpens x e (charge x.log.shape size)) same s

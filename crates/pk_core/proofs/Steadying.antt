@@ -1,6 +1,6 @@
 -- A drive that agrees with its flash is steady: its numbers are those of what is on the flash.
-use Rattle.std.proofs.Common.{◌≡◌, ◌≢◌, inl, inr, ℕ, ◌+◌, ◌*◌, ◌/◌, ◌<◌, ◌≤◌, refl, sym, ap, subst, ◌∙◌, arith, true, false, List, [], ◌∷◌, ◌++◌, length, map, Option, Some, None, div-add-mod', mod-lt}
-use Rattle.std.specs.Prelude.{slice_get, slice_index_or, count_by, MatchOption, IfSome, ◌%◌, ◌&&◌, not}
+use Rattle.std.proofs.Common.{◌≡◌, ◌≢◌, inl, inr, ℕ, ◌+◌, ◌*◌, ◌/◌, ◌<◌, ◌≤◌, refl, sym, ap, subst, ◌∙◌, arith, true, false, List, [], ◌++◌, length, map, Option, Some, None, div-add-mod', mod-lt}
+use Rattle.std.specs.Prelude.{slice_get, count_by, MatchOption, IfSome, ◌%◌, ◌&&◌, not}
 use Rattle.std.{specs.List.concat, proofs.lemmas.Option.slice_get_within}
 use Rattle.pk_base.{specs.Shape.Shape, specs.Shape.IsShape, specs.Shape.page_entries, specs.Shape.pinned, specs.Shape.run_pages, specs.Page.Flash, specs.Entry.Entry, specs.Map.Map}
 use Rattle.pk_base.{specs.Firsts.firsts, specs.Merge.next_merge, proofs.ShapeLemmas.block_pages_positive, proofs.ShapeLemmas.entries_some, proofs.Logic.is_true, proofs.Logic.some_same}
@@ -51,14 +51,11 @@ block_has shape k b some is =
     let less = mod-lt k some in
     (omega (arith, whole), omega (arith, whole, less))
 
-some_block : (x y : ℕ) → ◌≡◌ {A = Option ℕ} (Some x) (Some y) → x ≡ y
-some_block x y e = cc
-
 -- the open block has an owner
 open_is_owned : (shape : Shape) (pool : Blocks) (flash : Flash) (o : Option OpenBlock) (b : ℕ)
     → MatchOption o (Unit {0}) (λ x. IsOpenIn shape pool flash x) → block_if_open o ≡ Some b → HoldsValues pool b
 open_is_owned shape pool flash None b is e = cc
-open_is_owned shape pool flash (Some o) b is e = subst (HoldsValues pool) (some_block o.block b e) is.owned
+open_is_owned shape pool flash (Some o) b is e = subst (HoldsValues pool) (some_same o.block b e) is.owned
 
 -- a block that is one for values has a state that says so
 for_values_told : (o : Option BlockState) → is_for_values o ≡ true → (s : BlockState) × (o ≡ Some s) × (is_owned_by Values s ≡ true)

@@ -1,12 +1,12 @@
 -- Background steps one after another.
-use Rattle.std.proofs.Common.{◌≡◌, ◌≢◌, inl, inr, ℕ, ◌+◌, ◌-◌, ◌<◌, ◌≤◌, refl, sym, ap, subst, ◌∙◌, arith, Bool, true, false, List, [], ◌++◌, Option, Some, None, Ok, length}
+use Rattle.std.proofs.Common.{◌≡◌, ◌≢◌, inl, inr, ℕ, ◌+◌, ◌-◌, ◌<◌, ◌≤◌, refl, sym, ap, subst, ◌∙◌, arith, true, false, List, [], ◌++◌, Some, None, Ok, length}
 use Rattle.std.proofs.lemmas.Bool.{leb-false}
 use Rattle.pk_base.{specs.Shape.Shape, specs.Page.Flash, specs.Page.page_at, specs.Map.Map, specs.Mark.all_posted}
-use Rattle.pk_nvme.{specs.Command.Command, specs.Reply.Reply, specs.Reply.refusal, specs.Seen.command_of, specs.declared.request.Request.Request, specs.Opcode.op_of}
-use Rattle.pk_nvme.{specs.declared.opcode.Opcode.Opcode, specs.declared.opcode.Opcode.TheVariants.Retrieve, specs.declared.opcode.Opcode.TheVariants.Tick}
+use Rattle.pk_nvme.{specs.Reply.Reply, specs.Reply.refusal, specs.Seen.command_of, specs.declared.request.Request.Request, specs.Opcode.op_of}
+use Rattle.pk_nvme.{specs.declared.opcode.Opcode.TheVariants.Tick}
 use Rattle.pk_nand.{specs.BoardState.BoardState, specs.BoardState.shape_or_none, specs.Calls.Rose, specs.Calls.last_count, proofs.Reaching.Reached-start, proofs.Effects.only_then}
 use Rattle.pk_nand.specs.Effects.{NoFault, AtMostOneCall, made_no_call, made_read, made_program, made_erase}
-use Rattle.pk_model.{specs.Answer.early, specs.Answer.success, specs.Reading.reading, specs.Run.Step, proofs.Answering.serves, specs.Crashes.CrashFinds, specs.Crashes.background, specs.Spaces.Terms}
+use Rattle.pk_model.{specs.Answer.early, specs.Answer.success, specs.Reading.reading, specs.Run.Step, specs.Crashes.CrashFinds, specs.Crashes.background, specs.Spaces.Terms}
 use Rattle.pk_model.{specs.Crashes.change, specs.Wear.number_of, specs.Wear.root_number, specs.Wear.roots, specs.Wear.is_worn}
 use Rattle.pk_model.proofs.Growing.{weaken, weaken_went, at_end, Reaches-then, Goes-then}
 use Rattle.pk_call.{specs.Sight.Sight, specs.Call.command_on, specs.Drive.HoldsMap, specs.Exec.most_installs, specs.Seen.stopped_by, specs.Seen.reply_of, specs.declared.types.Outcome.Outcome}
@@ -15,16 +15,16 @@ use Rattle.pk_rootfmt.{specs.Root.Root, specs.Newest.newest_root}
 use Rattle.pk_parts.{specs.Parts.Parts, specs.Parts.drive_limits, specs.Parts.sight_of, specs.Parts.terms_of, specs.Agreeing.DriveOnFlash, specs.Staying.StaysOrFrees, proofs.Unchanging.for_its_map}
 use Rattle.pk_parts.proofs.Staying.{stays_same, stays_frees}
 use Rattle.pk_core.{specs.Done.Does, specs.Quiet.eleven, specs.Stepping.has_failed, specs.Stepping.BackgroundSteps, specs.Stepping.outcome_of, proofs.Staying.frees_then}
-use Rattle.pk_core.proofs.Unchanging.{same_early, unread_step}
+use Rattle.pk_core.proofs.Unchanging.{same_early, not_read, ok_sound, served, unread_step}
 use Rattle.pk_background.{specs.Ticking.MayTick, specs.Ticking.Ticks, specs.Ticking.HasNoStep, specs.Ticking.Advances, proofs.Ticking.yes_no}
-use Rattle.pk_background.proofs.Callings.{few_more, spends_same, spends_within}
+use Rattle.pk_background.proofs.Callings.{few_more, few_within, spends_same}
 
 -- the drive agrees with its board after this many steps, of which none failed
 pub record Ongoing (first : Parts) (old : BoardState) (d : Parts) (board : BoardState) (made : ℕ) : Type 0 where
   pub agrees : DriveOnFlash d board.shape board.pages
   pub unstopped : d.stopped ≡ false
   pub none : d.log.pending ≡ []
-  pub steps : BackgroundSteps old board (sight_of first) (sight_of d) Worked made
+  pub steps : (most : ℕ) → made ≤ most → BackgroundSteps old board (sight_of first) (sight_of d) Worked most
   pub less : (sight_of d).work + made ≤ (sight_of first).work
   pub number : d.log.root.number ≤ first.log.root.number + made
   pub counted : board.read_faults ≤ last_count
@@ -32,24 +32,21 @@ pub record Ongoing (first : Parts) (old : BoardState) (d : Parts) (board : Board
 
 -- ---- no step
 
-worked_fault : (b : Bool) → Worked ≡ Fault b → ⊥
-worked_fault b e = cc
-
-pub steps_none : (old : BoardState) (s : Sight) → old.reads ≤ last_count → s.pending ≡ [] → BackgroundSteps old old s s Worked 0
-steps_none old s few none = record {
+pub steps_none : (old : BoardState) (s : Sight) (most : ℕ) → old.reads ≤ last_count → s.pending ≡ [] → BackgroundSteps old old s s Worked most
+steps_none old s most few none = record {
   stands = λ _ shape frames m st. st;
   found = record {
     cuts = λ _ shape frames m st. ([], Reached-start old old (CrashFinds shape background old.pages m) refl refl refl refl (refl, subst (λ p. reading shape old.pages p ≡ Ok m) none st.map_is), tt);
     cuts_stopped = λ e. absurd (yes_no false refl e);
   };
   rest = refl;
-  spends = spends_same 0 0 old old refl;
+  spends = spends_same most most old old refl;
   few = few;
   more_reads = omega arith;
   within = omega arith;
   up = omega arith;
   flash_up = λ _. omega arith;
-  unread = λ e. absurd (worked_fault false e);
+  unread = λ e. let other : Worked ≡ Fault false = e in absurd cc;
   sound = λ _. (refl, refl, refl, refl);
   stop = λ e. absurd (yes_no false refl e);
   no_stop = λ _. refl;
@@ -76,7 +73,7 @@ sound_step a b s t Worked ticks e = ticks.worked refl
 sound_step a b s t Idle ticks e = subst (λ x. NoFault a x) (sym (ticks.idle_rests refl).0) (refl, refl, refl, refl)
 sound_step a b s t (Fault stopped) ticks e = absurd (yes_no true e refl)
 
-module _ (s0 s1 : BoardState) (e0 e1 : Sight) (n : ℕ) (first : BackgroundSteps s0 s1 e0 e1 Worked n) where
+module _ {s0 s1 : BoardState} {e0 e1 : Sight} {n : ℕ} (first : BackgroundSteps s0 s1 e0 e1 Worked n) where
   -- a cut after the steps so far is one after the first
   seen : (shape : Shape) (frames : Terms) (m : Map) (st : HoldsMap shape frames s0 e0 m) (f : Flash) (q : List ℕ)
       → CrashFinds shape background s0.pages m f q → CrashFinds shape background s0.pages m f (all_posted (first.found.cuts refl shape frames m st).0 ++ q)
@@ -85,8 +82,8 @@ module _ (s0 s1 : BoardState) (e0 e1 : Sight) (n : ℕ) (first : BackgroundSteps
       let ends = at_end run.0 s0 s1 (CrashFinds shape background s0.pages m) run.1 in
       (ap (λ (xs : List ℕ). xs ++ q) ends.0 ∙ cut.0, cut.1)
 
-  pub steps_more : (s2 : BoardState) (e2 : Sight) (answer : Ticked) → Ticks s1 s2 e1 e2 answer → BackgroundSteps s0 s2 e0 e2 answer (n + 1)
-  steps_more s2 e2 answer ticks =
+  pub steps_more : (s2 : BoardState) (e2 : Sight) (answer : Ticked) (most : ℕ) → n < most → Ticks s1 s2 e1 e2 answer → BackgroundSteps s0 s2 e0 e2 answer most
+  steps_more s2 e2 answer most less ticks =
       let calm = first.sound refl in
       let reads = one_read s1 s2 first.few ticks.calls in
       record {
@@ -102,10 +99,13 @@ module _ (s0 s1 : BoardState) (e0 e1 : Sight) (n : ℕ) (first : BackgroundSteps
               (CrashFinds shape background s0.pages m) (seen shape frames m st) (ticks.cuts_stopped stops shape frames m (first.stands refl shape frames m st));
         };
         rest = only_then s0 s1 s2 first.rest ticks.rest;
-        spends = record { calls = few_more n s0 s1 s2 first.spends.calls ticks.calls; installs = (let a = first.spends.installs in let b = ticks.installs in omega (arith, a, b)) };
+        spends = record {
+          calls = few_within (n + 1) most s0 s2 (omega (arith, less)) (few_more n s0 s1 s2 first.spends.calls ticks.calls);
+          installs = (let a = first.spends.installs in let b = ticks.installs in omega (arith, a, b, less));
+        };
         few = reads.few;
         more_reads = (let a = first.more_reads in let b = reads.more in omega (arith, a, b));
-        within = (let a = first.within in let b = reads.within in omega (arith, a, b));
+        within = (let a = first.within in let b = reads.within in omega (arith, a, b, less));
         up = (let a = first.up in let b = ticks.up in omega (arith, a, b));
         flash_up = λ few. (let same = calm.0 in let b = ticks.flash_up (omega (arith, same, few)) in omega (arith, same, b));
         unread = λ e. subst (λ k. Rose k s2.read_faults) calm.1 (ticks.unread e);
@@ -121,36 +121,7 @@ no_more_step d e a b Idle step runs = let same = ap (λ (s : Sight). s.work) (st
 no_more_step d e a b (Fault true) step runs = absurd (yes_no true runs refl)
 no_more_step d e a b (Fault false) step runs = let same = ap (λ (s : Sight). s.work) (step.ticks.unmade refl).0 in omega (arith, same)
 
--- this many steps are within more
-pub steps_within : (old new : BoardState) (s t : Sight) (answer : Ticked) (n k : ℕ) → n ≤ k → BackgroundSteps old new s t answer n → BackgroundSteps old new s t answer k
-steps_within old new s t answer n k less w = record {
-  stands = w.stands;
-  found = w.found;
-  rest = w.rest;
-  spends = spends_within n k n k old new less less w.spends;
-  few = w.few;
-  more_reads = w.more_reads;
-  within = (let a = w.within in omega (arith, a, less));
-  up = w.up;
-  flash_up = w.flash_up;
-  unread = w.unread;
-  sound = w.sound;
-  stop = w.stop;
-  no_stop = w.no_stop;
-}
-
 -- ---- the answer of the command
-
-tick_step : (shape : Shape) (terms : Terms) (m : Map) (c : Command) → early (length terms.limits) shape c ≡ None → c.opcode ≡ 0xC0 → Step shape terms m c (success 0 []) m
-tick_step shape terms m c passed is =
-    let s = serves shape terms m eleven c Tick (ap op_of is) passed refl in
-    inl (record { own = eleven; eleven = refl; replied = sym s.replied; leaves = sym s.leaves })
-
-other_kind : (x : ℕ) → x ≡ 0xC0 → op_of x ≡ Some Retrieve → ⊥
-other_kind x is e = let f : ◌≡◌ {A = Option Opcode} (Some Tick) (Some Retrieve) = sym (ap op_of is) ∙ e in cc
-
-ok_sound : ◌≡◌ {A = ℕ} 0 0x88 → ⊥
-ok_sound e = cc
 
 module _ (old new : BoardState) (d d' : Parts) (r : Request) (v : List ℕ) (a : DriveOnFlash d old.shape old.pages) (passed : early (length (drive_limits d)) d.log.shape (command_of r []) ≡ None) (op : r.opcode ≡ 0xC0) where
   passes : early (length (drive_limits d)) d.log.shape (command_of r v) ≡ None
@@ -176,8 +147,8 @@ module _ (old new : BoardState) (d d' : Parts) (r : Request) (v : List ℕ) (a :
             run.2,
           );
           stands = w.stands runs shape frames m st;
-          bounded = λ e. absurd (other_kind r.opcode op e);
-          held_bounded = λ e. absurd (other_kind r.opcode op e);
+          bounded = λ e. absurd (not_read Tick r.opcode (ap op_of op) (λ other. cc) e);
+          held_bounded = λ e. absurd (not_read Tick r.opcode (ap op_of op) (λ other. cc) e);
         };
         cuts_stopped = λ stops shape frames m st.
             let run = w.found.cuts_stopped stops shape frames m st in (
@@ -198,17 +169,13 @@ module _ (old new : BoardState) (d d' : Parts) (r : Request) (v : List ℕ) (a :
         installs = subst (λ (x : ℕ). roots new ≤ roots old + most_installs x r.size) (sym op) w.spends.installs;
       }
 
-  by_answer : (answer : Ticked) (into : List ℕ) (reads : ℕ) → BackgroundSteps old new (sight_of d) (sight_of d') answer r.size → reads ≡ new.reads - old.reads
-      → Does old new (sight_of d) (sight_of d') (command_of r v) (reply_of (outcome_of answer reads) into) reads (stopped_by answer)
-  by_answer Worked into reads w is =
-      does_steps Worked (success 0 []) reads w is (tick_step d.log.shape (terms_of d) a.all (command_of r v) passes op)
-      (λ e _. absurd (ok_sound e)) (λ _. w.sound refl) (λ e. absurd (yes_no false refl e))
-  by_answer Idle into reads w is =
-      does_steps Idle (success 0 []) reads w is (tick_step d.log.shape (terms_of d) a.all (command_of r v) passes op)
-      (λ e _. absurd (ok_sound e)) (λ _. w.sound refl) (λ e. absurd (yes_no false refl e))
-  by_answer (Fault stopped) into reads w is =
-      does_steps (Fault stopped) (refusal 0x88) reads w is (unread_step d.log.shape (terms_of d) a.all (command_of r v) passes)
-      (λ _ e. w.unread (ap (λ b. Fault b) e)) (λ e. absurd (e refl)) (λ _. refl)
+  -- a step that did not fail
+  by_fine : (answer : Ticked) (reads : ℕ) → stopped_by answer ≡ false → has_failed answer ≡ false → BackgroundSteps old new (sight_of d) (sight_of d') answer r.size → reads ≡ new.reads - old.reads
+      → Does old new (sight_of d) (sight_of d') (command_of r v) (success 0 []) reads (stopped_by answer)
+  by_fine answer reads runs fine w is =
+      does_steps answer (success 0 []) reads w is
+      (served d.log.shape (terms_of d) a.all (command_of r v) passes Tick eleven (success 0 []) a.all refl (ap op_of op) refl refl refl)
+      (λ e _. absurd (ok_sound e)) (λ _. w.sound fine) (λ e. absurd (yes_no (stopped_by answer) runs e))
 
   pub tick_does : (answer : Ticked) (o : Outcome) (into : List ℕ) (reads : ℕ)
       → BackgroundSteps old new (sight_of d) (sight_of d') answer r.size → reads ≡ new.reads - old.reads → o ≡ outcome_of answer reads
@@ -218,9 +185,11 @@ module _ (old new : BoardState) (d d' : Parts) (r : Request) (v : List ℕ) (a :
     where
       by_cases : (l : Ticked) → BackgroundSteps old new (sight_of d) (sight_of d') l r.size
           → Does old new (sight_of d) (sight_of d') (command_of r v) (reply_of (outcome_of l reads) into) (outcome_of l reads).reads (outcome_of l reads).stopped
-      by_cases Worked w = by_answer Worked into reads w is
-      by_cases Idle w = by_answer Idle into reads w is
-      by_cases (Fault stopped) w = by_answer (Fault stopped) into reads w is
+      by_cases Worked w = by_fine Worked reads refl refl w is
+      by_cases Idle w = by_fine Idle reads refl refl w is
+      by_cases (Fault stopped) w =
+          does_steps (Fault stopped) (refusal 0x88) reads w is (unread_step d.log.shape (terms_of d) a.all (command_of r v) passes)
+          (λ _ e. w.unread (ap (λ b. Fault b) e)) (λ e. absurd (e refl)) (λ _. refl)
 
 -- ---- the loop
 
@@ -230,23 +199,22 @@ ongoing_none d board may few = record {
   agrees = may.agrees;
   unstopped = may.unstopped;
   none = may.none;
-  steps = steps_none board (sight_of d) few may.none;
+  steps = λ most _. steps_none board (sight_of d) most few may.none;
   less = omega arith;
   number = omega arith;
   counted = may.counted;
   stays = stays_frees d d (stays_same d d refl);
 }
 
-module _ (first : Parts) (old : BoardState) (d : Parts) (board : BoardState) (made : ℕ) (o : Ongoing first old d board made) where
+module _ {first d : Parts} {old board : BoardState} {made : ℕ} (o : Ongoing first old d board made) where
   -- a further step may be made
   pub ongoing_may : (most : ℕ) → made < most → first.log.root.number + most ≤ 18446744073709551615 → MayTick d board
   ongoing_may most more numbers = record { agrees = o.agrees; unstopped = o.unstopped; none = o.none; number = (let e = o.number in omega (arith, e, more, numbers)); counted = o.counted }
 
-  module _ (e : Parts) (next : BoardState) (answer : Ticked) (step : Advances d e board next answer) where
+  module _ {e : Parts} {next : BoardState} {answer : Ticked} (step : Advances d e board next answer) where
     -- it ends after any step
     pub ongoing_last : (most : ℕ) → made < most → BackgroundSteps old next (sight_of first) (sight_of e) answer most
-    ongoing_last most less = steps_within old next (sight_of first) (sight_of e) answer (made + 1) most
-        (omega (arith, less)) (steps_more old board (sight_of first) (sight_of d) made o.steps next (sight_of e) answer step.ticks)
+    ongoing_last most less = steps_more (o.steps made (omega arith)) next (sight_of e) answer most less step.ticks
 
     pub ongoing_stays : stopped_by answer ≡ false → StaysOrFrees first e
     ongoing_stays runs = frees_then first d e o.stays (step.moves runs)
@@ -255,21 +223,21 @@ module _ (first : Parts) (old : BoardState) (d : Parts) (board : BoardState) (ma
     ongoing_no_more runs = let was = o.less in let now = no_more_step d e board next answer step runs in omega (arith, was, now)
 
   -- it goes on after a step that worked
-  pub ongoing_more : (e : Parts) (next : BoardState) → Advances d e board next Worked → Ongoing first old e next (made + 1)
-  ongoing_more e next step = record {
+  pub ongoing_more : {e : Parts} {next : BoardState} → Advances d e board next Worked → Ongoing first old e next (made + 1)
+  ongoing_more {e} {next} step = record {
     agrees = step.agrees refl;
     unstopped = step.stops;
     none = step.none;
-    steps = steps_more old board (sight_of first) (sight_of d) made o.steps next (sight_of e) Worked step.ticks;
+    steps = λ most less. ongoing_last step most (omega (arith, less));
     less = (let was = o.less in let now = step.lowers refl in omega (arith, was, now));
     number = (let was = o.number in let now = step.number refl in omega (arith, was, now));
     counted = (let was = o.counted in let same = (step.ticks.worked refl).1 in omega (arith, was, same));
     stays = frees_then first d e o.stays (step.moves refl);
   }
 
-  -- if no step remains, nothing remains but a reclaim
-  pub ongoing_done : (e : Parts) (next : BoardState) → Advances d e board next Idle → HasNoStep e
-  ongoing_done e next step = let idle = step.idle refl in subst HasNoStep (sym idle.1) idle.0
+-- if no step remains, nothing remains but a reclaim
+pub ongoing_done : {d e : Parts} {board next : BoardState} → Advances d e board next Idle → HasNoStep e
+ongoing_done step = let idle = step.idle refl in subst HasNoStep (sym idle.1) idle.0
 
 pub stopped_is : (o : Outcome) (answer : Ticked) (reads : ℕ) → o ≡ outcome_of answer reads → o.stopped ≡ stopped_by answer
 stopped_is o Worked reads told = ap (λ x. x.stopped) told

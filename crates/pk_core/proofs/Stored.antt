@@ -8,13 +8,13 @@ use Rattle.pk_pool.specs.Blocks.{used_by}
 use Rattle.pk_nand.{specs.declared.types.Fault.Fault, specs.declared.types.Fault.TheVariants.Reading, specs.declared.types.Fault.TheVariants.Stopped, specs.BoardState.BoardState}
 use Rattle.pk_nand.{specs.Calls.IsReady, specs.Calls.last_count, specs.Effects.OnlyFlash}
 use Rattle.pk_model.{specs.Found.Found, specs.Growth.Reaches, specs.Growth.Goes, specs.Crashes.CrashFinds, specs.Crashes.commit, specs.Crashes.change, specs.Wear.roots, specs.Wear.is_worn}
-use Rattle.pk_law_work.specs.Calls.{room_calls, space_calls}
+use Rattle.pk_law_work.specs.Calls.{room_calls}
 use Rattle.pk_law_steps.specs.Under.{places}
 use Rattle.pk_log.specs.State.{needs_freeze}
 use Rattle.pk_values.specs.State.{fits_open}
-use Rattle.pk_parts.{specs.Parts.Parts, specs.Parts.counts_of, specs.Parts.most_looks, specs.Agreeing.DriveOnFlash, specs.Moves.StandsFor, specs.Moves.KeepsAll, specs.Moves.BreaksAll}
+use Rattle.pk_parts.{specs.Parts.Parts, specs.Parts.counts_of, specs.Parts.frames_of, specs.Parts.most_looks, specs.Agreeing.DriveOnFlash, specs.Moves.StandsFor, specs.Moves.KeepsAll}
+use Rattle.pk_parts.{specs.Moves.BreaksAll, proofs.Standing.found_once, proofs.Standing.agrees_so}
 use Rattle.pk_parts.{specs.Staying.StaysFresh, specs.Staying.StaysOrOpens, specs.Quiet.ReadsOnly, specs.Quiet.ReadsFailing, specs.Quiet.Looks, proofs.Keeping.board_has, proofs.Staying.fresh_then}
-use Rattle.pk_parts.proofs.Standing.{found_once, agrees_so}
 use Rattle.pk_background.{specs.Emptying.StepOrRead, specs.Emptying.OnRunning, specs.Reclaiming.CannotRead, proofs.SpaceSteps.wanted_full, proofs.Stored.blocks_most, proofs.Stored.blocks_at}
 use Rattle.pk_background.specs.Spacing.{SameMapAll, MovesOrReads, StaysSame, needs}
 use Rattle.pk_background.proofs.ReadSteps.{Passes, passes_none, reading_then, reading_failed, running_says}
@@ -26,10 +26,10 @@ use Rattle.pk_core.specs.Spacing.{MayStore, StoresAll, FailsToStore, StoresOrRea
 
 -- ---- a lookup finds the former value
 
-reaches_behind : (shape : Shape) (old new : BoardState) (n : ℕ) (P : Flash → List ℕ → Type 0) → Reaches shape (record old { reads = n }) new P → Reaches shape old new P
+pub reaches_behind : (shape : Shape) (old new : BoardState) (n : ℕ) (P : Flash → List ℕ → Type 0) → Reaches shape (record old { reads = n }) new P → Reaches shape old new P
 reaches_behind shape old new n P run = (run.0, record { trail = run.1.trail; posted = run.1.posted; same_shape = run.1.same_shape; cuts = run.1.cuts; stands = run.1.stands }, run.2)
 
-goes_behind : (shape : Shape) (old new : BoardState) (n : ℕ) (P : Flash → List ℕ → Type 0) → Goes shape (record old { reads = n }) new P → Goes shape old new P
+pub goes_behind : (shape : Shape) (old new : BoardState) (n : ℕ) (P : Flash → List ℕ → Type 0) → Goes shape (record old { reads = n }) new P → Goes shape old new P
 goes_behind shape old new n P run = (run.0, record { trail = run.1.trail; posted = run.1.posted; same_shape = run.1.same_shape; cuts = run.1.cuts; stands = run.1.stands }, run.2)
 
 pub its_drive : (d : Parts) (board : BoardState) (key : Key) (value : List ℕ) → CanStore d board key value → DriveOnFlash d board.shape board.pages
@@ -91,9 +91,6 @@ found_stores r d e c s0 s1 s2 key value p same looks made second =
     let there = subst (λ (s : BoardState). PutsOrReads d c (room_calls d.log.shape) s s2 key value p r) made.board here in
     found_at d c s0 s2 s1.reads key value p looks made.up (omega (arith, within)) r (room_calls d.log.shape) there
 
-pub found_room : (d e : Parts) (size : ℕ) → e ≡ d → needs (charge d.log.shape size) d ≡ false → needs (charge e.log.shape size) e ≡ false
-found_room d e size same room = subst (λ (x : Parts). needs (charge x.log.shape size) x ≡ false) (sym same) room
-
 pub found_numbers : (d e : Parts) (s0 s1 : BoardState) → e ≡ d → ReadsOnly s0 s1 (most_looks d)
     → roots s0 + room_calls d.log.shape < 18446744073709551615 → roots s1 + room_calls e.log.shape < 18446744073709551615
 found_numbers d e s0 s1 same made few =
@@ -104,8 +101,7 @@ found_numbers d e s0 s1 same made few =
 -- a read of the lookup failed
 unread_parts : (d e : Parts) (s0 s1 : BoardState) (most : ℕ) → e ≡ d → ReadsFailing s0 s1 most → CannotRead d e s0 s1
 unread_parts d e s0 s1 most same made =
-    let T : Parts → Type 0 = λ x. CannotRead d x s0 s1 in
-    subst T (sym same) (record { rest = refl; stands = λ shape m stands. stands; only = made.board; read = made.rose; flash = made.flash })
+    subst (λ (x : Parts). CannotRead d x s0 s1) (sym same) (record { rest = refl; stands = λ shape m stands. stands; only = made.board; read = made.rose; flash = made.flash })
 
 pub found_unread : (d e : Parts) (s0 s1 : BoardState) (k : ℕ) (key : Key) (value : List ℕ) → e ≡ d → s0.read_faults ≤ last_count → ReadsFailing s0 s1 (most_looks d) → IsReady s1 d.log.shape
     → StoresOrReads d e (4 + k) s0 s1 key value (Err Reading)
@@ -113,14 +109,13 @@ found_unread d e s0 s1 k key value same few made ready =
     let up = made.up in
     let within = made.within in
     let rose = made.rose in
-    let T : BoardState → Type 0 = λ s. OnlyFlash s0 s in
     let roots_same : roots s1 ≡ roots s0 = ap (λ (s : BoardState). roots s) made.board in
     record {
       came = (
         same_unread d e s0 s1 (unread_parts d e s0 s1 (most_looks d) same made),
         record { read = rose; up = omega (arith, rose, few); flash = made.flash; no_stop = ap (λ (s : BoardState). s.stop_faults) made.board },
       );
-      rest = subst T (sym made.board) refl;
+      rest = subst (λ (s : BoardState). OnlyFlash s0 s) (sym made.board) refl;
       reads = record { up = up; few = omega (arith, within) };
       roots_few = omega (arith, roots_same);
       ready = ready;
@@ -128,12 +123,6 @@ found_unread d e s0 s1 k key value same few made ready =
 
 pub between_same : (d e : Parts) → e ≡ d → length d.log.pending < page_entries d.log.shape → StaysBetween d e
 between_same d e same few = let T : Parts → Type 0 = λ x. StaysBetween d x in subst T (sym same) (record { frames = refl; stopped = refl; same_shape = refl; few = few })
-
-pub between_from : (r : Result Unit Fault) (d e c : Parts) → e ≡ d → OnRunning (StaysBetween e c) r → OnRunning (StaysBetween d c) r
-between_from r d e c same is = subst (λ (x : Parts). OnRunning (StaysBetween x c) r) same is
-
-pub opens_looked : (r : Result Unit Fault) (d e c : Parts) (size : ℕ) → e ≡ d → OnRunning (StaysOrOpens e c (charge e.log.shape size)) r → OnRunning (StaysOrOpens d c (charge d.log.shape size)) r
-opens_looked r d e c size same is = subst (λ (x : Parts). OnRunning (StaysOrOpens x c (charge x.log.shape size)) r) same is
 
 -- ---- after the reclaims
 
@@ -202,16 +191,17 @@ stores_failed e a b s0 s1 n most key value can few step =
 
 -- ---- what is unchanged
 
-between_both : (a b c : Parts) → StaysSame a b → StaysBetween b c → StaysBetween a c
-between_both a b c first second = record {
-  frames = second.frames ∙ first.frames;
-  stopped = second.stopped ∙ first.stopped;
-  same_shape = second.same_shape ∙ first.same_shape;
-  few = subst (λ (s : Shape). length c.log.pending < page_entries s) first.same_shape second.few;
+-- the first part kept the frames, the shape and whether it runs
+pub between_after : (a b c : Parts) → frames_of b ≡ frames_of a → b.stopped ≡ a.stopped → b.log.shape ≡ a.log.shape → StaysBetween b c → StaysBetween a c
+between_after a b c frames stopped shape second = record {
+  frames = second.frames ∙ frames;
+  stopped = second.stopped ∙ stopped;
+  same_shape = second.same_shape ∙ shape;
+  few = subst (λ (s : Shape). length c.log.pending < page_entries s) shape second.few;
 }
 
 pub stays_behind : (r : Result Unit Fault) (a b c : Parts) → StaysSame a b → OnRunning (StaysBetween b c) r → OnRunning (StaysBetween a c) r
-stays_behind r a b c first second = running_says (StaysBetween b c) (StaysBetween a c) r (between_both a b c first) second
+stays_behind r a b c first second = running_says (StaysBetween b c) (StaysBetween a c) r (between_after a b c first.frames first.stopped first.same_shape) second
 
 -- if the reclaims failed
 stays_none : (a b : Parts) → IsShape a.log.shape → StaysSame a b → b.log.pending ≡ [] → StaysBetween a b
@@ -297,23 +287,7 @@ reads_if_room (Err e) d key count old new quiet = tt
 
 -- ---- the numbers of roots last
 
-room_most : (d : Parts) (board : BoardState) (key : Key) (value : List ℕ) → CanStore d board key value → is_worn board ≡ false → roots board + store_most d.log.shape < 18446744073709551615
-room_most d board key value can unworn =
+pub room_most : {d : Parts} {board : BoardState} {key : Key} {value : List ℕ} → CanStore d board key value → is_worn board ≡ false → roots board + store_most d.log.shape < 18446744073709551615
+room_most {d} {board} can unworn =
     let few = store_few d.log.shape can.may.1.stands.with.index.logs.is_shape in
     numbers_last board (store_most d.log.shape) unworn (omega (arith, few))
-
-pub space_numbers : (d : Parts) (board : BoardState) (key : Key) (value : List ℕ) → CanStore d board key value → is_worn board ≡ false → roots board + space_calls d.log.shape < 18446744073709551615
-space_numbers d board key value can unworn = let few = room_most d board key value can unworn in omega (arith, few)
-
-pub store_numbers : (d : Parts) (board : BoardState) (key : Key) (value : List ℕ) → CanStore d board key value
-    → is_worn board ≡ false → roots board + (space_calls d.log.shape + room_calls d.log.shape) < 18446744073709551615
-store_numbers d board key value can unworn = let few = room_most d board key value can unworn in omega (arith, few)
-
-pub put_numbers : (d : Parts) (board : BoardState) (key : Key) (value : List ℕ) (p : Option Place)
-    → CanPut d board key value p → is_worn board ≡ false → roots board + room_calls d.log.shape < 18446744073709551615
-put_numbers d board key value p can unworn = let few = room_most d board key value (store_can d board key value p can) unworn in omega (arith, few)
-
--- ---- by the size that a request has
-
-pub room_looked : (d e : Parts) (size : ℕ) → e ≡ d → fits_open d.log.shape d.values (charge d.log.shape size) ≡ true → fits_open e.log.shape e.values (charge e.log.shape size) ≡ true
-room_looked d e size same room = subst (λ (x : Parts). fits_open x.log.shape x.values (charge x.log.shape size) ≡ true) (sym same) room

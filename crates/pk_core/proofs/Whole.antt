@@ -1,7 +1,7 @@
 -- The second program of a pair that is half made, before a change of the map.
 use Rattle.std.proofs.Common.{◌≡◌, ◌⊎◌, inl, inr, ℕ, ◌+◌, ◌≤◌, ◌<◌, refl, sym, ap, subst, ◌∙◌, arith, Bool, true, false, nat_le, List, [], length, Option, Some, Result, Ok, Err}
 use Rattle.std.{specs.Prelude.IsOk, specs.FinMap.insert, specs.FinMap.remove, specs.FinMap.Entries.find}
-use Rattle.pk_base.{specs.Entry.Entry, specs.Entry.Place, specs.Key.Key, specs.Key.key_cmp, specs.Key.space_of, specs.Page.Flash, specs.Map.Map}
+use Rattle.pk_base.{specs.Entry.Place, specs.Key.Key, specs.Key.key_cmp, specs.Key.space_of, specs.Page.Flash, specs.Map.Map}
 use Rattle.pk_base.specs.Shape.{Shape, charge, greatest, page_entries}
 use Rattle.pk_nand.{specs.declared.types.Fault.Fault, specs.declared.types.Fault.TheVariants.Reading, specs.declared.types.Fault.TheVariants.Stopped, specs.BoardState.BoardState, specs.Calls.IsReady}
 use Rattle.pk_nand.specs.Effects.{NoFault, OnlyFlash}
@@ -19,7 +19,7 @@ use Rattle.pk_background.{specs.Costs.Spends, specs.Costs.space_and_put_calls, p
 use Rattle.pk_background.{proofs.ReadSteps.Passes, proofs.ReadSteps.reading_then, proofs.ReadSteps.running_says, proofs.SameMaps.SameMap-then, proofs.SameMaps.same_of}
 use Rattle.pk_changes.specs.Changes.{Changes, MayPut, MayTake, CanPut, CanTake, TakesAll, FailsToTake, TakesOrReads, StaysBetween, HasRoomFor}
 use Rattle.pk_changes.proofs.Putting.{later_reaches, later_goes, room_after, spaced_after}
-use Rattle.pk_core.{specs.Spacing.MayStore, specs.Spacing.StoresAll, specs.Spacing.FailsToStore, specs.Spacing.StoresOrReads, specs.Spacing.store_most}
+use Rattle.pk_core.{proofs.Stored.between_after, specs.Spacing.MayStore, specs.Spacing.StoresAll, specs.Spacing.FailsToStore, specs.Spacing.StoresOrReads, specs.Spacing.store_most}
 use Rattle.pk_core.specs.Whole.{MayStoreBetween, MayTakeBetween, SameMapBetween, StoresBetween, FailsToStoreBetween, TakesBetween, FailsToTakeBetween, StoresWhole, TakesWhole, CanPutBetween}
 use Rattle.pk_core.specs.Whole.{CanTakeBetween}
 
@@ -148,14 +148,10 @@ module _ {a b : Parts} {s0 s1 : BoardState} (w : Wholes a b s0 s1) where
   pub numbers_then : roots s0 + room_calls a.log.shape < 18446744073709551615 → roots s1 + room_calls b.log.shape < 18446744073709551615
   numbers_then few =
       let same = w.same_roots in
-      let calls : room_calls b.log.shape ≡ room_calls a.log.shape = ap (λ (s : Shape). room_calls s) w.same_shape in
-      omega (arith, few, same, calls)
+      rw w.same_shape (omega (arith, few, same))
 
   few_then_pending : length a.log.pending < page_entries a.log.shape → length b.log.pending < page_entries b.log.shape
-  few_then_pending few =
-      let same : length b.log.pending ≡ length a.log.pending = ap (λ (es : List Entry). length es) w.same_pending in
-      let entries : page_entries b.log.shape ≡ page_entries a.log.shape = ap (λ (s : Shape). page_entries s) w.same_shape in
-      omega (arith, few, same, entries)
+  few_then_pending few = rw (w.same_pending, w.same_shape) few
 
   module _ (shape : Shape) (m : Map) (was : StandsBetween a shape s0.pages m) where
     has : s0.shape ≡ Some shape
@@ -194,20 +190,18 @@ module _ {a b : Parts} {s0 s1 : BoardState} (w : Wholes a b s0 s1) where
     can_put_then p can =
         let m = can.may.0 in
         let may = can.may.1 in
-        let P : Shape → Type 0 = λ s. MayPut b s s1.pages m key value p in
-        let Q : Shape → Type 0 = λ s. length value ≤ greatest s in
         record {
           ready = ready_then;
           may = (
             m,
-            subst P (sym w.same_shape) (record {
+            subst (λ (s : Shape). MayPut b s s1.pages m key value p) (sym w.same_shape) (record {
               stands = (w.made a.log.shape m may.stands).stands;
               old_is = found_there a.log.shape m may.stands key ∙ may.old_is;
               bytes = may.bytes;
               room = room_then a.log.shape m may.stands key value may.room;
             }),
           );
-          short = subst Q (sym w.same_shape) can.short;
+          short = subst (λ (s : Shape). length value ≤ greatest s) (sym w.same_shape) can.short;
           few = few_then_pending can.few;
         }
 
@@ -218,9 +212,8 @@ module _ {a b : Parts} {s0 s1 : BoardState} (w : Wholes a b s0 s1) where
         → StoresOrReads b c (store_most b.log.shape) s1 s2 key value r → StoresWhole a c (store_most a.log.shape) s0 s2 key value r
     stores_whole c s2 r second =
         let S : Shape → Type 0 = λ s. StepOrRead (λ (x : Unit). StoresAll b c s1 s2 key value) (SameMapAll b c s1 s2) (FailsToStore b s1 s2 key value) s (store_most s) s1 s2 r in
-        reading_then r (λ (x : Unit). StoresAll b c s1 s2 key value) (λ (x : Unit). StoresBetween a c s0 s2 key value)
-        (SameMapAll b c s1 s2) (SameMapBetween a c s0 s2) (FailsToStore b s1 s2 key value)
-        (FailsToStoreBetween a s0 s2 key value) a.log.shape 0 (store_most a.log.shape) (store_most a.log.shape) s0 s1 s2 (omega arith) passes
+        reading_then r (λ (x : Unit). StoresAll b c s1 s2 key value) _ (SameMapAll b c s1 s2) _ (FailsToStore b s1 s2 key value) _
+        a.log.shape 0 (store_most a.log.shape) (store_most a.log.shape) s0 s1 s2 (omega arith) passes
         (λ x stores shape m may. changes_then shape m may.stands (insert m key value) s2 c (stores shape m (store_may shape m may))) (same_map c s2)
         (λ fails shape m may. goes_then shape m may.stands (insert m key value) s2 (fails shape m (store_may shape m may))) (subst S w.same_shape second)
 
@@ -236,33 +229,26 @@ module _ {a b : Parts} {s0 s1 : BoardState} (w : Wholes a b s0 s1) where
     }
 
     pub can_take_then : CanTakeBetween a s0 key p → CanTake b s1 key p
-    can_take_then can =
-        let P : Shape → Type 0 = λ s. MayTake b s s1.pages can.may.0 key p in
-        record { ready = ready_then; may = (can.may.0, subst P (sym w.same_shape) (take_may a.log.shape can.may.0 can.may.1)); few = few_then_pending can.few }
+    can_take_then can = record {
+      ready = ready_then;
+      may = (can.may.0, subst (λ (s : Shape). MayTake b s s1.pages can.may.0 key p) (sym w.same_shape) (take_may a.log.shape can.may.0 can.may.1));
+      few = few_then_pending can.few;
+    }
 
     pub takes_whole : (c : Parts) (s2 : BoardState) (r : Result Unit Fault)
         → TakesOrReads b c (room_calls b.log.shape) s1 s2 key p r → TakesWhole a c (room_calls a.log.shape) s0 s2 key p r
     takes_whole c s2 r second =
         let S : Shape → Type 0 = λ s. StepOrRead (λ (x : Unit). TakesAll b c s1 s2 key p) (KeepsAll b c s1 s2) (FailsToTake b s1 s2 key p) s (room_calls s) s1 s2 r in
-        reading_then r (λ (x : Unit). TakesAll b c s1 s2 key p) (λ (x : Unit). TakesBetween a c s0 s2 key p)
-        (KeepsAll b c s1 s2) (SameMapBetween a c s0 s2) (FailsToTake b s1 s2 key p) (FailsToTakeBetween a s0 s2 key p)
+        reading_then r (λ (x : Unit). TakesAll b c s1 s2 key p) _ (KeepsAll b c s1 s2) _ (FailsToTake b s1 s2 key p) _
         a.log.shape 0 (room_calls a.log.shape) (room_calls a.log.shape) s0 s1 s2 (omega arith) passes
         (λ x takes shape m may. changes_then shape m may.stands (remove m key) s2 c (takes shape m (take_may shape m may))) (λ keeps. same_map c s2 (same_of b c s1 s2 keeps))
         (λ fails shape m may. goes_then shape m may.stands (remove m key) s2 (fails shape m (take_may shape m may))) (subst S w.same_shape second)
 
   -- ---- what stays beside the map
 
-  between_then : (c : Parts) → StaysBetween b c → StaysBetween a c
-  between_then c second = record {
-    frames = second.frames ∙ w.frames;
-    stopped = second.stopped ∙ w.stopped;
-    same_shape = second.same_shape ∙ w.same_shape;
-    few = subst (λ (s : Shape). length c.log.pending < page_entries s) w.same_shape second.few;
-  }
-
   module _ (r : Result Unit Fault) (c : Parts) where
     pub stays_whole : OnRunning (StaysBetween b c) r → OnRunning (StaysBetween a c) r
-    stays_whole second = running_says (StaysBetween b c) (StaysBetween a c) r (between_then c) second
+    stays_whole second = running_says (StaysBetween b c) (StaysBetween a c) r (between_after a b c w.frames w.stopped w.same_shape) second
 
     pub moves_whole : OnRunning (Stays b c) r → OnRunning (Stays a c) r
     moves_whole second = running_says (Stays b c) (Stays a c) r (stays_then a b c w.stays) second

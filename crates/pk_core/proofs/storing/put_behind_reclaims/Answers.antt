@@ -1,9 +1,9 @@
-use Rattle.std.proofs.Common.{length, arith, sym, ap, ◌∙◌}
+use Rattle.std.proofs.Common.{length, arith, rules, sym, ap, ◌∙◌}
 use Rattle.pk_base.{specs.Shape.charge, proofs.ShapeLemmas.charge_most}
 use Rattle.pk_law_work.specs.Calls.{space_calls}
 use Rattle.pk_background.{specs.Spacing.needs, proofs.Callings.spends_within}
-use Rattle.pk_core.proofs.Stored.{can_behind, room_behind, numbers_behind, stores_behind, stores_failed, stays_behind, stays_failed, fresh_behind, fresh_failed, opens_behind, space_numbers}
-use Rattle.pk_core.proofs.Stored.{store_numbers}
+use Rattle.pk_core.proofs.Stored.{can_behind, room_behind, numbers_behind, stores_behind, stores_failed, stays_behind, stays_failed, fresh_behind, fresh_failed, opens_behind, room_most}
+use Rattle.pk_core.specs.Spacing.{store_most}
 use Rattle.pk_changes.proofs.StoreCalls.{spends_behind}
 use Rattle.pk_core.proofs.storing.put_behind_reclaims.Goals as goal
 
@@ -11,7 +11,7 @@ pub make_space-requires-clause-may : goal.make_space-requires-clause-may
 make_space-requires-clause-may g c = record { ready = c.requires.can.0.ready; stands = (c.requires.can.0.may.0, c.requires.can.0.may.1.stands) }
 
 pub make_space-requires-clause-number : goal.make_space-requires-clause-number
-make_space-requires-clause-number g c = space_numbers c.args.parts.now (g.B.Nand.state c.args.board.now) c.args.key c.args.value.now c.requires.can.0 c.requires.unworn
+make_space-requires-clause-number g c = omega (arith, room_most c.requires.can.0 c.requires.unworn)
 
 pub put_found-requires-clause-can : goal.put_found-requires-clause-can
 put_found-requires-clause-can g c =
@@ -26,44 +26,39 @@ put_found-requires-clause-room g c =
     room_behind c.requires.can.0 e.stays e.none e.step (ap (λ n. needs n c.make_space.new.parts) (sym c.requires.can.1) ∙ e.room)
 
 pub put_found-requires-clause-number : goal.put_found-requires-clause-number
-put_found-requires-clause-number g c =
+put_found-requires-clause-number g c = let e = c.in-Ok.ensures in numbers_behind c.requires.can.0 e.stays e.none e.step (omega (arith, room_most c.requires.can.0 c.requires.unworn))
+
+pub returns-in-Ok : goal.returns-in-Ok
+returns-in-Ok g c =
     let e = c.in-Ok.ensures in
-    numbers_behind c.requires.can.0 e.stays e.none e.step (store_numbers c.args.parts.now (g.B.Nand.state c.args.board.now) c.args.key c.args.value.now c.requires.can.0 c.requires.unworn)
+    let p = c.put_found.ensures in
+    let step = stores_behind c.requires.can.0 e.stays e.none e.step c.put_found.new.parts (g.B.Nand.state c.put_found.new.board) c.put_found.result p.step in
+    record {
+      step = step;
+      stays = stays_behind c.put_found.result c.args.parts.now c.make_space.new.parts c.put_found.new.parts e.stays p.stays;
+      opens = opens_behind c.args.parts.now (g.B.Nand.state c.args.board.now) c.args.key c.args.value.now (charge c.args.parts.now.log.shape (length c.args.value.now))
+          c.requires.can.0 c.requires.no_room c.put_found.result c.put_found.new.parts (g.B.Nand.state c.put_found.new.board) _ step
+          (fresh_behind c.put_found.result c.args.parts.now c.make_space.new.parts c.put_found.new.parts _ e.stays p.opens);
+      noted = p.noted;
+      spends = spends_behind _ _ _ _ _ e.stays.same_shape (length c.args.value.now) c.make_space.ensures.spends p.spends;
+      stops = p.stops;
+    }
 
-pub returns-in-Ok-clause-step : goal.returns-in-Ok-clause-step
-returns-in-Ok-clause-step g c =
-    let e = c.in-Ok.ensures in
-    stores_behind c.requires.can.0 e.stays e.none e.step c.put_found.new.parts (g.B.Nand.state c.put_found.new.board) c.put_found.result c.put_found.ensures.step
-
-pub returns-in-Ok-clause-stays : goal.returns-in-Ok-clause-stays
-returns-in-Ok-clause-stays g c = stays_behind c.put_found.result c.args.parts.now c.make_space.new.parts c.put_found.new.parts c.in-Ok.ensures.stays c.put_found.ensures.stays
-
-pub returns-in-Ok-clause-opens : goal.returns-in-Ok-clause-opens
-returns-in-Ok-clause-opens g c =
-    opens_behind c.args.parts.now (g.B.Nand.state c.args.board.now) c.args.key c.args.value.now (charge c.args.parts.now.log.shape (length c.args.value.now)) c.requires.can.0 c.requires.no_room
-    c.put_found.result c.put_found.new.parts (g.B.Nand.state c.put_found.new.board) _ (returns-in-Ok-clause-step g c)
-    (fresh_behind c.put_found.result c.args.parts.now c.make_space.new.parts c.put_found.new.parts _ c.in-Ok.ensures.stays c.put_found.ensures.opens)
-
-pub returns-in-Err-clause-step : goal.returns-in-Err-clause-step
-returns-in-Err-clause-step g c =
-    stores_failed c.in-Err.fault c.args.parts.now c.make_space.new.parts (g.B.Nand.state c.args.board.now) (g.B.Nand.state c.make_space.new.board)
-    (space_calls c.args.parts.now.log.shape) _ c.args.key c.args.value.now c.requires.can.0 (omega arith) c.in-Err.ensures.step
-
-pub returns-in-Err-clause-stays : goal.returns-in-Err-clause-stays
-returns-in-Err-clause-stays g c =
+pub returns-in-Err : goal.returns-in-Err
+returns-in-Err g c =
     let e = c.in-Err.ensures in
-    stays_failed c.in-Err.fault c.args.parts.now c.make_space.new.parts (g.B.Nand.state c.args.board.now) c.args.key c.args.value.now c.requires.can.0 e.stays e.none
-
-pub returns-in-Err-clause-opens : goal.returns-in-Err-clause-opens
-returns-in-Err-clause-opens g c =
-    opens_behind c.args.parts.now (g.B.Nand.state c.args.board.now) c.args.key c.args.value.now (charge c.args.parts.now.log.shape (length c.args.value.now)) c.requires.can.0 c.requires.no_room
-    _ c.make_space.new.parts (g.B.Nand.state c.make_space.new.board) _ (returns-in-Err-clause-step g c) (fresh_failed c.in-Err.fault c.args.parts.now c.make_space.new.parts c.in-Err.ensures.stays)
-
-pub returns-in-Ok-clause-spends : goal.returns-in-Ok-clause-spends
-returns-in-Ok-clause-spends g c = spends_behind _ _ _ _ _ c.in-Ok.ensures.stays.same_shape (length c.args.value.now) c.make_space.ensures.spends c.put_found.ensures.spends
-
-pub returns-in-Err-clause-spends : goal.returns-in-Err-clause-spends
-returns-in-Err-clause-spends g c = spends_within _ _ _ _ _ _ (omega arith) (omega arith) c.make_space.ensures.spends
+    let step = stores_failed c.in-Err.fault c.args.parts.now c.make_space.new.parts (g.B.Nand.state c.args.board.now) (g.B.Nand.state c.make_space.new.board)
+    (space_calls c.args.parts.now.log.shape) (store_most c.args.parts.now.log.shape) c.args.key c.args.value.now c.requires.can.0 (omega arith) e.step in
+    record {
+      step = step;
+      stays = stays_failed c.in-Err.fault c.args.parts.now c.make_space.new.parts (g.B.Nand.state c.args.board.now) c.args.key c.args.value.now c.requires.can.0 e.stays e.none;
+      opens = opens_behind c.args.parts.now (g.B.Nand.state c.args.board.now) c.args.key c.args.value.now (charge c.args.parts.now.log.shape (length c.args.value.now))
+          c.requires.can.0 c.requires.no_room _ c.make_space.new.parts (g.B.Nand.state c.make_space.new.board) _ step
+          (fresh_failed c.in-Err.fault c.args.parts.now c.make_space.new.parts e.stays);
+      noted = tt;
+      spends = spends_within _ _ _ _ _ _ (omega arith) (omega arith) c.make_space.ensures.spends;
+      stops = search rules;
+    }
 
 pub make_space-requires-clause-some : goal.make_space-requires-clause-some
 make_space-requires-clause-some g c =

@@ -1,6 +1,6 @@
 use Rattle.std.proofs.Common.{◌∙◌, sym, refl, length, arith, ap}
 use Rattle.pk_parts.{proofs.Staying.stays_opens, proofs.Staying.stays_same, specs.Parts.Parts}
-use Rattle.pk_core.proofs.Stored.{its_drive, found_can, found_stores, found_unread, found_room, found_numbers, between_same, between_from, opens_looked}
+use Rattle.pk_core.proofs.Stored.{its_drive, found_can, found_stores, found_unread, found_numbers, between_same}
 use Rattle.pk_core.proofs.Callings.{spends_reads, spends_breaks}
 use Rattle.pk_base.specs.Shape.{charge}
 use Rattle.pk_changes.proofs.StoreCalls.{spends_found}
@@ -17,38 +17,30 @@ put-requires-clause-can g c = (
 )
 
 pub put-requires-clause-room : goal.put-requires-clause-room
-put-requires-clause-room g c = found_room c.args.parts.now c.look.new.self (length c.args.value.now) c.look.ensures.same c.requires.room
+put-requires-clause-room g c = rw c.look.ensures.same c.requires.room
 
 pub put-requires-clause-number : goal.put-requires-clause-number
 put-requires-clause-number g c = found_numbers c.args.parts.now c.look.new.self (g.B.Nand.state c.args.board.now)
     (g.B.Nand.state c.look.new.board) c.look.ensures.same c.in-Ok.ensures.reads c.requires.number
 
-pub returns-in-Ok-clause-step : goal.returns-in-Ok-clause-step
-returns-in-Ok-clause-step g c =
-    found_stores c.put.result c.args.parts.now c.look.new.self c.put.new.parts (g.B.Nand.state c.args.board.now)
-    (g.B.Nand.state c.look.new.board) (g.B.Nand.state c.put.new.board) c.args.key c.args.value.now c.in-Ok.old
-    c.look.ensures.same c.in-Ok.ensures.looks c.in-Ok.ensures.reads c.put.ensures.step
+pub returns-in-Ok : goal.returns-in-Ok
+returns-in-Ok g c = record {
+  step = found_stores c.put.result c.args.parts.now c.look.new.self c.put.new.parts (g.B.Nand.state c.args.board.now) (g.B.Nand.state c.look.new.board) (g.B.Nand.state c.put.new.board)
+      c.args.key c.args.value.now c.in-Ok.old c.look.ensures.same c.in-Ok.ensures.looks c.in-Ok.ensures.reads c.put.ensures.step;
+  stays = rw c.look.ensures.same at c.put.ensures.stays;
+  opens = rw c.look.ensures.same at c.put.ensures.opens;
+  noted = c.put.ensures.noted;
+  spends = spends_found _ _ _ _ _ (ap (λ (d : Parts). d.log.shape) c.look.ensures.same) (length c.args.value.now) (spends_reads _ _ _ _ 0 (omega arith) c.in-Ok.ensures.reads) c.put.ensures.spends;
+  stops = c.put.ensures.stops;
+}
 
-pub returns-in-Ok-clause-stays : goal.returns-in-Ok-clause-stays
-returns-in-Ok-clause-stays g c = between_from c.put.result c.args.parts.now c.look.new.self c.put.new.parts c.look.ensures.same c.put.ensures.stays
-
-pub returns-in-Ok-clause-opens : goal.returns-in-Ok-clause-opens
-returns-in-Ok-clause-opens g c = opens_looked c.put.result c.args.parts.now c.look.new.self c.put.new.parts (length c.args.value.now) c.look.ensures.same c.put.ensures.opens
-
-pub returns-in-Err-clause-step : goal.returns-in-Err-clause-step
-returns-in-Err-clause-step g c =
-    found_unread c.args.parts.now c.look.new.self (g.B.Nand.state c.args.board.now)
-    (g.B.Nand.state c.look.new.board) _ c.args.key c.args.value.now c.look.ensures.same c.read_count.ensures.faults c.in-Err.ensures.failing c.look.ensures.ready
-
-pub returns-in-Err-clause-stays : goal.returns-in-Err-clause-stays
-returns-in-Err-clause-stays g c = between_same c.args.parts.now c.look.new.self c.look.ensures.same c.requires.can.0.few
-
-pub returns-in-Err-clause-opens : goal.returns-in-Err-clause-opens
-returns-in-Err-clause-opens g c = stays_opens _ _ _ (stays_same _ _ c.look.ensures.same)
-
-pub returns-in-Ok-clause-spends : goal.returns-in-Ok-clause-spends
-returns-in-Ok-clause-spends g c =
-    spends_found _ _ _ _ _ (ap (λ (d : Parts). d.log.shape) c.look.ensures.same) (length c.args.value.now) (spends_reads _ _ _ _ 0 (omega arith) c.in-Ok.ensures.reads) c.put.ensures.spends
-
-pub returns-in-Err-clause-spends : goal.returns-in-Err-clause-spends
-returns-in-Err-clause-spends g c = spends_breaks _ _ _ _ _ (omega arith) c.in-Err.ensures.failing
+pub returns-in-Err : goal.returns-in-Err
+returns-in-Err g c = record {
+  step = found_unread c.args.parts.now c.look.new.self (g.B.Nand.state c.args.board.now) (g.B.Nand.state c.look.new.board) _ c.args.key c.args.value.now
+      c.look.ensures.same c.read_count.ensures.faults c.in-Err.ensures.failing c.look.ensures.ready;
+  stays = between_same c.args.parts.now c.look.new.self c.look.ensures.same c.requires.can.0.few;
+  opens = stays_opens _ _ _ (stays_same _ _ c.look.ensures.same);
+  noted = tt;
+  spends = spends_breaks _ _ _ _ _ (omega arith) c.in-Err.ensures.failing;
+  stops = tt;
+}

@@ -2,14 +2,14 @@ use Rattle.std.proofs.Common.{◌∙◌, sym, ap, length, arith}
 use Rattle.pk_base.{proofs.ShapeLemmas.charge_most, specs.Shape.charge}
 use Rattle.pk_background.{specs.Spacing.needs, proofs.Callings.spends_within}
 use Rattle.pk_law_work.specs.Calls.{room_calls}
-use Rattle.pk_core.proofs.Stored.{store_can, put_stores, put_numbers, reads_if_room}
+use Rattle.pk_core.proofs.Stored.{store_can, put_stores, room_most, reads_if_room}
 use Rattle.pk_core.proofs.storing.put_with_space.Goals as goal
 
 pub put_behind_reclaims-requires-clause-can : goal.put_behind_reclaims-requires-clause-can
 put_behind_reclaims-requires-clause-can g c = (store_can c.args.parts.now (g.B.Nand.state c.args.board.now) c.args.key c.args.value.now c.args.old c.requires.can.0, c.requires.can.1)
 
 pub put-requires-clause-number : goal.put-requires-clause-number
-put-requires-clause-number g c = put_numbers c.args.parts.now (g.B.Nand.state c.args.board.now) c.args.key c.args.value.now c.args.old c.requires.can.0 c.requires.unworn
+put-requires-clause-number g c = omega (arith, room_most (store_can c.args.parts.now (g.B.Nand.state c.args.board.now) c.args.key c.args.value.now c.args.old c.requires.can.0) c.requires.unworn)
 
 pub returns-else-needs_space-clause-step : goal.returns-else-needs_space-clause-step
 returns-else-needs_space-clause-step g c =

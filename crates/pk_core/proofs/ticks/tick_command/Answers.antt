@@ -10,27 +10,22 @@ work-last-requires-clause-may g c = tick_may c.args.parts.now
 pub work-last-requires-clause-numbers : goal.work-last-requires-clause-numbers
 work-last-requires-clause-numbers g c = tick_numbers c.args.parts.now (g.B.Nand.state c.args.board.now) c.args.request.now.size c.requires.servable.agrees c.requires.servable.unworn (omega arith)
 
-pub returns-clause-executes : goal.returns-clause-executes
-returns-clause-executes g c = λ v into. record {
-  stops = c.work-last.ensures.stops ∙ sym (stopped_is c.answer_of.result c.work-last.result c.reads_since.result c.answer_of.ensures);
-  agrees = λ e. none_between c.work-last.new.parts (g.B.Nand.state c.work-last.new.board).shape (g.B.Nand.state c.work-last.new.board).pages
-      (c.work-last.ensures.agrees (sym (stopped_is c.answer_of.result c.work-last.result c.reads_since.result c.answer_of.ensures) ∙ e)) c.work-last.ensures.none;
-  does = tick_does (g.B.Nand.state c.args.board.now)
-      (g.B.Nand.state c.work-last.new.board) c.args.parts.now c.work-last.new.parts c.args.request.now v c.requires.servable.agrees c.requires.servable.passed c.requires.opcode
-      c.work-last.result c.answer_of.result into c.reads_since.result c.work-last.ensures.steps (omega (arith, c.reads_since.ensures.reads, c.read_count-before.ensures.value)) c.answer_of.ensures;
-}
-
-pub returns-clause-no_data : goal.returns-clause-no_data
-returns-clause-no_data g c = none_come c.answer_of.result c.work-last.result c.reads_since.result c.answer_of.ensures
-
-pub returns-clause-done : goal.returns-clause-done
-returns-clause-done g c = λ e. c.work-last.ensures.done (not_failed c.answer_of.result c.work-last.result c.reads_since.result c.answer_of.ensures e)
-
-pub returns-clause-no_more : goal.returns-clause-no_more
-returns-clause-no_more g c = λ e. c.work-last.ensures.no_more (sym (stopped_is c.answer_of.result c.work-last.result c.reads_since.result c.answer_of.ensures) ∙ e)
-
-pub returns-clause-moves : goal.returns-clause-moves
-returns-clause-moves g c = λ e. c.work-last.ensures.moves (sym (stopped_is c.answer_of.result c.work-last.result c.reads_since.result c.answer_of.ensures) ∙ e)
-
-pub returns-clause-calls : goal.returns-clause-calls
-returns-clause-calls g c = c.work-last.ensures.steps.spends.calls
+pub returns : goal.returns
+returns g c =
+    let e = c.work-last.ensures in
+    let stopped = stopped_is c.answer_of.result c.work-last.result c.reads_since.result c.answer_of.ensures in
+    record {
+      executes = λ v into. record {
+        stops = e.stops ∙ sym stopped;
+        agrees = λ runs. none_between c.work-last.new.parts (g.B.Nand.state c.work-last.new.board).shape (g.B.Nand.state c.work-last.new.board).pages (e.agrees (sym stopped ∙ runs)) e.none;
+        does = tick_does (g.B.Nand.state c.args.board.now)
+            (g.B.Nand.state c.work-last.new.board) c.args.parts.now c.work-last.new.parts c.args.request.now v c.requires.servable.agrees c.requires.servable.passed c.requires.opcode
+            c.work-last.result c.answer_of.result into c.reads_since.result e.steps (omega (arith, c.reads_since.ensures.reads, c.read_count-before.ensures.value)) c.answer_of.ensures;
+      };
+      no_data = none_come c.answer_of.result c.work-last.result c.reads_since.result c.answer_of.ensures;
+      none = e.none;
+      done = λ zero. e.done (not_failed c.answer_of.result c.work-last.result c.reads_since.result c.answer_of.ensures zero);
+      no_more = λ runs. e.no_more (sym stopped ∙ runs);
+      moves = λ runs. e.moves (sym stopped ∙ runs);
+      calls = e.steps.spends.calls;
+    }

@@ -23,27 +23,20 @@ refused g c =
     refused_ends c.self.inside.parts (g.B.Nand.state c.args.board.now) c.args.request.now c.args.value.now c.refusal.result c.args.into.now c.in-Some.status
     may.serves.running.agrees may.serves.running.runs c.known.ensures c.read_count.ensures.flash_faults (omega (arith, few)) (is_refused g c) c.refusal.ensures
 
-pub returns-in-Some-clause-leaves : goal.returns-in-Some-clause-leaves
-returns-in-Some-clause-leaves g c = rw (← c.self.view_is) (leaves_drive _ _ _ _ _ _ _ _ (refused g c))
-
-pub returns-in-Some-clause-answers : goal.returns-in-Some-clause-answers
-returns-in-Some-clause-answers g c = rw (← c.self.view_is) (answers_command _ _ _ _ _ _ _ _ (refused g c) c.args.into.now
-    (refused_answers c.self.inside.parts (g.B.Nand.state c.args.board.now) c.args.request.now c.args.value.now c.refusal.result c.args.into.now c.in-Some.status (is_refused g c) c.refusal.ensures))
-
-pub returns-in-Some-clause-cuts_stopped : goal.returns-in-Some-clause-cuts_stopped
-returns-in-Some-clause-cuts_stopped g c = rw (← c.self.view_is) (refused g c).executes.does.cuts_stopped
-
-pub returns-in-Some-clause-counts : goal.returns-in-Some-clause-counts
-returns-in-Some-clause-counts g c = counts_calls _ _ _ _ _ _ _ _ (refused g c)
-
-pub returns-in-Some-clause-settles : goal.returns-in-Some-clause-settles
-returns-in-Some-clause-settles g c = rw (← c.self.view_is) (settles_background _ _ _ _ _ _ _ _ (refused g c))
-
-pub returns-in-Some-clause-shows : goal.returns-in-Some-clause-shows
-returns-in-Some-clause-shows g c = rw (← c.self.view_is) (shows_itself _ _ _ _ _ _ _ _ (refused g c))
-
-pub returns-in-Some-clause-quiet : goal.returns-in-Some-clause-quiet
-returns-in-Some-clause-quiet g c = rw (← c.self.view_is) (waits_for_nothing _ _ _ _ _ _ _ _ (refused g c))
+pub returns-in-Some : goal.returns-in-Some
+returns-in-Some g c = rw (← c.self.view_is) (
+    let h = refused g c in
+    record {
+      leaves = leaves_drive h;
+      answers = answers_command h
+          (refused_answers c.self.inside.parts (g.B.Nand.state c.args.board.now) c.args.request.now c.args.value.now c.refusal.result c.args.into.now
+          c.in-Some.status (is_refused g c) c.refusal.ensures);
+      cuts_stopped = h.executes.does.cuts_stopped;
+      counts = counts_calls h;
+      settles = settles_background h;
+      shows = shows_itself h;
+      quiet = waits_for_nothing h;
+    })
 
 -- ---- a command that is performed
 
@@ -81,23 +74,15 @@ answered g c =
       same = e.len;
     }
 
-pub returns-in-None-clause-leaves : goal.returns-in-None-clause-leaves
-returns-in-None-clause-leaves g c = leaves_drive _ _ _ _ _ _ _ _ (ended g c)
-
-pub returns-in-None-clause-answers : goal.returns-in-None-clause-answers
-returns-in-None-clause-answers g c = rw (← c.self.view_is) (answers_command _ _ _ _ _ _ _ _ (ended g c) c.args.into.now (answered g c))
-
-pub returns-in-None-clause-cuts_stopped : goal.returns-in-None-clause-cuts_stopped
-returns-in-None-clause-cuts_stopped g c = rw (← c.self.view_is) c.perform-outcome.ensures.executes.does.cuts_stopped
-
-pub returns-in-None-clause-counts : goal.returns-in-None-clause-counts
-returns-in-None-clause-counts g c = counts_calls _ _ _ _ _ _ _ _ (ended g c)
-
-pub returns-in-None-clause-settles : goal.returns-in-None-clause-settles
-returns-in-None-clause-settles g c = rw (← c.self.view_is) (settles_background _ _ _ _ _ _ _ _ (ended g c))
-
-pub returns-in-None-clause-shows : goal.returns-in-None-clause-shows
-returns-in-None-clause-shows g c = rw (← c.self.view_is) (shows_itself _ _ _ _ _ _ _ _ (ended g c))
-
-pub returns-in-None-clause-quiet : goal.returns-in-None-clause-quiet
-returns-in-None-clause-quiet g c = rw (← c.self.view_is) (waits_for_nothing _ _ _ _ _ _ _ _ (ended g c))
+pub returns-in-None : goal.returns-in-None
+returns-in-None g c = rw (← c.self.view_is) (
+    let h = ended g c in
+    record {
+      leaves = leaves_drive h;
+      answers = answers_command h (answered g c);
+      cuts_stopped = h.executes.does.cuts_stopped;
+      counts = counts_calls h;
+      settles = settles_background h;
+      shows = shows_itself h;
+      quiet = waits_for_nothing h;
+    })
