@@ -23,9 +23,9 @@ none_is : (x : ℕ) (bs : List ℕ) → list_any (λ c. x == c) bs ≡ false →
 none_is x [] e = tt
 none_is x (b ∷ bs) e = let parts = or_parts (x == b) (list_any (λ c. x == c) bs) e in (parts.0, none_is x bs parts.1)
 
-none_back : (x : ℕ) (xs ys : List ℕ) → AllByRecursion (λ b. (x == b) ≡ false) (xs ++ ys) → AllByRecursion (λ b. (x == b) ≡ false) ys
-none_back x [] ys all = all
-none_back x (z ∷ xs) ys all = none_back x xs ys all.1
+pub all_back : (P : ℕ → Type 0) (xs ys : List ℕ) → AllByRecursion P (xs ++ ys) → AllByRecursion P ys
+all_back P [] ys all = all
+all_back P (z ∷ xs) ys all = all_back P xs ys all.1
 
 both_none : (x : ℕ) (xs ys : List ℕ) → AllByRecursion (λ b. (x == b) ≡ false) ys → AllByRecursion (λ b. is_among xs b ≡ false) ys → AllByRecursion (λ b. is_among (x ∷ xs) b ≡ false) ys
 both_none x xs [] p q = tt
@@ -35,7 +35,7 @@ both_none x xs (y ∷ ys) p q = (or_from (x == y) (is_among xs y) p.0 q.0, both_
 pub apart : (xs ys : List ℕ) → differ (xs ++ ys) ≡ true → AllByRecursion (λ b. is_among xs b ≡ false) ys
 apart [] ys e = all_of (λ b. refl) ys
 apart (x ∷ xs) ys e =
-    both_none x xs ys (none_back x xs ys (none_is x (xs ++ ys) (not-true _ (and_parts _ _ e).0))) (apart xs ys (and_parts _ _ e).1)
+    both_none x xs ys (all_back (λ b. (x == b) ≡ false) xs ys (none_is x (xs ++ ys) (not-true _ (and_parts _ _ e).0))) (apart xs ys (and_parts _ _ e).1)
 
 pub differ_back : (xs ys : List ℕ) → differ (xs ++ ys) ≡ true → differ ys ≡ true
 differ_back [] ys e = e
@@ -75,14 +75,10 @@ adopts_none o p = record {
 }
 
 twice : (o : Owner) (x y : Bool) (s : Option BlockState) → option_map (owned_if o y) (option_map (owned_if o x) s) ≡ option_map (owned_if o (x || y)) s
-twice o true true None = refl
-twice o true false None = refl
-twice o false true None = refl
-twice o false false None = refl
+twice o x y None = refl
 twice o true true (Some s) = refl
-twice o true false (Some s) = refl
 twice o false true (Some s) = refl
-twice o false false (Some s) = refl
+twice o _ _ (Some s) = refl
 
 pub adopts_both : {o : Owner} {test test' : ℕ → Bool} {n m : ℕ} {p q r : Blocks} → Adopts o test n p q → Adopts o test' m q r → Adopts o (λ b. test b || test' b) (n + m) p r
 adopts_both {o} {test} {test'} {n} {m} {p} {q} {r} a c = record {
@@ -143,10 +139,6 @@ pub spare_front : (p : Blocks) (xs ys : List ℕ) → AllByRecursion (IsSpare p)
 spare_front p [] ys all = tt
 spare_front p (x ∷ xs) ys all = (all.0, spare_front p xs ys all.1)
 
-pub spare_back : (p : Blocks) (xs ys : List ℕ) → AllByRecursion (IsSpare p) (xs ++ ys) → AllByRecursion (IsSpare p) ys
-spare_back p [] ys all = all
-spare_back p (x ∷ xs) ys all = spare_back p xs ys all.1
-
 pub may_front : {o : Owner} {p : Blocks} (xs ys : List ℕ) → MayAdopt o (xs ++ ys) p → MayAdopt o xs p
 may_front {o} {p} xs ys m = record {
   spare = spare_front p xs ys m.spare;
@@ -156,7 +148,7 @@ may_front {o} {p} xs ys m = record {
 
 pub may_back : {o : Owner} {p q : Blocks} (xs ys : List ℕ) → MayAdopt o (xs ++ ys) p → Adopts o (is_among xs) (length xs) p q → MayAdopt o ys q
 may_back {o} {p} {q} xs ys m a = record {
-  spare = still_spare a ys (apart xs ys m.differ) (spare_back p xs ys m.spare);
+  spare = still_spare a ys (apart xs ys m.differ) (all_back (IsSpare p) xs ys m.spare);
   differ = differ_back xs ys m.differ;
   room = let e = length-append xs ys in let quota = ap (λ s. quota_of s o) a.shape in omega (arith, m.room, e, a.counted, quota);
 }

@@ -7,13 +7,9 @@ use Rattle.pk_nand.{specs.BoardState.BoardState, specs.Calls.IsReady, specs.Oper
 use Rattle.pk_segfmt.specs.Value.{head_bytes, value_from, value_at}
 use Rattle.pk_scan.{specs.Pages.is_right, specs.Checked.HasValue, specs.Checked.NotFound, specs.Checked.PageRefused, specs.declared.errors.PageError.PageError}
 use Rattle.pk_scan.{specs.declared.errors.PageError.TheVariants.Damaged, specs.declared.errors.PageError.TheVariants.Fault, proofs.Boards.rest_reads, proofs.Boards.rest_failed}
-use Rattle.pk_scan.proofs.Reading.{all_right, first_wrong, not_before}
+use Rattle.pk_scan.proofs.Reading.{through, all_right, first_wrong, not_before}
 
 -- ---- the value, after its head
-
-behind_head : (r : Result (List ℕ) Refusal) (e : Refusal) → (r >>= (λ bytes. Ok (drop 32 bytes))) ≡ Err e → r ≡ Err e
-behind_head (Ok bytes) e is = cc
-behind_head (Err f) e is = cc
 
 module _ (shape : Shape) (flash : Flash) (key : Key) (place : Place) where
   abbrev Right : ℕ → Type 0
@@ -36,7 +32,7 @@ module _ (shape : Shape) (flash : Flash) (key : Key) (place : Place) where
   unfolding value_at
   refused_behind i q room each e =
       not_before shape (page_at flash) i (charge shape place.len) place.page (head_bytes key place.len) (32 + place.len) q room each
-      (behind_head (value_from shape (page_at flash) place.page (head_bytes key place.len) (32 + place.len) (charge shape place.len)) (damaged q) e)
+      (through (value_from shape (page_at flash) place.page (head_bytes key place.len) (32 + place.len) (charge shape place.len)) (drop 32) (damaged q) e)
 
 -- ---- the board
 

@@ -1,12 +1,11 @@
 -- The blocks of live values: a root does not name them, so they are free, and they are not too many.
-use Rattle.std.proofs.Common.{◌≡◌, ◌≢◌, inl, inr, ℕ, zero, suc, ◌+◌, ◌-◌, ◌/◌, ◌<◌, ◌≤◌, Bool, true, false, not, ◌&&◌, ◌||◌, ◌==◌, cond, List, [], ◌∷◌, ◌++◌, length, take, drop, get_or, map, refl}
+use Rattle.std.proofs.Common.{◌≡◌, inl, inr, ℕ, ◌+◌, ◌-◌, ◌/◌, ◌<◌, ◌≤◌, Bool, true, false, not, ◌&&◌, ◌||◌, ◌==◌, cond, List, [], ◌∷◌, ◌++◌, length, take, get_or, map, refl}
 use Rattle.std.proofs.Common.{sym, ap, subst, ◌∙◌, arith, Option, Some, None, option_map}
-use Rattle.std.proofs.lemmas.Bool.{false≢true, or_parts, or_cases, and_parts, eqb-true, cases_eq, or_right, not-true}
-use Rattle.std.proofs.lemmas.List.{get_or_push}
-use Rattle.std.{specs.Prelude.slice_get, specs.Prelude.count_by, specs.Prelude.nat_le, specs.List.list_any, specs.List.list_all, specs.List.concat, specs.List.range_with_len}
-use Rattle.std.{proofs.lemmas.Bool.Decides.nat_tests, proofs.lemmas.Bool.Decides.eqb_tells, proofs.lemmas.List.FromFn.length-map-range_with_len, proofs.lemmas.List.FromFn.get_or-map-range_with_len}
-use Rattle.std.{proofs.lemmas.List.take_all, proofs.lemmas.List.length-take-le, proofs.lemmas.List.take-append-drop, proofs.lemmas.List.get_or_past, proofs.lemmas.List.Folds.list_any-append}
-use Rattle.std.{proofs.lemmas.Option.slice_get-get_or, proofs.lemmas.List.Sums.sum_by-append, proofs.lemmas.List.Sums.sum_by-cons, proofs.lemmas.List.Sums.length-filter}
+use Rattle.std.proofs.lemmas.Bool.{false≢true, or_parts, or_cases, and_parts, and_left, and_right, eqb-true, leb-true, lt-ltb, le-ltb, cases_lt, not-true}
+use Rattle.std.{specs.Prelude.slice_get, specs.Prelude.count_by, specs.Prelude.nat_le, specs.Prelude.nat_lt, specs.List.list_any, specs.List.list_all, specs.List.concat, specs.List.range_with_len}
+use Rattle.std.{proofs.lemmas.Bool.Decides.nat_tests, proofs.lemmas.List.FromFn.length-map-range_with_len, proofs.lemmas.List.FromFn.get_or-map-range_with_len}
+use Rattle.std.{proofs.lemmas.List.take_all, proofs.lemmas.List.get_or_past, proofs.lemmas.List.Folds.list_any-append}
+use Rattle.std.proofs.lemmas.List.Sums.{count_by_more_yes, count_by_more_no, sum_by-take-le, length-filter}
 use Rattle.pk_base.{specs.Key.Key, specs.Shape.Shape, specs.Shape.IsShape, specs.Shape.data_blocks, specs.Shape.limit, specs.Entry.Place, specs.Page.Flash}
 use Rattle.pk_live.{specs.Values.Values as LiveValues, specs.Lives.is_used, specs.Lives.Lives, proofs.Standing.count_map, proofs.Standing.value_in_block, proofs.Standing.Placed}
 use Rattle.pk_segfmt.specs.Value.{value_pages}
@@ -15,53 +14,30 @@ use Rattle.pk_plan.{specs.declared.owner.Owner.TheVariants.Journal, specs.declar
 use Rattle.pk_pool.{specs.declared.state.BlockState.BlockState, specs.declared.state.BlockState.TheVariants.Owned}
 use Rattle.pk_pool.specs.Blocks.{Blocks, used_by, unused, with_state, IsSpare, PoolOnFlash}
 use Rattle.pk_rootfmt.specs.Root.{Root, named, differ}
-use Rattle.pk_scan.{specs.Adopts.is_among, specs.Adopts.owned_if, specs.Adopts.state_of, specs.Adopts.Adopts, specs.Adopts.NamesOwned, proofs.Loading.take_more}
+use Rattle.pk_scan.{specs.Adopts.is_among, specs.Adopts.owned_if, specs.Adopts.state_of, specs.Adopts.Adopts, specs.Adopts.NamesOwned}
 use Rattle.pk_scan.proofs.Adopting.{still_spare, adopts_none, adopts_both, adopts_same, adopts_one}
 use Rattle.pk_scan.proofs.Naming.{unused_free, unused_none}
 
 -- ---- flags, one more after another
 
-flag_other : (xs : List Bool) (c : Bool) (b : ℕ) → b ≢ length xs → get_or (xs ++ c ∷ []) b false ≡ get_or xs b false
-flag_other [] c zero ne = absurd (ne refl)
-flag_other [] c (suc b) ne = refl
-flag_other (x ∷ xs) c zero ne = refl
-flag_other (x ∷ xs) c (suc b) ne = flag_other xs c b (λ e. ne (ap suc e))
-
-flag_same : (xs : List Bool) (b : ℕ) → get_or (xs ++ false ∷ []) b false ≡ get_or xs b false
-flag_same xs b = elim (cases_eq b (length xs)) [
-  | inl e ↦ ap (λ k. get_or (xs ++ false ∷ []) k false) e ∙ get_or_push xs false false (length xs) refl ∙ sym (get_or_past xs b false (omega (arith, e)))
-  | inr ne ↦ flag_other xs false b ne
-]
-
-flag_more : (xs : List Bool) (i b : ℕ) → length xs ≡ i → (get_or xs b false || (i == b)) ≡ get_or (xs ++ true ∷ []) b false
-flag_more xs i b many = elim (eqb_tells i b) [
-  | inl e ↦
-      let here : b ≡ length xs = sym e.1 ∙ sym many in
-      or_right (get_or xs b false) (i == b) e.0 ∙ sym (ap (λ k. get_or (xs ++ true ∷ []) k false) here ∙ get_or_push xs true false (length xs) refl)
-  | inr ne ↦
-      let other : b ≢ length xs = λ e. ne.1 (sym (e ∙ many)) in
-      left (get_or xs b false) (i == b) ne.0 ∙ sym (flag_other xs true b other)
-]
-  where
-    left : (p q : Bool) → q ≡ false → (p || q) ≡ p
-    left true q e = refl
-    left false q e = e
-
 abbrev flags : List Bool → ℕ
 flags xs = count_by (λ b. b) xs
 
-flags_more : (xs : List Bool) (c : Bool) → flags (xs ++ c ∷ []) ≡ flags xs + cond c 1 0
-flags_more xs c =
-    let one : flags (c ∷ []) ≡ cond c 1 0 + flags [] = sum_by-cons (λ b. cond {A = ℕ} b 1 0) c [] in
-    let none : flags [] ≡ 0 = refl in
-    let sum = sum_by-append (λ b. cond {A = ℕ} b 1 0) xs (c ∷ []) in
-    omega (arith, one, none, sum)
+-- the flags of the blocks before block i
+abbrev pub flag_before : List Bool → ℕ → ℕ → Bool
+flag_before xs i b = nat_lt b i && get_or xs b false
 
-flags_front : (xs : List Bool) (i : ℕ) → flags (take i xs) ≤ flags xs
-flags_front xs i =
-    let whole = ap flags (take-append-drop i xs) in
-    let sum = sum_by-append (λ b. cond {A = ℕ} b 1 0) (take i xs) (drop i xs) in
-    omega (arith, whole, sum)
+flag_same : (f : ℕ → Bool) (i b : ℕ) → f i ≡ false → (nat_lt b i && f b) ≡ (nat_lt b (i + 1) && f b)
+flag_same f i b none = grind (arith, nat_tests)
+
+flag_more : (f : ℕ → Bool) (i b : ℕ) → f i ≡ true → ((nat_lt b i && f b) || (i == b)) ≡ (nat_lt b (i + 1) && f b)
+flag_more f i b one = grind (arith, nat_tests)
+
+flag_all : (xs : List Bool) (i b : ℕ) → length xs ≤ i → flag_before xs i b ≡ get_or xs b false
+flag_all xs i b all = elim (cases_lt b i) [
+  | inl low ↦ ap (λ t. t && get_or xs b false) (lt-ltb b i low)
+  | inr high ↦ let past = get_or_past xs b false (omega (arith, all, high)) in and_right (nat_lt b i) (get_or xs b false) past ∙ sym past
+]
 
 -- ---- the blocks of values
 
@@ -124,10 +100,7 @@ module _ (shape : Shape) (is_shape : IsShape shape) where
         ∙ sym (length-filter (λ b. list_any (λ p. p / shape.block_pages == b) (all_pages shape taken)) (range_with_len 0 shape.blocks))
 
     pub few_closed : flags live.closed ≤ data_blocks shape - 1
-    few_closed = let many = many_closed in omega (arith, many, at_most (length (blocks_with shape (all_pages shape taken))) (data_blocks shape - 1) pages_fit.1)
-      where
-        at_most : (x y : ℕ) → nat_le x y ≡ true → x ≤ y
-        at_most x y e = grind (arith, nat_tests)
+    few_closed = let many = many_closed in omega (arith, many, leb-true (length (blocks_with shape (all_pages shape taken))) (data_blocks shape - 1) pages_fit.1)
 
   -- what the root does not name is unchanged
   unnamed : (root : Root) (b : ℕ) (s : Option BlockState) → is_among (named root) b ≡ false → option_map (state_of root b) s ≡ s
@@ -152,51 +125,38 @@ module _ (shape : Shape) (is_shape : IsShape shape) where
 
 -- the closed ones of the first i blocks were adopted
 abbrev pub ValuesAdopting : LiveValues → Blocks → Blocks → ℕ → Type 0
-ValuesAdopting live old now i = Adopts Values (λ b. get_or (take i live.closed) b false) (flags (take i live.closed)) old now
+ValuesAdopting live old now i = Adopts Values (flag_before live.closed i) (flags (take i live.closed)) old now
 
 pub ValuesAdopting-start : (live : LiveValues) (p : Blocks) → ValuesAdopting live p p 0
-ValuesAdopting-start live p = adopts_none Values p
+ValuesAdopting-start live p = adopts_same (λ b. sym (and_left (nat_lt b 0) (get_or live.closed b false) (le-ltb b 0 (omega arith)))) refl (adopts_none Values p)
 
-pub ValuesAdopting-end : (live : LiveValues) (old now : Blocks) (i : ℕ) → length live.closed ≤ i
+pub ValuesAdopting-end : (live : LiveValues) {old now : Blocks} (i : ℕ) → length live.closed ≤ i
     → ValuesAdopting live old now i → Adopts Values (λ b. get_or live.closed b false) (flags live.closed) old now
-ValuesAdopting-end live old now i all a = subst (λ (xs : List Bool). Adopts Values (λ b. get_or xs b false) (flags xs) old now) (take_all i live.closed all) a
+ValuesAdopting-end live i all a = adopts_same (λ b. flag_all live.closed i b all) (ap flags (take_all i live.closed all)) a
 
-module _ (live : LiveValues) (old now : Blocks) (i : ℕ) (inside : i < length live.closed) (a : ValuesAdopting live old now i) where
-  taken_many : length (take i live.closed) ≡ i
-  taken_many = length-take-le i live.closed (omega (arith, inside))
-
+module _ (live : LiveValues) {old now : Blocks} (i : ℕ) (inside : i < length live.closed) (a : ValuesAdopting live old now i) where
   pub next_is_spare : IsSpare old i → IsSpare now i
-  next_is_spare spare = (still_spare a (i ∷ []) (get_or_past (take i live.closed) i false (omega (arith, taken_many)), tt) (spare, tt)).0
+  next_is_spare spare = (still_spare a (i ∷ []) (and_left (nat_lt i i) (get_or live.closed i false) (le-ltb i i (omega arith)), tt) (spare, tt)).0
 
-  pub ValuesAdopting-passed : slice_get live.closed i ≡ Some false → ValuesAdopting live old now (i + 1)
-  ValuesAdopting-passed open_one =
-      let more = take_more live.closed i false open_one in
-      let xs : List Bool = take i live.closed in
-      let count = flags_more xs false in
-      subst (λ (ys : List Bool). Adopts Values (λ b. get_or ys b false) (flags ys) old now) (sym more) (adopts_same (λ b. sym (flag_same xs b)) (omega (arith, count)) a)
+  pub ValuesAdopting-passed : get_or live.closed i false ≡ false → ValuesAdopting live old now (i + 1)
+  ValuesAdopting-passed open_one = adopts_same (λ b. flag_same (λ k. get_or live.closed k false) i b open_one) (sym (count_by_more_no (λ b. b) live.closed i false inside open_one)) a
 
-  pub ValuesAdopting-next : (new : Blocks) → slice_get live.closed i ≡ Some true → IsSpare now i → new ≡ with_state now i (Owned Values) → used_by Values new.states ≡ used_by Values now.states + 1
+  many_more : get_or live.closed i false ≡ true → flags (take (i + 1) live.closed) ≡ flags (take i live.closed) + 1
+  many_more closed = count_by_more_yes (λ b. b) live.closed i false inside closed
+
+  pub ValuesAdopting-next : (new : Blocks) → get_or live.closed i false ≡ true → IsSpare now i → new ≡ with_state now i (Owned Values) → used_by Values new.states ≡ used_by Values now.states + 1
       → ((flash : Flash) → PoolOnFlash now flash → PoolOnFlash new flash) → ValuesAdopting live old new (i + 1)
   ValuesAdopting-next new closed spare is counted fits =
-      let more = take_more live.closed i true closed in
-      let xs : List Bool = take i live.closed in
-      let count = flags_more xs true in
-      let one = adopts_one Values now new i spare is counted fits in
-      subst (λ (ys : List Bool). Adopts Values (λ b. get_or ys b false) (flags ys) old new) (sym more) (adopts_same (λ b. flag_more xs i b taken_many) (sym count) (adopts_both a one))
+      adopts_same (λ b. flag_more (λ k. get_or live.closed k false) i b closed) (sym (many_more closed)) (adopts_both a (adopts_one Values now new i spare is counted fits))
 
   -- there is room for one more
-  pub room_left : slice_get live.closed i ≡ Some true → used_by Values old.states ≡ 0
+  pub room_left : get_or live.closed i false ≡ true → used_by Values old.states ≡ 0
       → flags live.closed ≤ data_blocks old.shape - 1 → 1 ≤ data_blocks old.shape → used_by Values now.states < quota_of now.shape Values
   room_left closed none few some =
-      let xs : List Bool = take i live.closed in
-      let count : flags (take (i + 1) live.closed) ≡ flags xs + 1 = ap flags (take_more live.closed i true closed) ∙ flags_more xs true in
-      let front = flags_front live.closed (i + 1) in
+      let count = many_more closed in
+      let front = sum_by-take-le (λ b. cond {A = ℕ} b 1 0) live.closed (i + 1) in
       let quota = ap (λ s. quota_of s Values) a.shape in
       omega (arith, count, front, few, some, none, quota, a.counted)
-
--- what is read of a flag
-pub flag_at : (xs : List Bool) (i : ℕ) (c d : Bool) → i < length xs → c ≡ get_or xs i false → c ≡ d → slice_get xs i ≡ Some d
-flag_at xs i c d inside is told = slice_get-get_or xs i false inside ∙ ap (λ b. Some b) (sym is ∙ told)
 
 -- ---- all of it
 

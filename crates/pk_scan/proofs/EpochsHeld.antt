@@ -1,11 +1,11 @@
 -- Epochs that were replayed, as the reading of a flash has them.
-use Rattle.std.proofs.Common.{◌≡◌, ℕ, ◌-◌, ◌*◌, ◌/◌, ◌<◌, ◌≤◌, Bool, true, false, ◌||◌, ◌==◌, List, [], ◌∷◌, length, refl, sym, ap, subst, ◌∙◌, arith, Option, Some, None, Result, Ok, Err}
+use Rattle.std.proofs.Common.{◌≡◌, ℕ, ◌-◌, ◌*◌, ◌/◌, ◌<◌, ◌≤◌, true, false, ◌||◌, ◌==◌, List, [], ◌∷◌, length, refl, sym, ap, subst, ◌∙◌, arith, Option, Some, None, Result, Ok, Err}
 use Rattle.std.specs.declared.cmp.Ordering.TheVariants.{Less, Equal, Greater}
-use Rattle.std.{specs.FinMap.Entries.put, specs.FinMap.Entries.by_order, proofs.lemmas.Bool.or_right, proofs.lemmas.Bool.or_from}
+use Rattle.std.{specs.FinMap.Entries.put, specs.FinMap.Entries.by_order, proofs.lemmas.Bool.or_right, proofs.lemmas.Bool.or_from, proofs.lemmas.Bool.le-leb, proofs.lemmas.Bool.lt-leb}
 use Rattle.std.{specs.Prelude.nat_le, specs.Prelude.slice_index, proofs.Math.Nat.zero-div, proofs.Math.Nat.zero-mod, proofs.lemmas.Bool.Decides.nat_tests}
 use Rattle.pk_base.{specs.Key.Key, specs.Key.key_cmp, specs.Shape.Shape, specs.Shape.epoch_commits, specs.Entry.Entry, specs.Entry.Place, specs.Firsts.firsts}
 use Rattle.pk_base.specs.Page.{Page, Flash, page_at, page_in, commits_of}
-use Rattle.pk_base.specs.Refusal.{Refusal, damaged, ensure, ◌>>=◌}
+use Rattle.pk_base.specs.Refusal.{Refusal, damaged}
 use Rattle.pk_jrnfmt.specs.Epoch.{epoch, journal}
 use Rattle.pk_rootfmt.{specs.Root.Root, specs.Held.two_of, specs.Held.older_of}
 use Rattle.pk_buf.specs.Table.{Table, no_entries}
@@ -38,20 +38,15 @@ held_size shape into es held = ap (λ (t : Table). length t.entries) held ∙ fi
 -- ---- the older epoch
 
 module _ (shape : Shape) (at : ℕ → Page) (root : Root) where
-  read_of : (es : List Entry) → epoch shape (root_spaces shape root) at (root.epoch - 1) root.older ≡ Ok es
-      → older_epoch shape at root ≡ (ensure (length root.older == 0 || nat_le 1 (length es)) (page_in shape root.older 0) >>= (λ u. Ok es))
-  read_of es read = rw read refl
+  found_of : (es : List Entry) → epoch shape (root_spaces shape root) at (root.epoch - 1) root.older ≡ Ok es → (length root.older == 0 || nat_le 1 (length es)) ≡ true → older_epoch shape at root ≡ Ok es
+  found_of es read test = rw (read, test) refl
+
+  none_of : (es : List Entry) → epoch shape (root_spaces shape root) at (root.epoch - 1) root.older ≡ Ok es
+      → (length root.older == 0 || nat_le 1 (length es)) ≡ false → older_epoch shape at root ≡ Err (damaged (page_in shape root.older 0))
+  none_of es read test = rw (read, test) refl
 
   refused_of : (e : Refusal) → epoch shape (root_spaces shape root) at (root.epoch - 1) root.older ≡ Err e → older_epoch shape at root ≡ Err e
   refused_of e read = rw read refl
-
-  passes_with : (b : Bool) (es : List Entry) → b ≡ true → (ensure b (page_in shape root.older 0) >>= (λ u. Ok es)) ≡ Ok es
-  passes_with true es e = refl
-  passes_with false es e = cc
-
-  refuses_with : (b : Bool) (es : List Entry) → b ≡ false → (ensure b (page_in shape root.older 0) >>= (λ u. Ok es)) ≡ Err (damaged (page_in shape root.older 0))
-  refuses_with true es e = cc
-  refuses_with false es e = refl
 
 abbrev refusal_at : ℕ → Result (List Entry) Refusal
 refusal_at page = Err (damaged page)
@@ -78,7 +73,7 @@ module _ (shape : Shape) (flash : Flash) (root : Root) where
       let empty : root.older ≡ [] = older_none root.older none in
       let read : epoch shape (root_spaces shape root) at (root.epoch - 1) root.older ≡ Ok [] = no_blocks (root.epoch - 1) root.older empty in
       let named : (length root.older == 0 || nat_le 1 (length {A = Entry} [])) ≡ true = rw empty refl in
-      ([], record { finds = read_of shape at root [] read ∙ passes_with shape at root (length root.older == 0 || nat_le 1 (length {A = Entry} [])) [] named; held = is; each = tt })
+      ([], record { finds = found_of shape at root [] read named; held = is; each = tt })
 
   module _ (bs : List ℕ) (is : Some bs ≡ older_of root.older) where
     read_older : {e : Result (List Entry) Refusal} → epoch shape (root_spaces shape root) at (root.epoch - 1) bs ≡ e → epoch shape (root_spaces shape root) at (root.epoch - 1) root.older ≡ e
@@ -88,15 +83,8 @@ module _ (shape : Shape) (flash : Flash) (root : Root) where
     older_held used into r some =
         let many = held_size shape into r.entries r.held in
         let one : 1 ≤ length r.entries = some_first r.entries (omega (arith, some, many)) in
-        let test : nat_le 1 (length r.entries) ≡ true = grind (arith, nat_tests) in (
-          r.entries,
-          record {
-            finds = read_of shape at root r.entries (read_older r.read)
-                ∙ passes_with shape at root (length root.older == 0 || nat_le 1 (length r.entries)) r.entries (or_right (length root.older == 0) (nat_le 1 (length r.entries)) test);
-            held = r.held;
-            each = r.each;
-          },
-        )
+        let test = or_right (length root.older == 0) (nat_le 1 (length r.entries)) (le-leb 1 (length r.entries) one) in
+        (r.entries, record { finds = found_of shape at root r.entries (read_older r.read) test; held = r.held; each = r.each })
 
     first_of_some : (os : List ℕ) → Some bs ≡ older_of os → (length os == 0) ≡ false
     first_of_some [] e = cc
@@ -110,11 +98,8 @@ module _ (shape : Shape) (flash : Flash) (root : Root) where
     older_without used into r none =
         let many = held_size shape into r.entries r.held in
         let zero_many : length r.entries ≡ 0 = none_first r.entries (omega (arith, none, many)) in
-        let test : nat_le 1 (length r.entries) ≡ false = grind (arith, nat_tests) in
-        read_of shape at root r.entries (read_older r.read)
-        ∙ refuses_with shape at root (length root.older == 0 || nat_le 1 (length r.entries)) r.entries
-        (or_from (length root.older == 0) (nat_le 1 (length r.entries)) (first_of_some root.older is) test)
-        ∙ sym (ap refusal_at first_page)
+        let test = or_from (length root.older == 0) (nat_le 1 (length r.entries)) (first_of_some root.older is) (lt-leb 1 (length r.entries) (omega (arith, zero_many))) in
+        none_of shape at root r.entries (read_older r.read) test ∙ sym (ap refusal_at first_page)
 
     pub older_refused : (page : ℕ) → epoch shape (root_spaces shape root) at (root.epoch - 1) bs ≡ Err (damaged page) → older_epoch shape at root ≡ Err (damaged page)
     older_refused page read = refused_of shape at root (damaged page) (read_older read)

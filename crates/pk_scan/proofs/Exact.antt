@@ -1,7 +1,6 @@
 -- How many pages are read: of an epoch, and of runs.
-use Rattle.std.proofs.Common.{◌≡◌, ℕ, suc, ◌+◌, ◌-◌, ◌*◌, ◌/◌, ◌<◌, ◌≤◌, List, [], ◌∷◌, ◌++◌, length, take, get_or, refl, sym, ap, subst, ◌∙◌, arith, Some, None}
-use Rattle.std.proofs.Math.Seq.{take-suc}
-use Rattle.std.{specs.Prelude.slice_index, proofs.lemmas.List.take_all}
+use Rattle.std.proofs.Common.{◌≡◌, ℕ, ◌+◌, ◌-◌, ◌*◌, ◌/◌, ◌<◌, ◌≤◌, List, [], ◌∷◌, ◌++◌, length, take, get_or, refl, sym, ap, subst, ◌∙◌, arith, Some, None}
+use Rattle.std.{specs.Prelude.slice_index, proofs.lemmas.List.take_all, proofs.lemmas.List.take_more}
 use Rattle.pk_base.{specs.Shape.Shape, specs.Shape.run_pages, specs.Page.Flash, specs.Page.page_at}
 use Rattle.pk_nand.{specs.BoardState.BoardState, specs.Counts.after_reads}
 use Rattle.pk_rootfmt.{specs.Root.Root, specs.Held.two_of, specs.Held.older_of}
@@ -39,12 +38,13 @@ pages_more shape (c ∷ counts) count =
     swap a b c = omega arith
 
 -- the runs up to a level were read, and then the one of the level
-pub runs_exact_next : (shape : Shape) (counts : List ℕ) (k level : ℕ) (old now new : BoardState) → k < length counts → level - 1 ≡ k
-    → now ≡ after_reads (pages_of_runs shape (take k counts)) old → new ≡ after_reads (run_pages shape (slice_index counts (level - 1))) now
-    → new ≡ after_reads (pages_of_runs shape (take (suc k) counts)) old
-runs_exact_next shape counts k level old now new inside place before more =
-    reads_sum old now new (pages_of_runs shape (take k counts)) (run_pages shape (slice_index counts (level - 1))) (pages_of_runs shape (take (suc k) counts))
-    (sym (ap (pages_of_runs shape) (take-suc counts k 0 inside) ∙ pages_more shape (take k counts) (get_or counts k 0)
+pub runs_exact_next : (shape : Shape) (counts : List ℕ) (k : ℕ) (old now new : BoardState) → k < length counts
+    → now ≡ after_reads (pages_of_runs shape (take k counts)) old → new ≡ after_reads (run_pages shape (slice_index counts (k + 1 - 1))) now
+    → new ≡ after_reads (pages_of_runs shape (take (k + 1) counts)) old
+runs_exact_next shape counts k old now new inside before more =
+    let place : k + 1 - 1 ≡ k = omega arith in
+    reads_sum old now new (pages_of_runs shape (take k counts)) (run_pages shape (slice_index counts (k + 1 - 1))) (pages_of_runs shape (take (k + 1) counts))
+    (sym (ap (pages_of_runs shape) (take_more counts k 0 inside) ∙ pages_more shape (take k counts) (get_or counts k 0)
     ∙ ap (λ (j : ℕ). run_pages shape (slice_index counts j) + pages_of_runs shape (take k counts)) (sym place)))
     before more
 

@@ -1,8 +1,8 @@
 -- Frames that are leased one after another.
-use Rattle.std.proofs.Common.{◌≡◌, ◌≢◌, ℕ, suc, ◌+◌, ◌<◌, ◌≤◌, nat_le, Bool, true, false, not, cond, List, [], ◌∷◌, ◌++◌, length, replicate, refl, ap, sym, subst, ◌∙◌, arith, Option, Some, None}
+use Rattle.std.proofs.Common.{◌≡◌, ◌≢◌, ℕ, suc, ◌+◌, ◌≤◌, Bool, true, false, not, cond, List, [], ◌∷◌, ◌++◌, length, replicate, refl, ap, sym, subst, ◌∙◌, arith, Option, Some, None}
 use Rattle.std.proofs.Common.{is_some, get_or-set_other, length-set, length-append}
 use Rattle.std.proofs.lemmas.Option.{slice_get_within, get_or_from_slice_get}
-use Rattle.std.{specs.Prelude.slice_get, proofs.lemmas.Bool.Decides.nat_tests, proofs.lemmas.List.length-replicate, proofs.lemmas.List.Sums.sum_by-set}
+use Rattle.std.{specs.Prelude.slice_get, proofs.lemmas.Bool.lt-leb, proofs.lemmas.List.length-replicate, proofs.lemmas.List.Sums.sum_by-set}
 use Rattle.pk_base.specs.Shape.{Shape, pinned}
 use Rattle.pk_pin.specs.Frames.{Frames, leased, filled, times, AreLeases, KeepsPage}
 use Rattle.pk_pin.proofs.Leases.{times-append, leases_none, leases_taken}
@@ -61,18 +61,14 @@ kept_wanted pins old new bytes (Some lease) keeps = sym keeps.0
 
 -- ---- the arena of an opening
 
-gt_false : (x y : ℕ) → y < x → nat_le x y ≡ false
-gt_false x y h = grind (arith, nat_tests)
-
 -- no run after the pinned levels has frames
 bare_of : (pinned last level : ℕ) (rs : List Kept) (counts : List ℕ) → pinned ≤ last → HaveFrames pinned level rs counts → AreBareAbove last level rs
 bare_of pinned last level [] [] low have = tt
-bare_of pinned last level [] (count ∷ counts) low have = absurd have
-bare_of pinned last level (r ∷ rs) [] low have = absurd have
 bare_of pinned last level (r ∷ rs) (count ∷ counts) low have = (
-  λ above. subst (λ (b : Bool). IsPinnedIf b r) (gt_false level pinned (omega (arith, above, low))) have.1,
+  λ above. subst (λ (b : Bool). IsPinnedIf b r) (lt-leb level pinned (omega (arith, above, low))) have.1,
   subst (λ (n : ℕ). AreBareAbove last n rs) (let e : level + 1 ≡ suc level = omega arith in e) (bare_of pinned last (level + 1) rs counts low have.2),
 )
+bare_of pinned last level _ _ low have = absurd have
 
 -- frames of an arena that was free were leased for the runs, and no others
 pub arena_opened : (shape : Shape) (frames : ℕ) (free arena : Frames) (levels : Levels) (counts : List ℕ) → HaveFrames levels.pinned 1 levels.runs counts

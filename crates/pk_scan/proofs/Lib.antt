@@ -18,7 +18,6 @@ pub mod EpochsHeld
 pub mod RunsHeld
 pub mod Opened
 pub mod ValuesHeld
-pub mod ValuesRead
 pub mod RunReads
 pub mod Under
 pub mod Wanted

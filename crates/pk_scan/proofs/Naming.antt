@@ -1,9 +1,10 @@
 -- The blocks that a root names, which a new pool has as free ones.
-use Rattle.std.proofs.Common.{◌≡◌, ◌⊎◌, inl, inr, ℕ, zero, suc, ◌+◌, ◌*◌, ◌<◌, ◌≤◌, Bool, true, false, ◌&&◌, ◌||◌, ◌==◌, cond, List, [], ◌∷◌, ◌++◌, length, map, replicate, refl, sym, ap, subst, ◌∙◌}
+use Rattle.std.proofs.Common.{◌≡◌, inl, ℕ, ◌+◌, ◌*◌, ◌<◌, ◌≤◌, Bool, true, ◌&&◌, ◌||◌, ◌==◌, cond, List, [], ◌∷◌, ◌++◌, length, map, replicate, refl, sym, ap, subst, ◌∙◌}
 use Rattle.std.proofs.Common.{arith, Option, Some, None, option_map, length-append}
-use Rattle.std.{proofs.lemmas.Slice.Eq.bytes_eq-Decides, proofs.lemmas.Bool.and_parts, proofs.lemmas.Bool.eqb-true, proofs.lemmas.Bool.leb-true, proofs.lemmas.List.length-map}
+use Rattle.std.{proofs.lemmas.List.length-replicate, proofs.lemmas.List.get_or-replicate, proofs.lemmas.Option.slice_get-get_or, proofs.lemmas.Slice.Eq.bytes_eq-Decides}
+use Rattle.std.{proofs.lemmas.Bool.and_parts, proofs.lemmas.Bool.eqb-true, proofs.lemmas.Bool.leb-true, proofs.lemmas.List.length-map}
 use Rattle.std.{specs.Prelude.slice_get, specs.Prelude.nat_le, specs.Prelude.nat_lt, specs.Prelude.nat_eq, specs.Prelude.zip, specs.Prelude.bytes_eq, proofs.Math.ListN.set}
-use Rattle.std.{specs.List.list_all, specs.List.concat, specs.List.AllByRecursion, proofs.lemmas.Bool.Decides.nat_tests, proofs.lemmas.List.Sums.sum_by-cons}
+use Rattle.std.{specs.List.list_all, specs.List.concat, specs.List.AllByRecursion, proofs.lemmas.Bool.Decides.nat_tests, proofs.lemmas.List.Folds.sum_by-replicate}
 use Rattle.pk_base.specs.Shape.{Shape, IsShape, page_entries, caps, deepest, meta_blocks, run_blocks}
 use Rattle.pk_plan.{specs.declared.owner.Owner.Owner, specs.declared.owner.Owner.TheVariants.Journal, specs.declared.owner.Owner.TheVariants.Meta, specs.declared.owner.Owner.TheVariants.Values}
 use Rattle.pk_plan.specs.Quotas.{quota_of}
@@ -12,7 +13,7 @@ use Rattle.pk_pool.{specs.Blocks.Blocks, specs.Blocks.used_by, specs.Blocks.is_o
 use Rattle.pk_rootfmt.{specs.Root.Root, specs.Root.named, specs.Root.is_root, specs.Root.has_runs, specs.Root.differ, specs.Held.two_of, specs.Held.older_of, specs.Held.total, proofs.AgainLemmas.four}
 use Rattle.pk_rootfmt.{proofs.PageLemmas.Parts, proofs.PageLemmas.root_parts, proofs.RoomLemmas.runs_most}
 use Rattle.pk_scan.specs.Adopts.{is_among, owned_if, Adopts, NamesOwned, MayAdopt}
-use Rattle.pk_scan.proofs.Adopting.{apart, differ_front, differ_back, still_spare, spare_front, spare_back}
+use Rattle.pk_scan.proofs.Adopting.{apart, differ_front, differ_back, still_spare, spare_front, all_back}
 use Rattle.pk_rootfmt.proofs.AgainLemmas.{length_concat}
 
 -- ---- the blocks of the epochs
@@ -32,9 +33,7 @@ older_none (b ∷ bs) e = cc
 -- ---- a new pool
 
 get-replicate : (n k : ℕ) → k < n → slice_get (replicate n Free) k ≡ Some Free
-get-replicate zero k h = absurd (omega arith)
-get-replicate (suc n) zero h = refl
-get-replicate (suc n) (suc k) h = get-replicate n k (omega arith)
+get-replicate n k h = slice_get-get_or (replicate n Free) k Free (omega (arith, h, length-replicate n Free)) ∙ ap Some (get_or-replicate n k Free Free h)
 
 pub unused_free : (shape : Shape) (b : ℕ) → 2 ≤ b → b < shape.blocks → slice_get (unused shape).states b ≡ Some Free
 unused_free shape b low high =
@@ -42,11 +41,7 @@ unused_free shape b low high =
     ∙ get-set_other (replicate shape.blocks Free) 0 b RootBlock (λ e. absurd (omega (arith, low, e))) ∙ get-replicate shape.blocks b high
 
 none_owned : (o : Owner) (n : ℕ) → used_by o (replicate n Free) ≡ 0
-none_owned o zero = refl
-none_owned o (suc n) =
-    let step = sum_by-cons (λ s. cond {A = ℕ} (is_owned_by o s) 1 0) Free (replicate n Free) in
-    let rest = none_owned o n in
-    omega (arith, step, rest)
+none_owned o n = let sum = sum_by-replicate (λ s. cond {A = ℕ} (is_owned_by o s) 1 0) n Free in omega (arith, sum)
 
 pub unused_none : (o : Owner) (shape : Shape) → 2 ≤ shape.blocks → used_by o (unused shape).states ≡ 0
 unused_none o shape some =
@@ -100,22 +95,14 @@ few_blocks shape is counts runs h = let f = four counts h.four_counts in by_four
         let sum : length (concat runs) ≡ run_blocks shape a + (run_blocks shape b + (run_blocks shape c + (run_blocks shape d + 0))) = length_concat runs ∙ ap total k.sizes in
         omega (arith, few, sum)
 
--- of an alternative, what comes first in each part
-pub either : (p q r : Bool) → (p || (q && r)) ≡ true → (p ≡ true) ⊎ (q ≡ true)
-either true q r e = inl refl
-either false true r e = inr refl
-either false false r e = inl e
+-- an older epoch has two blocks, or none
+pub older_many : (n epoch : ℕ) → (nat_eq n 0 || (nat_eq n 2 && nat_le 2 epoch)) ≡ true → (n ≤ 2) × (0 < n → n ≡ 2)
+older_many n epoch is = (grind (arith, nat_tests), λ some. grind (arith, nat_tests))
 
 pub few_epochs : (newest older : List ℕ) (epoch : ℕ) → nat_eq (length newest) 2 ≡ true → (nat_eq (length older) 0 || (nat_eq (length older) 2 && nat_le 2 epoch)) ≡ true → length (newest ++ older) ≤ 4
 few_epochs newest older epoch two is =
-    let e = length-append newest older in
-    let n : length newest ≡ 2 = grind (arith, nat_tests) in
-    let o = either (nat_eq (length older) 0) (nat_eq (length older) 2) (nat_le 2 epoch) is in
-    omega (arith, e, n, older_most (length older) o)
-  where
-    older_most : (n : ℕ) → (nat_eq n 0 ≡ true) ⊎ (nat_eq n 2 ≡ true) → n ≤ 2
-    older_most n (inl e) = let z : n ≡ 0 = grind (arith, nat_tests) in omega (arith, z)
-    older_most n (inr e) = let z : n ≡ 2 = grind (arith, nat_tests) in omega (arith, z)
+    let few = (older_many (length older) epoch is).0 in
+    omega (arith, length-append newest older, eqb-true (length newest) 2 two, few)
 
 -- ---- a root in a new pool
 
@@ -142,7 +129,7 @@ module _ (shape : Shape) (root : Root) (is : IsShape shape) (e : is_root shape r
   names_spare = all_spare shape (epochs ++ of_runs) (sym (ap (list_all (λ b. nat_le 2 b && nat_lt b shape.blocks)) named_is) ∙ parts.blocks)
 
   pub two_newest : length root.newest ≡ 2
-  two_newest = let t = parts.two in grind (arith, nat_tests)
+  two_newest = eqb-true (length root.newest) 2 parts.two
 
   pub runs_are_four : length root.runs ≡ 4
   runs_are_four = four_runs shape root.counts root.runs (has_four shape root parts.runs)
@@ -160,7 +147,7 @@ module _ (shape : Shape) (root : Root) (is : IsShape shape) (e : is_root shape r
 
     pub may_runs : MayAdopt Meta of_runs q
     may_runs = record {
-      spare = still_spare from_unused of_runs (apart epochs of_runs names_differ) (spare_back (unused shape) epochs of_runs names_spare);
+      spare = still_spare from_unused of_runs (apart epochs of_runs names_differ) (all_back (IsSpare (unused shape)) epochs of_runs names_spare);
       differ = differ_back epochs of_runs names_differ;
       room =
           let none = unused_none Meta shape some_blocks in

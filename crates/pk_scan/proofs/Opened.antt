@@ -24,20 +24,17 @@ as_part part old new (PageDamaged page) why = why
 as_part part old new PageFault why = why
 
 -- a refusal after reads is one of all that was done
-pub behind_reads : {X : Type 0} (part : Result X Refusal) (old now new : BoardState) (e : OpenError)
-    → OnlyReads old now → now.pages ≡ old.pages → PartNotOpened part now new e → PartNotOpened part old new e
-behind_reads part old now new NotFormatted reads same why = why
-behind_reads part old now new (Damaged page) reads same why = (why.0, reads_both old now new reads why.1)
-behind_reads part old now new Fault reads same why = counted_behind old now new reads why
-behind_reads part old now new Memory reads same why = reads_both old now new reads why
+pub behind_reads : {X : Type 0} (part : Result X Refusal) (old now new : BoardState) (e : OpenError) → OnlyReads old now → PartNotOpened part now new e → PartNotOpened part old new e
+behind_reads part old now new NotFormatted reads why = why
+behind_reads part old now new (Damaged page) reads why = (why.0, reads_both old now new reads why.1)
+behind_reads part old now new Fault reads why = counted_behind old now new reads why
+behind_reads part old now new Memory reads why = reads_both old now new reads why
 
 -- if a part refuses, so does the whole that begins with it
 pub whole_refuses : {X Y : Type 0} (part : Result X Refusal) (whole : Result Y Refusal) (old new : BoardState) (e : OpenError)
     → ((refusal : Refusal) → part ≡ Err refusal → whole ≡ Err refusal) → PartNotOpened part old new e → PartNotOpened whole old new e
-whole_refuses part whole old new NotFormatted passes why = why
 whole_refuses part whole old new (Damaged page) passes why = (passes (damaged page) why.0, why.1)
-whole_refuses part whole old new Fault passes why = why
-whole_refuses part whole old new Memory passes why = why
+whole_refuses part whole old new _ passes why = why
 
 module _ (shape : Shape) (at : ℕ → Page) (root : Root) where
   pub older_first : (e : Refusal) → older_epoch shape at root ≡ Err e → found_under shape at root ≡ Err e
@@ -89,7 +86,7 @@ module _ (shape : Shape) (root : Root) (old : BoardState) where
     newest_refuses new e why =
         let part = newest_epoch shape (page_at old.pages) root in
         whole_refuses part all old new (opening_of e) (newest_second shape (page_at old.pages) root older.0 older.1.finds)
-        (behind_reads part old now new (opening_of e) reads same (as_part part now new e (subst (λ (f : Flash). PartNotRead (newest_epoch shape (page_at f) root) now new e) same why)))
+        (behind_reads part old now new (opening_of e) reads (as_part part now new e (subst (λ (f : Flash). PartNotRead (newest_epoch shape (page_at f) root) now new e) same why)))
 
     pub newest_here : (active : Table) (epoch : JournalEpoch) → NewestHeld shape now.pages root active epoch → NewestHeld shape old.pages root active epoch
     newest_here active epoch held = subst (λ (f : Flash). NewestHeld shape f root active epoch) same held
@@ -100,7 +97,7 @@ module _ (shape : Shape) (root : Root) (old : BoardState) where
     runs_refuse new e why =
         let part = runs_from shape (root_spaces shape root) (page_at old.pages) 1 root.counts root.runs in
         whole_refuses part all old new e (runs_third shape (page_at old.pages) root older.0 newest.0.0 older.1.finds newest.0.1.finds)
-        (behind_reads part old now new e reads same (subst (λ (f : Flash). PartNotOpened (runs_from shape (root_spaces shape root) (page_at f) 1 root.counts root.runs) now new e) same why))
+        (behind_reads part old now new e reads (subst (λ (f : Flash). PartNotOpened (runs_from shape (root_spaces shape root) (page_at f) 1 root.counts root.runs) now new e) same why))
 
     pub all_held : (arena : Frames) (levels : Levels) → ((ess : List (List Entry)) × HoldsRuns shape now.pages root arena levels ess)
         → (found : Found) × HoldsFound shape old.pages root active frozen epoch arena levels found

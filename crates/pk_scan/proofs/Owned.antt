@@ -8,7 +8,7 @@ use Rattle.pk_base.{specs.Key.Key, specs.Key.space_of, specs.Shape.Shape, specs.
 use Rattle.pk_base.specs.Refusal.{ensure, ◌>>=◌}
 use Rattle.pk_plan.specs.declared.owner.Owner.TheVariants.{Journal, Meta}
 use Rattle.pk_pool.{specs.declared.state.BlockState.BlockState, specs.Blocks.Blocks, specs.Blocks.unused, specs.Blocks.IsSpare, proofs.Sharing.used_given, proofs.States.none_leaves_unused}
-use Rattle.pk_pool.specs.declared.state.BlockState.TheVariants.{Root as RootBlock, Free, Ready, Owned, Leaving}
+use Rattle.pk_pool.specs.declared.state.BlockState.TheVariants.{Free, Ready, Owned, Leaving}
 use Rattle.pk_rootfmt.specs.Root.{Root, named, is_root, differ}
 use Rattle.pk_segfmt.specs.Value.{value_pages, value_at}
 use Rattle.pk_live.{specs.Values.Values, specs.Lives.Lives}
@@ -77,26 +77,21 @@ there_is p b (inr ready) none = let clash : ◌≡◌ {A = Option BlockState} No
 
 -- what has no owner has one if it is among the runs' blocks or the epochs'
 owned_if_named : (x y : Bool) (s : Option BlockState) → has_owner s ≡ false → ((y || x) ≡ true → s ≡ None → ⊥) → has_owner (option_map (λ t. owned_if Meta x (owned_if Journal y t)) s) ≡ (y || x)
-owned_if_named true true (Some t) none some = refl
-owned_if_named true false (Some t) none some = refl
-owned_if_named false true (Some t) none some = refl
 owned_if_named false false (Some t) none some = none
-owned_if_named true true None none some = absurd (some refl refl)
-owned_if_named true false None none some = absurd (some refl refl)
-owned_if_named false true None none some = absurd (some refl refl)
+owned_if_named true false (Some t) none some = refl
+owned_if_named _ _ (Some t) none some = refl
 owned_if_named false false None none some = refl
+owned_if_named true false None none some = absurd (some refl refl)
+owned_if_named _ _ None none some = absurd (some refl refl)
 
 module _ (shape : Shape) (root : Root) (is : IsShape shape) (e : is_root shape root ≡ true) where
   none_owned : (b : ℕ) (s : Option BlockState) → slice_get (unused shape).states b ≡ s → has_owner s ≡ false
-  none_owned b None at = refl
-  none_owned b (Some RootBlock) at = refl
-  none_owned b (Some Free) at = refl
-  none_owned b (Some Ready) at = refl
   none_owned b (Some (Owned o)) at =
       let one = used_given (unused shape).states b o at in
       let none = unused_none o shape (let fits = is.data_fits in omega (arith, fits)) in
       absurd (omega (arith, one, none))
   none_owned b (Some (Leaving o)) at = absurd (none_leaves_unused shape b o at)
+  none_owned b _ at = refl
 
   -- if the root's blocks have got their owners, they are those that have one
   pub owned_named : (pool : Blocks) → NamesOwned root (unused shape) pool → (b : ℕ) → list_any (λ c. c == b) (owned_blocks pool) ≡ list_any (λ c. c == b) (named root)

@@ -1,7 +1,7 @@
 -- The owners of all blocks, after those of the root's blocks and of the values'.
 use Rattle.std.proofs.Common.{◌≡◌, inl, inr, ℕ, ◌-◌, ◌<◌, ◌≤◌, Bool, true, false, ◌==◌, List, [], ◌∷◌, ◌++◌, length, get_or, refl, sym, ap, subst, ◌∙◌, arith, Option, Some, None, option_map}
 use Rattle.std.proofs.lemmas.Bool.{cases_Bool, eq-eqb, or_left, or_right, false≢true, eqb-true}
-use Rattle.std.{specs.Prelude.slice_get, specs.Prelude.count_by, specs.List.concat, specs.List.AllByRecursion, proofs.lemmas.Option.slice_get_within, proofs.lemmas.Option.get_or_from_slice_get}
+use Rattle.std.{specs.Prelude.slice_get, specs.Prelude.count_by, specs.List.concat, specs.List.AllByRecursion, proofs.lemmas.Option.slice_get_within, proofs.lemmas.Option.slice_get-get_or, proofs.lemmas.Option.get_or_from_slice_get}
 use Rattle.pk_base.{specs.Key.Key, specs.Shape.Shape, specs.Shape.IsShape, specs.Shape.data_blocks, specs.Entry.Place, specs.Page.Flash}
 use Rattle.pk_plan.{specs.declared.owner.Owner.Owner, specs.declared.owner.Owner.TheVariants.Journal, specs.declared.owner.Owner.TheVariants.Meta, specs.declared.owner.Owner.TheVariants.Values}
 use Rattle.pk_pool.{specs.declared.state.BlockState.BlockState, specs.Blocks.Blocks, specs.Blocks.used_by, specs.Blocks.unused, specs.Blocks.IsSpare, specs.Blocks.PoolOnFlash}
@@ -11,8 +11,8 @@ use Rattle.pk_live.{specs.Values.Values as LiveValues, specs.Values.IsClosed, sp
 use Rattle.pk_rootfmt.specs.Root.{Root, named, is_root}
 use Rattle.pk_model.specs.Laws.{AnyByRecursion}
 use Rattle.pk_scan.specs.Adopts.{is_among, owned_if, state_of, Adopts, NamesOwned, HasOwners}
-use Rattle.pk_scan.proofs.Closing.{flags_many, closed_is_spare, flag_at}
-use Rattle.pk_scan.{proofs.Adopting.apart, proofs.Adopting.spare_front, proofs.Adopting.spare_back, proofs.Naming.names_differ, proofs.Naming.names_spare}
+use Rattle.pk_scan.proofs.Closing.{flags_many, closed_is_spare}
+use Rattle.pk_scan.{proofs.Adopting.apart, proofs.Adopting.spare_front, proofs.Adopting.all_back, proofs.Naming.names_differ, proofs.Naming.names_spare}
 
 -- ---- lists
 
@@ -85,7 +85,7 @@ module _ (shape : Shape) (root : Root) (is : IsShape shape) (e : is_root shape r
     in_new b here = of_all (IsSpare (unused shape)) b (root.newest ++ root.older) (spare_front (unused shape) (root.newest ++ root.older) (concat root.runs) (names_spare shape root is e)) here
 
     in_runs : (b : ℕ) → AnyByRecursion (λ c. b ≡ c) (concat root.runs) → IsSpare (unused shape) b
-    in_runs b here = of_all (IsSpare (unused shape)) b (concat root.runs) (spare_back (unused shape) (root.newest ++ root.older) (concat root.runs) (names_spare shape root is e)) here
+    in_runs b here = of_all (IsSpare (unused shape)) b (concat root.runs) (all_back (IsSpare (unused shape)) (root.newest ++ root.older) (concat root.runs) (names_spare shape root is e)) here
 
     of_journal : (b : ℕ) → AnyByRecursion (λ c. b ≡ c) (root.newest ++ root.older) → slice_get r.states b ≡ Some (Owned Journal)
     of_journal b here =
@@ -115,7 +115,7 @@ module _ (shape : Shape) (root : Root) (is : IsShape shape) (e : is_root shape r
     is_closed b got = elim (cases_Bool (get_or live.closed b false)) [
       | inl closed ↦
           let inside : b < length live.closed = omega (arith, slice_get_within r.states b (Owned Values) got, size_is, closed_many) in
-          flag_at live.closed b (get_or live.closed b false) true inside refl closed
+          slice_get-get_or live.closed b false inside ∙ ap (λ (t : Bool). Some t) closed
       | inr other ↦
           let before : option_map (owned_if Values false) (slice_get q.states b) ≡ Some (Owned Values) = sym
           (closing.states b ∙ ap (λ x. option_map (owned_if Values x) (slice_get q.states b)) other) ∙ got in

@@ -2,7 +2,7 @@
 use Rattle.std.proofs.Common.{◌≡◌, ℕ, zero, suc, ◌+◌, ◌-◌, ◌*◌, ◌<◌, ◌≤◌, Bool, true, false, ◌&&◌, List, [], ◌++◌, take, drop, refl, sym, ap, ◌∙◌, arith, inl, inr}
 use Rattle.std.{specs.Prelude.Result, specs.Prelude.Ok, specs.Prelude.Err, specs.Prelude.nat_eq, specs.Prelude.◌==◌, specs.List.list_all, specs.List.starts_with}
 use Rattle.std.proofs.lemmas.Bool.{false≢true, cases_Bool}
-use Rattle.pk_base.{specs.Shape.Shape, specs.Page.Page, specs.Page.erased, specs.Page.whole, specs.Page.torn, specs.Refusal.Refusal, specs.Refusal.damaged, specs.Refusal.◌>>=◌, specs.Refusal.ensure}
+use Rattle.pk_base.{specs.Shape.Shape, specs.Page.Page, specs.Page.whole, specs.Refusal.Refusal, specs.Refusal.damaged, specs.Refusal.◌>>=◌, specs.Refusal.ensure}
 use Rattle.pk_segfmt.specs.Value.{value_page, value_from}
 use Rattle.pk_scan.specs.Pages.{front_of, passes}
 
@@ -14,29 +14,25 @@ tested page a b piece rest = ensure a page >>= (λ _. ensure b page >>= (λ _. r
 
 both_true : (page : ℕ) (a b : Bool) (piece : List ℕ) (rest : Result (List ℕ) Refusal) → (a && b) ≡ true → tested page a b piece rest ≡ (rest >>= (λ r. Ok (piece ++ r)))
 both_true page true true piece rest e = refl
-both_true page true false piece rest e = absurd (false≢true e)
-both_true page false b piece rest e = absurd (false≢true e)
+both_true page _ _ piece rest e = absurd (false≢true e)
 
 one_false : (page : ℕ) (a b : Bool) (piece : List ℕ) (rest : Result (List ℕ) Refusal) → (a && b) ≡ false → tested page a b piece rest ≡ Err (damaged page)
 one_false page true true piece rest e = absurd (false≢true (sym e))
-one_false page true false piece rest e = refl
-one_false page false b piece rest e = refl
+one_false page _ _ piece rest e = refl
 
 passed : (page : ℕ) (front : List ℕ) (left : ℕ) (p : Page) (go_on : List ℕ → Result (List ℕ) Refusal) → passes front left p ≡ true
     → (bytes : List ℕ) × (value_page page front left p go_on ≡ (go_on bytes >>= (λ rest. Ok (take left bytes ++ rest))))
-passed page front left erased go_on e = absurd (false≢true e)
-passed page front left torn go_on e = absurd (false≢true e)
 passed page front left (whole bytes) go_on e = (bytes, both_true page (starts_with nat_eq bytes front) (list_all (λ b. b == 0) (drop left bytes)) (take left bytes) (go_on bytes) e)
+passed page front left _ go_on e = absurd (false≢true e)
 
 refused : (page : ℕ) (front : List ℕ) (left : ℕ) (p : Page) (go_on : List ℕ → Result (List ℕ) Refusal) → passes front left p ≡ false → value_page page front left p go_on ≡ Err (damaged page)
-refused page front left erased go_on e = refl
-refused page front left torn go_on e = refl
 refused page front left (whole bytes) go_on e = one_false page (starts_with nat_eq bytes front) (list_all (λ b. b == 0) (drop left bytes)) (take left bytes) (go_on bytes) e
+refused page front left _ go_on e = refl
 
 -- what refuses after a page is what refuses
-through : (rest : Result (List ℕ) Refusal) (piece : List ℕ) (e : Refusal) → (rest >>= (λ r. Ok (piece ++ r))) ≡ Err e → rest ≡ Err e
-through (Ok r) piece e is = cc
-through (Err f) piece e is = cc
+pub through : (rest : Result (List ℕ) Refusal) (f : List ℕ → List ℕ) (e : Refusal) → (rest >>= (λ r. Ok (f r))) ≡ Err e → rest ≡ Err e
+through (Ok r) f e is = cc
+through (Err g) f e is = cc
 
 same_page : (p q : ℕ) → ◌≡◌ {A = Result (List ℕ) Refusal} (Err (damaged p)) (Err (damaged q)) → p ≡ q
 same_page p q e = cc
@@ -96,7 +92,7 @@ module _ (shape : Shape) (at : ℕ → Page) where
   at_or_behind (suc n) page front left q e = elim (cases_Bool (passes front left (at page))) [
     | inl right ↦
         let p = passed page front left (at page) (λ bytes. value_from shape at (page + 1) [] (left - size) n) right in
-        let rest = at_or_behind n (page + 1) [] (left - size) q (through (value_from shape at (page + 1) [] (left - size) n) (take left p.0) (damaged q) (sym p.1 ∙ e)) in
+        let rest = at_or_behind n (page + 1) [] (left - size) q (through (value_from shape at (page + 1) [] (left - size) n) (λ r. take left p.0 ++ r) (damaged q) (sym p.1 ∙ e)) in
         omega (arith, rest)
     | inr wrong ↦
         let is = same_page page q (sym (refused page front left (at page) (λ bytes. value_from shape at (page + 1) [] (left - size) n) wrong) ∙ e) in
@@ -111,5 +107,5 @@ module _ (shape : Shape) (at : ℕ → Page) where
       let p = passed page front left (at page) (λ bytes. value_from shape at (page + 1) [] (left - size) n) (sym (first_is page front left) ∙ each 0 (omega arith)) in
       let rest =
       not_before i n (page + 1) [] (left - size) q (omega arith) (λ (k : ℕ) (lower : k < i). next_is page front left k ∙ each (suc k) (omega arith))
-      (through (value_from shape at (page + 1) [] (left - size) n) (take left p.0) (damaged q) (sym p.1 ∙ e)) in
+      (through (value_from shape at (page + 1) [] (left - size) n) (λ r. take left p.0 ++ r) (damaged q) (sym p.1 ∙ e)) in
       omega (arith, rest)

@@ -1,17 +1,13 @@
 -- Memory into which nothing was read.
-use Rattle.std.proofs.Common.{◌≡◌, ℕ, zero, suc, ◌≤◌, Bool, false, not, cond, List, replicate, sym, ap, subst, ◌∙◌, arith, refl}
-use Rattle.std.{specs.Prelude.count_by, proofs.lemmas.List.Sums.sum_by-cons}
+use Rattle.std.proofs.Common.{◌≡◌, ℕ, ◌≤◌, Bool, false, not, cond, List, replicate, sym, ap, subst, ◌∙◌, arith}
+use Rattle.std.{specs.Prelude.count_by, proofs.lemmas.List.Folds.sum_by-replicate}
 use Rattle.pk_base.specs.Shape.{Shape, pinned}
 use Rattle.pk_pin.specs.Frames.{Frames, free_frames}
 use Rattle.pk_level.specs.Levels.{Levels, no_runs}
 use Rattle.pk_scan.{specs.OpeningParts.wanted_behind, proofs.Wanted.pinned_wants}
 
 all_free : (n : ℕ) → count_by not (replicate n false) ≡ n
-all_free zero = refl
-all_free (suc n) =
-    let step = sum_by-cons (λ b. cond {A = ℕ} (not b) 1 0) false (replicate n false) in
-    let rest = all_free n in
-    omega (arith, step, rest)
+all_free n = let sum = sum_by-replicate (λ b. cond {A = ℕ} (not b) 1 0) n false in omega (arith, sum)
 
 -- no frame is leased, so those that are wanted are free
 pub frames_enough : (shape : Shape) (frames : ℕ) (levels : Levels) (arena : Frames) → levels ≡ no_runs shape (pinned shape frames)

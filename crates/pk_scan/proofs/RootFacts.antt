@@ -1,13 +1,12 @@
 -- What the grammar of roots says of the blocks and the counts that a root names.
-use Rattle.std.proofs.Common.{◌≡◌, inl, inr, ℕ, zero, suc, ◌-◌, ◌*◌, ◌<◌, ◌≤◌, Bool, true, ◌&&◌, ◌||◌, List, [], ◌∷◌, ◌++◌, length, get_or, map, sym, ap, subst, ◌∙◌, arith, Some}
-use Rattle.std.proofs.lemmas.Bool.{and_parts, leb-true, ltb-true}
-use Rattle.std.{specs.Prelude.slice_get, specs.Prelude.nat_le, specs.Prelude.nat_lt, specs.Prelude.nat_eq, specs.Prelude.zip, specs.Prelude.slice_index, specs.List.list_all, specs.List.concat}
-use Rattle.std.{proofs.lemmas.Bool.Decides.nat_tests, proofs.lemmas.List.Folds.list_all-append}
+use Rattle.std.proofs.Common.{◌≡◌, ℕ, zero, suc, ◌-◌, ◌*◌, ◌<◌, ◌≤◌, Bool, true, ◌&&◌, List, [], ◌∷◌, ◌++◌, length, get_or, map, sym, ap, subst, ◌∙◌, arith, Some}
+use Rattle.std.proofs.lemmas.Bool.{and_parts, eqb-true, leb-true, ltb-true}
+use Rattle.std.{specs.Prelude.slice_get, specs.Prelude.nat_le, specs.Prelude.nat_lt, specs.Prelude.zip, specs.Prelude.slice_index, specs.List.list_all, specs.List.concat}
+use Rattle.std.proofs.lemmas.List.Folds.{list_all-append}
 use Rattle.pk_base.specs.Shape.{Shape, page_entries, caps, cap, run_blocks}
 use Rattle.pk_rootfmt.{specs.Root.Root, specs.Root.is_root, specs.Held.two_of, specs.Held.older_of, proofs.PageLemmas.Parts, proofs.PageLemmas.root_parts}
 use Rattle.pk_jrn.specs.Epochs.{AllExist as EpochExists}
-use Rattle.pk_scan.{specs.Runs.RunBlocksExist, proofs.Naming.HasFour, proofs.Naming.has_four, proofs.Naming.four_runs, proofs.Naming.two_is, proofs.Naming.older_is}
-use Rattle.pk_scan.proofs.Naming.{either}
+use Rattle.pk_scan.{specs.Runs.RunBlocksExist, proofs.Naming.HasFour, proofs.Naming.has_four, proofs.Naming.four_runs, proofs.Naming.two_is, proofs.Naming.older_is, proofs.Naming.older_many}
 
 module _ (p : ℕ → Bool) where
   all_front : (xs ys : List ℕ) → list_all p (xs ++ ys) ≡ true → list_all p xs ≡ true
@@ -52,7 +51,7 @@ module _ (shape : Shape) (root : Root) (e : is_root shape root ≡ true) where
   is_block b = nat_le 2 b && nat_lt b shape.blocks
 
   pub newest_two : length root.newest ≡ 2
-  newest_two = let t = parts.two in grind (arith, nat_tests)
+  newest_two = eqb-true (length root.newest) 2 parts.two
 
   of_epochs : list_all is_block (root.newest ++ root.older) ≡ true
   of_epochs = all_front is_block (root.newest ++ root.older) (concat root.runs) parts.blocks
@@ -62,15 +61,11 @@ module _ (shape : Shape) (root : Root) (e : is_root shape root ≡ true) where
       (two_exist shape root.newest newest_two (exist shape root.newest (all_front is_block root.newest root.older of_epochs)))
 
   pub older_two : (bs : List ℕ) → Some bs ≡ older_of root.older → length root.older ≡ 2
-  older_two bs is = by_cases root.older parts.older is
+  older_two bs is = (older_many (length root.older) root.epoch parts.older).1 (some root.older is)
     where
-      by_cases : (os : List ℕ) → (nat_eq (length os) 0 || (nat_eq (length os) 2 && nat_le 2 root.epoch)) ≡ true → Some bs ≡ older_of os → length os ≡ 2
-      by_cases [] t is = cc
-      by_cases (o ∷ os) t is =
-          elim (either (nat_eq (length (o ∷ os)) 0) (nat_eq (length (o ∷ os)) 2) (nat_le 2 root.epoch) t) [
-            | inl e ↦ let none : length (o ∷ os) ≡ 0 = grind (arith, nat_tests) in absurd (omega (arith, none))
-            | inr e ↦ grind (arith, nat_tests)
-          ]
+      some : (os : List ℕ) → Some bs ≡ older_of os → 0 < length os
+      some [] t = cc
+      some (o ∷ os) t = omega arith
 
   pub older_exist : (bs : List ℕ) → Some bs ≡ older_of root.older → EpochExists shape bs
   older_exist bs is = subst (EpochExists shape) (sym (older_is root.older bs is))

@@ -33,8 +33,7 @@ module _ (shape : Shape) (named : List ℕ) where
       let c = and_parts (list_all outside pages) (differ pages) b.0 in
       record { out = c.0; apart = c.1 }
 
-module _ (shape : Shape) (named : List ℕ) (live : Values) (taken : List (Key × Place)) (place : Place)
-    (is_shape : IsShape shape) (is_place : IsPlace shape place) (lives : Lives shape named live taken) where
+module _ {shape : Shape} {named : List ℕ} {live : Values} {taken : List (Key × Place)} {place : Place} (is_shape : IsShape shape) (is_place : IsPlace shape place) (lives : Lives shape named live taken) where
   abbrev n : ℕ
   n = shape.block_pages
 

@@ -1,6 +1,6 @@
 -- What is found under the newest root, and the map that it makes.
 use Rattle.std.proofs.Common.{◌≡◌, ℕ, ◌≤◌, List, [], ◌++◌, length, reverse, refl, sym, ap, ◌∙◌, arith, true, Option, Some, Ok, Err, append-nil}
-use Rattle.std.{specs.Prelude.nat_le, specs.List.flat_map, specs.FinMap.from_entries, specs.FinMap.Entries.find}
+use Rattle.std.{specs.Prelude.nat_le, proofs.lemmas.Bool.le-leb, specs.List.flat_map, specs.FinMap.from_entries, specs.FinMap.Entries.find}
 use Rattle.pk_base.{specs.Key.Key, specs.Key.key_cmp, specs.Shape.Shape, specs.Shape.buffer, specs.Entry.Entry, specs.Entry.Place, specs.Firsts.firsts, specs.Map.Map, specs.Refusal.Refusal}
 use Rattle.pk_base.specs.Page.{Flash, page_at}
 use Rattle.pk_rootfmt.{specs.Root.Root, specs.Root.named, specs.Newest.newest_root}
@@ -8,7 +8,6 @@ use Rattle.pk_model.{specs.RootLimits.root_limits, specs.Found.Found, specs.Foun
 use Rattle.pk_model.{specs.Reading.reading, specs.Reading.reading_of, specs.Reading.map_under, proofs.Lookups.find-firsts, proofs.Lookups.flat}
 use Rattle.pk_model.proofs.Merges.{first_some, first_some_assoc, find-append_lists, same_placed}
 use Rattle.pk_law_steps.specs.Under.{IsUnder, places}
-use Rattle.pk_scan.proofs.RunsHeld.{le_true}
 
 -- ---- the entries that count
 
@@ -49,7 +48,7 @@ module _ (shape : Shape) (flash : Flash) (page : ℕ) (root : Root) (top : newes
 
   module _ (found : Found) (is : found_under shape (page_at flash) root ≡ Ok found) (room : length (firsts found.newest) ≤ buffer shape) where
     enough : nat_le (length (firsts (found.newest ++ []))) (buffer shape) ≡ true
-    enough = le_true (length (firsts (found.newest ++ []))) (buffer shape) (let same = ap (λ (es : List Entry). length (firsts es)) (append-nil found.newest) in omega (arith, same, room))
+    enough = le-leb (length (firsts (found.newest ++ []))) (buffer shape) (let same = ap (λ (es : List Entry). length (firsts es)) (append-nil found.newest) in omega (arith, same, room))
 
     pub values_refuse : (e : Refusal) → values_of shape (page_at flash) (root_limits shape root) (named root) [] (places found []) ≡ Err e → reading shape flash [] ≡ Err e
     unfolding reading_of map_under

@@ -1,25 +1,20 @@
 -- What is used of each namespace, as values are taken.
-use Rattle.std.proofs.Common.{◌≡◌, ℕ, zero, suc, ◌+◌, ◌-◌, ◌<◌, ◌≤◌, Bool, true, false, List, [], ◌∷◌, ◌++◌, length, slice_index, replicate, ◌==◌, if◌then◌else◌, refl, sym, ap, subst, ◌∙◌, arith}
+use Rattle.std.proofs.Common.{◌≡◌, ℕ, zero, suc, ◌+◌, ◌-◌, ◌<◌, ◌≤◌, Bool, true, false, List, [], ◌∷◌, ◌++◌, length, slice_index, ◌==◌, if◌then◌else◌, refl, sym, ap, subst, ◌∙◌, arith}
 use Rattle.std.proofs.Common.{eqb→eq, eq-eqb, nat_le, ◌&&◌, get_or-set_same, get_or-set_other, length-set}
-use Rattle.std.specs.Prelude.{slice_set}
+use Rattle.std.{specs.Prelude.slice_set, proofs.lemmas.List.get_or-replicate}
 use Rattle.pk_base.{specs.declared.sizes.TheConstants.MOST_SPACES, specs.Key.Key, specs.Key.space_of, specs.Shape.Shape, specs.Shape.charge, specs.Entry.Place, proofs.Logic.of_true}
 use Rattle.pk_space.specs.Uses.{Use, nothing_used, IsSpace, space_live, space_keys, value_count, used_after}
 use Rattle.pk_model.{specs.Values.pages_of_space, specs.Values.fits, specs.Values.all_pages, specs.Values.fits_after, proofs.ValueSets.pages_of_space-append, specs.Spaces.limit_of}
 use Rattle.pk_scan.specs.Used.{keys_of_space, IsUseOf}
 use Rattle.pk_segfmt.specs.Value.{value_pages}
 
-zeros_at : (n i : ℕ) → slice_index (replicate n 0) i ≡ 0
-zeros_at zero i = refl
-zeros_at (suc n) zero = refl
-zeros_at (suc n) (suc i) = zeros_at n i
-
 -- before the first value
 pub use_of_none : (shape : Shape) (u : Use) → u ≡ nothing_used → IsUseOf shape u []
 use_of_none shape u is = subst (λ (v : Use). IsUseOf shape v []) (sym is) (record {
   live_room = refl;
   keys_room = refl;
-  live = λ space in_range. zeros_at MOST_SPACES (space - 1);
-  keys = λ space in_range. zeros_at MOST_SPACES (space - 1);
+  live = λ space in_range. get_or-replicate MOST_SPACES (space - 1) 0 0 (omega (arith, in_range));
+  keys = λ space in_range. get_or-replicate MOST_SPACES (space - 1) 0 0 (omega (arith, in_range));
 })
 
 keys_append : (space : ℕ) (xs ys : List (Key × Place)) → keys_of_space space (xs ++ ys) ≡ keys_of_space space xs + keys_of_space space ys

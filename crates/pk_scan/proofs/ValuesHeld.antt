@@ -1,20 +1,22 @@
--- Values that were accepted one after another, as the reading of a flash has them.
+-- Values that were accepted one after another, as the reading of a flash has them, and how many pages are read for them.
 use Rattle.std.proofs.Common.{◌≡◌, ℕ, suc, ◌+◌, ◌-◌, ◌*◌, ◌≤◌, List, [], ◌∷◌, ◌++◌, length, refl, sym, ap, subst, ◌∙◌, arith, Option, Some, None, Result, Ok, Err, append-nil, append_assoc}
 use Rattle.std.proofs.Common.{length-append}
 use Rattle.std.{specs.List.AllByRecursion, proofs.Math.Nat.mul-le-mul_right}
-use Rattle.pk_base.{specs.Key.Key, specs.Shape.Shape, specs.Shape.IsShape, specs.Shape.limit, specs.Shape.dense, specs.Shape.data_blocks, specs.EntryChecks.IsPlace, proofs.Logic.of_true}
+use Rattle.pk_base.{specs.Key.Key, specs.Shape.Shape, specs.Shape.IsShape, specs.Shape.charge, specs.Shape.limit, specs.Shape.dense, specs.Shape.data_blocks, specs.EntryChecks.IsPlace, proofs.Logic.of_true}
 use Rattle.pk_base.{specs.Entry.Entry, specs.Entry.Place, specs.declared.entry.Entry.Entry as RustEntry, specs.declared.entry.Entry.TheVariants.Put, specs.declared.entry.Entry.TheVariants.Gone}
 use Rattle.pk_base.{specs.Page.Flash, specs.Page.page_at, specs.Refusal.Refusal, specs.Refusal.damaged, specs.Refusal.◌>>=◌}
 use Rattle.pk_pin.specs.Frames.{Frames}
 use Rattle.pk_run.specs.Kept.{Kept}
-use Rattle.pk_walk.{specs.Visible.visible, specs.Visible.is_wanted, specs.Visible.wanted, specs.Walking.Walk, specs.Walking.IsLeft, specs.Walking.WalkGives, proofs.Seeking.one_of_each}
+use Rattle.pk_walk.{specs.Visible.visible, specs.Visible.is_wanted, specs.Visible.wanted, proofs.Seeking.one_of_each}
+use Rattle.pk_walk.specs.Walking.{Walk, IsLeft, WalkGives, ReadsAll, SkipsNone, pages_read, most_read}
 use Rattle.pk_model.{proofs.ValueSets.fits_parts, specs.Values.all_pages, specs.Values.fits, specs.Values.fits_after, specs.Values.values_of}
-use Rattle.pk_scan.{proofs.Boards.reads_both, proofs.Boards.reads_if, proofs.Boards.counted_behind, specs.Used.IsUseOf, proofs.Using.use_of_none, specs.Accepted.Accepted, specs.Accepted.NotAccepted}
-use Rattle.pk_scan.{specs.Opening.OnlyReads, specs.OpeningParts.PartNotOpened, specs.OpeningParts.ReadsValues, specs.OpeningParts.opening_of, specs.declared.errors.PageError.PageError}
+use Rattle.pk_scan.{proofs.Boards.reads_both, proofs.Boards.reads_if, proofs.Boards.reads_sum, proofs.Boards.counted_behind, specs.Used.IsUseOf, proofs.Using.use_of_none, specs.Accepted.Accepted}
+use Rattle.pk_scan.{specs.Accepted.NotAccepted, specs.Opening.OnlyReads, specs.OpeningParts.PartNotOpened, specs.OpeningParts.opening_of, specs.Reads.value_reads, specs.Taken.TakesValues}
+use Rattle.pk_scan.specs.declared.errors.PageError.{PageError}
 use Rattle.pk_scan.specs.declared.errors.PageError.TheVariants.{Damaged, Fault}
 use Rattle.pk_live.{specs.Values.Values, specs.Lives.Lives}
 use Rattle.pk_space.specs.Uses.{Use, nothing_used}
-use Rattle.pk_nand.specs.BoardState.{BoardState}
+use Rattle.pk_nand.{specs.BoardState.BoardState, specs.Counts.after_reads}
 use Rattle.pk_law_steps.proofs.Outputs.{values_most}
 
 -- a value of n bytes begins at this page
@@ -38,55 +40,9 @@ behind_none : (others : Result Found Refusal) → others ≡ behind [] others
 behind_none (Ok vs) = refl
 behind_none (Err e) = refl
 
--- The first values were taken, and the reading goes on with the rest.
-pub record ValuesTo (shape : Shape) (flash : Flash) (limits named : List ℕ) (es : List (Key × Place)) (live : Values) (taken rest : List (Key × Place)) : Type 0 where
-  pub front : Found
-  pub split : taken ++ rest ≡ es
-  pub lives : Lives shape named live taken
-  pub goes : values_of shape (page_at flash) limits named [] es ≡ behind front (values_of shape (page_at flash) limits named taken rest)
-
-module _ (shape : Shape) (flash : Flash) (limits named : List ℕ) (es : List (Key × Place)) where
-  pub ValuesTo-start : (live : Values) → Lives shape named live [] → ValuesTo shape flash limits named es live [] es
-  ValuesTo-start live lives = record { front = []; split = refl; lives = lives; goes = behind_none (values_of shape (page_at flash) limits named [] es) }
-
-  pub ValuesTo-next : (live live' : Values) (taken rest : List (Key × Place)) (key : Key) (place : Place)
-      → ValuesTo shape flash limits named es live taken ((key, place) ∷ rest) → Accepted shape flash limits named taken key place
-      → Lives shape named live' (taken ++ (key, place) ∷ []) → ValuesTo shape flash limits named es live' (taken ++ (key, place) ∷ []) rest
-  ValuesTo-next live live' taken rest key place t a lives = record {
-    front = t.front ++ (key, a.value) ∷ [];
-    split = append_assoc taken ((key, place) ∷ []) rest ∙ t.split;
-    lives = lives;
-    goes = t.goes ∙ ap (behind t.front) (a.goes_on rest) ∙ behind_one t.front (key, a.value) (values_of shape (page_at flash) limits named (taken ++ (key, place) ∷ []) rest);
-  }
-
-  none_left : (taken : List (Key × Place)) → values_of shape (page_at flash) limits named taken [] ≡ Ok []
-  unfolding values_of
-  none_left taken = refl
-
-  pub ValuesTo-end : (live : Values) (taken : List (Key × Place)) → ValuesTo shape flash limits named es live taken [] → (vs : Found) × (values_of shape (page_at flash) limits named [] es ≡ Ok vs) × (taken ≡ es)
-  ValuesTo-end live taken t = (t.front, t.goes ∙ ap (behind t.front) (none_left taken) ∙ ap ok_found (append-nil t.front), sym (append-nil taken) ∙ t.split)
-
-  pub ValuesTo-refused : (live : Values) (taken rest : List (Key × Place)) (e : Refusal) → ValuesTo shape flash limits named es live taken rest
-      → values_of shape (page_at flash) limits named taken rest ≡ Err e → values_of shape (page_at flash) limits named [] es ≡ Err e
-  ValuesTo-refused live taken rest e t refused = t.goes ∙ ap (behind t.front) refused
-
--- ---- the walk over them
-
--- This many values were taken of those that the walk had at its start, and it still has the rest to return.
-pub record TakenTo (shape : Shape) (flash : Flash) (arena : Frames) (runs : List Kept) (active frozen : List Entry) (limits named : List ℕ) (start walk : Walk) (live : Values) (u : Use) (k : ℕ) : Type 0 where
-  pub es : List (Key × Place)
-  pub taken : List (Key × Place)
-  pub rest : List (Key × Place)
-  pub starts : IsLeft start flash arena runs active frozen es
-  pub all : AllByRecursion (λ e. IsPlace shape e.1) es
-  pub to : ValuesTo shape flash limits named es live taken rest
-  pub uses : IsUseOf shape u taken
-  pub left : IsLeft walk flash arena runs active frozen rest
-  pub many : length taken ≡ k
-
-all_behind : (P : Key × Place → Type 0) (xs ys : List (Key × Place)) → AllByRecursion P (xs ++ ys) → AllByRecursion P ys
-all_behind P [] ys all = all
-all_behind P (x ∷ xs) ys all = all_behind P xs ys all.1
+none_left : (shape : Shape) (flash : Flash) (limits named : List ℕ) (taken : List (Key × Place)) → values_of shape (page_at flash) limits named taken [] ≡ Ok []
+unfolding values_of
+none_left shape flash limits named taken = refl
 
 few_blocks : (shape : Shape) → IsShape shape → data_blocks shape ≤ 4096
 unfolding data_blocks
@@ -101,21 +57,58 @@ limit_few shape is =
     let product : (data_blocks shape - 1) * dense shape ≤ 4096 * dense shape = mul-le-mul_right (dense shape) (omega (arith, few)) in
     omega (arith, product, part)
 
-module _ (shape : Shape) (flash : Flash) (arena : Frames) (runs : List Kept) (active frozen : List Entry) (limits named : List ℕ) (start : Walk) where
-  pub left_one : (w : Walk) (xs ys : List (Key × Place)) → IsLeft w flash arena runs active frozen xs → IsLeft w flash arena runs active frozen ys → xs ≡ ys
-  left_one w xs ys a b = a.is ∙ ap (λ (ess : List (List Entry)). wanted (is_wanted w.position) (visible (active ∷ frozen ∷ ess))) (one_of_each flash arena runs a.ess b.ess a.stand b.stand) ∙ sym b.is
+-- the pages of one more value
+reads_one_more : (shape : Shape) (es : List (Key × Place)) (key : Key) (at : Place) → value_reads shape (es ++ (key, at) ∷ []) ≡ value_reads shape es + charge shape at.len
+reads_one_more shape [] key at = omega arith
+reads_one_more shape (e ∷ es) key at = let rest = reads_one_more shape es key at in omega (arith, rest)
 
-  pub TakenTo-start : (live : Values) (u : Use) (es : List (Key × Place)) → IsLeft start flash arena runs active frozen es → AllByRecursion (λ e. IsPlace shape e.1) es
-      → Lives shape named live [] → u ≡ nothing_used → (t : TakenTo shape flash arena runs active frozen limits named start start live u 0) × (t.taken ≡ [])
-  TakenTo-start live u es left all lives unused = (record { es = es; taken = []; rest = es; starts = left; all = all; to = ValuesTo-start shape flash limits named es live lives; uses = use_of_none shape u unused; left = left; many = refl }, refl)
+-- If no page is skipped: those that the walk has passed since its start were read, and those of these values.
+abbrev pub HaveRead : Shape → List Kept → Walk → Walk → List (Key × Place) → BoardState → BoardState → Type 0
+HaveRead shape runs start walk taken old now =
+    SkipsNone start → SkipsNone walk × (n : ℕ) × (n + pages_read runs start.cursors ≡ pages_read runs walk.cursors) × (now ≡ after_reads (n + value_reads shape taken) old)
 
-  pub few_taken : IsShape shape → (walk : Walk) (live : Values) (u : Use) (k : ℕ) → TakenTo shape flash arena runs active frozen limits named start walk live u k → k ≤ limit shape
-  few_taken is walk live u k t =
-      let parts = fits_parts shape named (all_pages shape t.taken) (of_true (fits shape named (all_pages shape t.taken)) t.to.lives.placed_well) in
-      let few = parts.few in
-      let some = values_most shape is t.taken in
-      let many = t.many in
-      omega (arith, few, some, many)
+-- ---- the walk over them
+
+-- This many values were taken of those that the walk had at its start: it still has the rest to return, and the reading goes on with it.
+pub record TakenTo (shape : Shape) (arena : Frames) (runs : List Kept) (active frozen : List Entry) (limits named : List ℕ)
+    (start walk : Walk) (live : Values) (u : Use) (old now : BoardState) (k : ℕ) : Type 0 where
+  pub es : List (Key × Place)
+  pub taken : List (Key × Place)
+  pub rest : List (Key × Place)
+  pub front : Found
+  pub starts : IsLeft start old.pages arena runs active frozen es
+  pub split : taken ++ rest ≡ es
+  pub all : AllByRecursion (λ e. IsPlace shape e.1) rest
+  pub lives : Lives shape named live taken
+  pub goes : values_of shape (page_at old.pages) limits named [] es ≡ behind front (values_of shape (page_at old.pages) limits named taken rest)
+  pub uses : IsUseOf shape u taken
+  pub left : IsLeft walk old.pages arena runs active frozen rest
+  pub many : length taken ≡ k
+  pub read : HaveRead shape runs start walk taken old now
+
+pub TakenTo-start : {shape : Shape} {arena : Frames} {runs : List Kept} {active frozen : List Entry} {limits named : List ℕ} {start : Walk} {live : Values} {u : Use} {old : BoardState}
+    → (es : List (Key × Place)) → IsLeft start old.pages arena runs active frozen es → AllByRecursion (λ e. IsPlace shape e.1) es → Lives shape named live [] → u ≡ nothing_used
+    → TakenTo shape arena runs active frozen limits named start start live u old old 0
+TakenTo-start {shape} {limits = limits} {named = named} {u = u} {old = old} es left all lives unused = record {
+  es = es;
+  taken = [];
+  rest = es;
+  front = [];
+  starts = left;
+  split = refl;
+  all = all;
+  lives = lives;
+  goes = behind_none (values_of shape (page_at old.pages) limits named [] es);
+  uses = use_of_none shape u unused;
+  left = left;
+  many = refl;
+  read = λ none. (none, 0, omega arith, refl);
+}
+
+left_one : {flash : Flash} {arena : Frames} {runs : List Kept} {active frozen : List Entry} {w : Walk} {xs ys : List (Key × Place)}
+    → IsLeft w flash arena runs active frozen xs → IsLeft w flash arena runs active frozen ys → xs ≡ ys
+left_one {flash} {arena} {runs} {active} {frozen} {w} a b =
+    a.is ∙ ap (λ (ess : List (List Entry)). wanted (is_wanted w.position) (visible (active ∷ frozen ∷ ess))) (one_of_each flash arena runs a.ess b.ess a.stand b.stand) ∙ sym b.is
 
 -- what an answer of the walk says of what remained
 pub gives_put : (key : Key) (page len : ℕ) (rest later : List (Key × Place)) → WalkGives (Some (Put key page len)) rest later → rest ≡ (key, place page len) ∷ later
@@ -134,75 +127,118 @@ pub gives_none : (rest later : List (Key × Place)) → WalkGives None rest late
 gives_none [] later g = refl
 gives_none (x ∷ rest) later g = absurd g
 
-module _ (shape : Shape) (flash : Flash) (arena : Frames) (runs : List Kept) (active frozen : List Entry) (limits named : List ℕ)
-    (start walk : Walk) (live : Values) (u : Use) (k : ℕ) (t : TakenTo shape flash arena runs active frozen limits named start walk live u k) where
-  abbrev of_start : List (Key × Place) → Type 0
-  of_start es = IsLeft start flash arena runs active frozen es
-
+module _ {shape : Shape} {arena : Frames} {runs : List Kept} {active frozen : List Entry} {limits named : List ℕ} {start walk : Walk} {live : Values} {u : Use} {old now : BoardState} {k : ℕ}
+    (t : TakenTo shape arena runs active frozen limits named start walk live u old now k) where
   abbrev left_after : Walk → Flash → List (Key × Place) → Type 0
   left_after w f rest = IsLeft w f arena runs active frozen rest
 
-  module _ (walk' : Walk) (at after : Flash) (same : at ≡ flash) where
-    here : left_after walk at t.rest
+  abbrev reading_from : List (Key × Place) → List (Key × Place) → Result Found Refusal
+  reading_from taken rest = values_of shape (page_at old.pages) limits named taken rest
+
+  pub few_taken : IsShape shape → k ≤ limit shape
+  few_taken is =
+      let parts = fits_parts shape named (all_pages shape t.taken) (of_true (fits shape named (all_pages shape t.taken)) t.lives.placed_well) in
+      let few = parts.few in
+      let some = values_most shape is t.taken in
+      let many = t.many in
+      omega (arith, few, some, many)
+
+  module _ (walk' : Walk) (before after : Flash) (same : before ≡ old.pages) where
+    here : left_after walk before t.rest
     here = subst (λ (f : Flash). left_after walk f t.rest) (sym same) t.left
 
-    pub put_next : (key : Key) (page len : ℕ) → after ≡ flash
-        → ((rest : List (Key × Place)) → left_after walk at rest → (later : List (Key × Place)) × WalkGives (Some (Put key page len)) rest later × left_after walk' after later)
-        → (later : List (Key × Place)) × (t.rest ≡ (key, place page len) ∷ later) × left_after walk' flash later
+    pub put_next : (key : Key) (page len : ℕ) → after ≡ old.pages
+        → ((rest : List (Key × Place)) → left_after walk before rest → (later : List (Key × Place)) × WalkGives (Some (Put key page len)) rest later × left_after walk' after later)
+        → (later : List (Key × Place)) × (t.rest ≡ (key, place page len) ∷ later) × left_after walk' old.pages later
     put_next key page len still gives = let g = gives t.rest here in (g.0, gives_put key page len t.rest g.0 g.1, subst (λ (f : Flash). left_after walk' f g.0) still g.2)
 
-    pub gone_next : (key : Key) → ((rest : List (Key × Place)) → left_after walk at rest → (later : List (Key × Place)) × WalkGives (Some (Gone key)) rest later × left_after walk' after later) → ⊥
+    pub gone_next : (key : Key)
+        → ((rest : List (Key × Place)) → left_after walk before rest → (later : List (Key × Place)) × WalkGives (Some (Gone key)) rest later × left_after walk' after later) → ⊥
     gone_next key gives = let g = gives t.rest here in gives_gone key t.rest g.0 g.1
 
-    pub none_next : ((rest : List (Key × Place)) → left_after walk at rest → (later : List (Key × Place)) × WalkGives None rest later × left_after walk' after later) → t.rest ≡ []
+    pub none_next : ((rest : List (Key × Place)) → left_after walk before rest → (later : List (Key × Place)) × WalkGives None rest later × left_after walk' after later) → t.rest ≡ []
     none_next gives = let g = gives t.rest here in gives_none t.rest g.0 g.1
 
-  module _ (key : Key) (at : Place) (later : List (Key × Place)) (split : t.rest ≡ (key, at) ∷ later) where
-    pub place_next : IsPlace shape at
-    place_next = (subst (AllByRecursion (λ e. IsPlace shape e.1)) split (all_behind (λ e. IsPlace shape e.1) t.taken t.rest (subst (AllByRecursion (λ e. IsPlace shape e.1)) (sym t.to.split) t.all))).0
-
-    pub TakenTo-next : (walk' : Walk) (live' : Values) (u' : Use) → IsLeft walk' flash arena runs active frozen later → Accepted shape flash limits named t.taken key at
-        → Lives shape named live' (t.taken ++ (key, at) ∷ []) → IsUseOf shape u' (t.taken ++ (key, at) ∷ [])
-        → (t' : TakenTo shape flash arena runs active frozen limits named start walk' live' u' (k + 1)) × (t'.taken ≡ t.taken ++ (key, at) ∷ [])
-    TakenTo-next walk' live' u' left accepted lives uses = (
-      record {
-        es = t.es;
-        taken = t.taken ++ (key, at) ∷ [];
-        rest = later;
-        starts = t.starts;
-        all = t.all;
-        to = ValuesTo-next shape flash limits named t.es live live' t.taken later key at (subst (ValuesTo shape flash limits named t.es live t.taken) split t.to) accepted lives;
-        uses = uses;
-        left = left;
-        many = let more = length-append t.taken ((key, at) ∷ []) in let many = t.many in omega (arith, more, many);
-      },
-      refl,
-    )
-
-    pub TakenTo-refused : (old now new : BoardState) (e : PageError) → OnlyReads old now → now.pages ≡ flash → NotAccepted shape now new limits named t.taken key at e
-        → (es : List (Key × Place)) → of_start es → PartNotOpened (values_of shape (page_at flash) limits named [] es) old new (opening_of e)
-    TakenTo-refused old now new (Damaged page) reads same why es left =
-        let here = subst (λ (f : Flash). values_of shape (page_at f) limits named t.taken ((key, at) ∷ later) ≡ Err (damaged page)) same (why.refusal later) in
-        let made = reads_if (fits_after shape limits named t.taken (key, at)) (suc (page - at.page)) now new why.board in (
-          subst (λ (xs : List (Key × Place)). values_of shape (page_at flash) limits named [] xs ≡ Err (damaged page)) (left_one shape flash arena runs active frozen limits named start start t.es es t.starts left)
-              (ValuesTo-refused shape flash limits named t.es live t.taken t.rest (damaged page) t.to (ap (values_of shape (page_at flash) limits named t.taken) split ∙ here)),
-          reads_both old now new reads made,
-        )
-    TakenTo-refused old now new Fault reads same why es left = counted_behind old now new reads (why.1.reads.flash, why.1.reads.read)
-
-  -- after the last of them all were taken
-  pub TakenTo-all : t.rest ≡ [] → (es : List (Key × Place)) → of_start es → t.taken ≡ es
-  TakenTo-all none es left =
-      (ValuesTo-end shape flash limits named t.es live t.taken (subst (ValuesTo shape flash limits named t.es live t.taken) none t.to)).2
-      ∙ left_one shape flash arena runs active frozen limits named start start t.es es t.starts left
-
-  pub TakenTo-end : t.rest ≡ [] → (es : List (Key × Place)) → of_start es → ReadsValues shape flash limits named live es × IsUseOf shape u es × (k ≡ length es)
-  TakenTo-end none es left =
-      let end = ValuesTo-end shape flash limits named t.es live t.taken (subst (ValuesTo shape flash limits named t.es live t.taken) none t.to) in
-      let same = left_one shape flash arena runs active frozen limits named start start t.es es t.starts left in
-      let all : t.taken ≡ es = end.2 ∙ same in (
-        record { values = end.0; read = sym (ap (values_of shape (page_at flash) limits named []) same) ∙ end.1; lives = subst (Lives shape named live) all t.to.lives },
-        subst (IsUseOf shape u) all t.uses,
-        sym t.many
-            ∙ ap (λ (xs : List (Key × Place)). length xs) all,
+  -- the walk went on
+  walked : (walk' : Walk) (mid : BoardState) → (SkipsNone walk → SkipsNone walk')
+      → (SkipsNone walk → ReadsAll (pages_read runs walk.cursors) (pages_read runs walk'.cursors) now mid) → HaveRead shape runs start walk' t.taken old mid
+  walked walk' mid skips every none =
+      let far = t.read none in
+      let own = every far.0 in
+      let count : own.0 + (far.1 + value_reads shape t.taken) ≡ own.0 + far.1 + value_reads shape t.taken = omega arith in (
+        skips far.0,
+        own.0 + far.1,
+        (let h = own.1 in let e = far.2 in omega (arith, h, e)),
+        reads_sum old now mid (far.1 + value_reads shape t.taken) own.0 (own.0 + far.1 + value_reads shape t.taken) count far.3 own.2,
       )
+
+  -- ---- after the last of them
+
+  module _ (none : t.rest ≡ []) (es : List (Key × Place)) (left : left_after start old.pages es) where
+    all_taken : t.taken ≡ es
+    all_taken = sym (append-nil t.taken) ∙ ap (λ (xs : List (Key × Place)). t.taken ++ xs) (sym none) ∙ t.split ∙ left_one t.starts left
+
+    -- all were taken
+    pub takes_all : TakesValues shape old.pages limits named live u k es
+    takes_all = record {
+      values = record {
+        values = t.front;
+        read = ap (reading_from []) (sym (left_one t.starts left)) ∙ t.goes ∙ ap (λ (xs : List (Key × Place)). behind t.front (reading_from t.taken xs)) none
+            ∙ ap (behind t.front) (none_left shape old.pages limits named t.taken) ∙ ap ok_found (append-nil t.front);
+        lives = subst (Lives shape named live) all_taken t.lives;
+      };
+      uses = subst (IsUseOf shape u) all_taken t.uses;
+      keys_are = sym t.many ∙ ap length all_taken;
+    }
+
+    -- and all pages of the runs and of the values were read
+    pub all_read : (walk' : Walk) (mid : BoardState) → (SkipsNone walk → SkipsNone walk') → (SkipsNone walk → ReadsAll (pages_read runs walk.cursors) (pages_read runs walk'.cursors) now mid)
+        → (SkipsNone walk → pages_read runs walk'.cursors ≡ most_read runs) → SkipsNone start → pages_read runs start.cursors ≡ 0 → mid ≡ after_reads (most_read runs + value_reads shape es) old
+    all_read walk' mid skips every ended first nothing =
+        let far = walked walk' mid skips every first in
+        let end = ended (t.read first).0 in
+        let count : far.1 + value_reads shape t.taken ≡ most_read runs + value_reads shape es = (let e = far.2 in let own = ap (value_reads shape) all_taken in omega (arith, e, end, nothing, own)) in
+        far.3 ∙ ap (λ (n : ℕ). after_reads n old) count
+
+  -- ---- one more
+
+  module _ (key : Key) (p : Place) (later : List (Key × Place)) (split : t.rest ≡ (key, p) ∷ later) where
+    pub place_next : IsPlace shape p
+    place_next = (subst (AllByRecursion (λ e. IsPlace shape e.1)) split t.all).0
+
+    pub TakenTo-next : (walk' : Walk) (live' : Values) (u' : Use) (mid new : BoardState) → (SkipsNone walk → SkipsNone walk')
+        → (SkipsNone walk → ReadsAll (pages_read runs walk.cursors) (pages_read runs walk'.cursors) now mid) → left_after walk' old.pages later → mid.pages ≡ old.pages
+        → Accepted shape mid.pages limits named t.taken key p → Lives shape named live' (t.taken ++ (key, p) ∷ []) → IsUseOf shape u' (t.taken ++ (key, p) ∷ [])
+        → new ≡ after_reads (charge shape p.len) mid → TakenTo shape arena runs active frozen limits named start walk' live' u' old new (k + 1)
+    TakenTo-next walk' live' u' mid new skips every left still accepted lives uses ok =
+        let a = subst (λ (f : Flash). Accepted shape f limits named t.taken key p) still accepted in
+        let now_taken : List (Key × Place) = t.taken ++ (key, p) ∷ [] in
+        record {
+          es = t.es;
+          taken = now_taken;
+          rest = later;
+          front = t.front ++ (key, a.value) ∷ [];
+          starts = t.starts;
+          split = append_assoc t.taken ((key, p) ∷ []) later ∙ ap (λ (xs : List (Key × Place)). t.taken ++ xs) (sym split) ∙ t.split;
+          all = (subst (AllByRecursion (λ e. IsPlace shape e.1)) split t.all).1;
+          lives = lives;
+          goes = t.goes ∙ ap (λ (xs : List (Key × Place)). behind t.front (reading_from t.taken xs)) split
+              ∙ ap (behind t.front) (a.goes_on later) ∙ behind_one t.front (key, a.value) (reading_from now_taken later);
+          uses = uses;
+          left = left;
+          many = let more = length-append t.taken ((key, p) ∷ []) in let many = t.many in omega (arith, more, many);
+          read = λ none.
+              let far = walked walk' mid skips every none in
+              let more = reads_one_more shape t.taken key p in
+              let count : charge shape p.len + (far.1 + value_reads shape t.taken) ≡ far.1 + value_reads shape now_taken = omega (arith, more) in
+              (far.0, far.1, far.2, reads_sum old mid new (far.1 + value_reads shape t.taken) (charge shape p.len) (far.1 + value_reads shape now_taken) count far.3 ok);
+        }
+
+    pub TakenTo-refused : (mid new : BoardState) (e : PageError) → OnlyReads old mid → mid.pages ≡ old.pages → NotAccepted shape mid new limits named t.taken key p e
+        → (es : List (Key × Place)) → left_after start old.pages es → PartNotOpened (reading_from [] es) old new (opening_of e)
+    TakenTo-refused mid new (Damaged page) reads still why es left = (
+      ap (reading_from []) (sym (left_one t.starts left)) ∙ t.goes ∙ ap (λ (xs : List (Key × Place)). behind t.front (reading_from t.taken xs)) split
+          ∙ ap (behind t.front) (subst (λ (f : Flash). values_of shape (page_at f) limits named t.taken ((key, p) ∷ later) ≡ Err (damaged page)) still (why.refusal later)),
+      reads_both old mid new reads (reads_if (fits_after shape limits named t.taken (key, p)) (suc (page - p.page)) mid new why.board),
+    )
+    TakenTo-refused mid new Fault reads still why es left = counted_behind old mid new reads (why.1.reads.flash, why.1.reads.read)

@@ -1,8 +1,8 @@
 -- The frames that pinned levels need exist: only as many levels are pinned as have them.
 use Rattle.std.proofs.Common.{◌≡◌, ℕ, ◌≤◌, Bool, true, false, refl, arith}
-use Rattle.std.specs.Prelude.{nat_le, if◌then◌else◌}
+use Rattle.std.{specs.Prelude.nat_le, specs.Prelude.if◌then◌else◌, proofs.lemmas.Bool.leb-true}
 use Rattle.pk_base.specs.Shape.{Shape, need, pinned}
-use Rattle.pk_scan.{specs.OpeningParts.wanted_behind, proofs.RunsHeld.le_of}
+use Rattle.pk_scan.specs.OpeningParts.{wanted_behind}
 
 module _ (shape : Shape) (frames : ℕ) where
   abbrev Wants : ℕ → Type 0
@@ -19,5 +19,5 @@ module _ (shape : Shape) (frames : ℕ) where
   pub pinned_wants : wanted_behind shape (pinned shape frames) 0 ≤ frames
   pinned_wants =
       pick (nat_le (need shape 4) frames) (nat_le (need shape 3) frames) (nat_le (need shape 2) frames) (nat_le (need shape 1) frames)
-      (λ e. let h = le_of (need shape 4) frames e in omega (arith, h)) (λ e. let h = le_of (need shape 3) frames e in omega (arith, h))
-      (λ e. let h = le_of (need shape 2) frames e in omega (arith, h)) (λ e. let h = le_of (need shape 1) frames e in omega (arith, h))
+      (λ e. let h = leb-true (need shape 4) frames e in omega (arith, h)) (λ e. let h = leb-true (need shape 3) frames e in omega (arith, h))
+      (λ e. let h = leb-true (need shape 2) frames e in omega (arith, h)) (λ e. let h = leb-true (need shape 1) frames e in omega (arith, h))

@@ -1,28 +1,26 @@
 -- The whole of opening, by what its parts found.
-use Rattle.std.proofs.Common.{◌≡◌, ◌≢◌, inl, inr, ℕ, zero, suc, ◌+◌, ◌-◌, ◌<◌, ◌≤◌, true, List, [], ◌∷◌, length, drop, refl, sym, ap, subst, ◌∙◌, arith, Some, None, Result, Ok, Err}
-use Rattle.std.{specs.Prelude.nat_eq, specs.Prelude.◌==◌, specs.Prelude.◌++◌, specs.List.AllByRecursion, specs.List.list_all, specs.List.starts_with}
-use Rattle.pk_base.{specs.Key.Key, specs.Shape.Shape, specs.Shape.charge, specs.Shape.buffer, specs.Shape.root_pages, specs.Shape.pinned, specs.Entry.Entry, specs.Entry.Place, specs.Firsts.firsts}
-use Rattle.pk_base.{specs.EntryChecks.IsEntry, specs.EntryChecks.IsPlace, specs.Page.Page, specs.Page.Flash, specs.Page.page_at, specs.Page.erased, specs.Page.whole, specs.Page.torn}
-use Rattle.pk_base.specs.Refusal.{Refusal, damaged, ensure}
+use Rattle.std.{proofs.Common.◌≡◌, proofs.Common.ℕ, proofs.Common.◌+◌, proofs.Common.◌<◌, proofs.Common.◌≤◌, proofs.Common.true, proofs.Common.List, proofs.Common.[], specs.List.AllByRecursion}
+use Rattle.std.proofs.Common.{◌∷◌, length, refl, sym, ap, subst, ◌∙◌, arith, Some, None, Result, Ok, Err}
+use Rattle.pk_base.{specs.Shape.Shape, specs.Shape.buffer, specs.Shape.root_pages, specs.Shape.pinned, specs.Entry.Entry, specs.Firsts.firsts}
+use Rattle.pk_base.{specs.EntryChecks.IsEntry, specs.EntryChecks.IsPlace, specs.Page.Flash, specs.Page.page_at, specs.Refusal.Refusal, specs.Refusal.damaged}
 use Rattle.pk_nand.{specs.BoardState.BoardState, specs.Counts.after_reads}
-use Rattle.pk_segfmt.specs.Value.{head_bytes, value_page, value_from, value_at}
-use Rattle.pk_rootfmt.{specs.Root.Root, specs.Root.named, specs.Root.is_root, specs.Newest.newest_root, specs.Held.Held}
+use Rattle.pk_rootfmt.{specs.Root.Root, specs.Root.named, specs.Root.is_root, specs.Newest.newest_root}
 use Rattle.pk_buf.specs.Table.{Table}
 use Rattle.pk_jrn.{specs.Epochs.JournalEpoch, specs.Replays.buffer_of, proofs.Puts.firsts-reverse, specs.EpochReads.epoch_reads}
 use Rattle.pk_pin.specs.Frames.{Frames, free_frames}
-use Rattle.pk_level.{specs.Levels.Levels, specs.Arenas.HasArena, specs.Arenas.leases_of}
+use Rattle.pk_level.{specs.Levels.Levels, specs.Arenas.leases_of}
 use Rattle.pk_live.specs.Values.{no_values, Values}
 use Rattle.pk_walk.{specs.Visible.visible, specs.Walking.Walk, specs.Walking.IsLeft, specs.Walking.most_read}
 use Rattle.pk_plan.specs.declared.owner.Owner.TheVariants.{Values as for_values}
 use Rattle.pk_pool.specs.Blocks.{Blocks, used_by, unused}
-use Rattle.pk_model.{specs.Found.Found, specs.Found.found_under, specs.Found.entries_in_order, specs.Laws.IsPageOf, specs.Reading.reading, proofs.StrangePages.bind_ok, specs.RootLimits.root_limits}
-use Rattle.pk_model.specs.Values.{placed, values_of, all_pages, blocks_with, fits_after}
+use Rattle.pk_model.{specs.Found.Found, specs.Found.found_under, specs.Found.entries_in_order, specs.Reading.reading, specs.RootLimits.root_limits}
+use Rattle.pk_model.specs.Values.{placed, values_of, all_pages, blocks_with}
 use Rattle.pk_model.proofs.Entries.{counting_all, journal_are, meta_are}
-use Rattle.pk_law_steps.specs.Under.{IsValuePage, places}
+use Rattle.pk_law_steps.{specs.Under.places, proofs.Untouched.value_page_whole, proofs.Untouched.not_erased}
 use Rattle.pk_scan.{specs.Starting.IsAtStart, specs.Opening.OnlyReads, specs.Opening.NotOpened, specs.Runs.LeasedMore, specs.declared.contents.Found.Found as Opened, specs.Adopts.HasOwners}
 use Rattle.pk_scan.{specs.OpeningParts.PartNotOpened, specs.OpeningParts.HoldsFound, specs.OpeningParts.ReadsValues, specs.OpeningParts.wanted_behind, specs.declared.contents.Memory.Memory as Working}
 use Rattle.pk_scan.specs.Memory.{FoundNothing, IsUnread, AwaitsLists, HoldsLists, LoadsLists, FindsLists, AwaitsValues}
-use Rattle.pk_scan.specs.declared.errors.OpenError.TheVariants.{NotFormatted, Damaged, Fault, Memory}
+use Rattle.pk_scan.specs.declared.errors.OpenError.TheVariants.{NotFormatted, Damaged}
 use Rattle.pk_scan.{specs.Opened.FoundOnFlash, specs.Reads.opening_reads, specs.Reads.reads_under, specs.Reads.list_reads, specs.Reads.value_reads, specs.Reads.pages_of_runs, specs.Reads.run_reads}
 use Rattle.pk_scan.{proofs.Boards.reads_sum, proofs.RunReads.run_reads_are, specs.declared.errors.OpenError.OpenError, proofs.Leasing.arena_opened, proofs.Room.frames_enough, specs.Used.IsUseOf}
 use Rattle.pk_scan.{proofs.Opened.behind_reads, proofs.Under.visible_places, proofs.Under.found_refuses, proofs.Under.values_refuse, proofs.Under.stands_under}
@@ -43,8 +41,8 @@ entries_are shape flash root found is =
 pub places_are : (shape : Shape) (flash : Flash) (root : Root) (found : Found) → found_under shape (page_at flash) root ≡ Ok found → AllByRecursion (λ e. IsPlace shape e.1) (places found [])
 places_are shape flash root found is = placed_all shape (firsts (entries_in_order found [])) (entries_are shape flash root found is)
 
-module _ (shape : Shape) (flash : Flash) (root : Root) (active frozen : Table) (epoch : JournalEpoch) (arena : Frames)
-    (levels : Levels) (found : Found) (held : HoldsFound shape flash root active frozen epoch arena levels found) where
+module _ {shape : Shape} {flash : Flash} {root : Root} {active frozen : Table} {epoch : JournalEpoch} {arena : Frames} {levels : Levels} {found : Found}
+    (held : HoldsFound shape flash root active frozen epoch arena levels found) where
   -- a walk that is at its start has them still to give
   pub left_to_give : (walk : Walk) → IsAtStart walk → IsLeft walk flash arena levels.runs active.entries frozen.entries (places found [])
   left_to_give walk starts =
@@ -54,46 +52,11 @@ module _ (shape : Shape) (flash : Flash) (root : Root) (active frozen : Table) (
       subst (IsLeft walk flash arena levels.runs active.entries frozen.entries) all (starts.gives flash arena levels.runs active.entries frozen.entries found.runs held.stand)
 
   -- the entries of the newest epoch have room in a write buffer
-  pub few_newest : length active.entries ≤ active.capacity → length (firsts found.newest) ≤ buffer shape
+  few_newest : length active.entries ≤ active.capacity → length (firsts found.newest) ≤ buffer shape
   few_newest room =
       let here = subst (λ (t : Table). length t.entries ≤ t.capacity) held.active_is room in
       let same = firsts-reverse found.newest in
       omega (arith, here, same)
-
--- ---- the pages of values
-
-module _ (shape : Shape) (at : ℕ → Page) where
-  from_written : (page : ℕ) (front : List ℕ) (left n : ℕ) (bytes : List ℕ) → value_from shape at page front left n ≡ Ok bytes → (k : ℕ) → page ≤ k → k < page + n → at k ≢ erased
-  from_written page front left zero bytes ok k low high is = absurd (omega (arith, low, high))
-  from_written page front left (suc n) bytes ok k low high is =
-      elim (at page) as (λ p. at page ≡ p → value_page page front left p (λ b. value_from shape at (page + 1) [] (left - shape.page_bytes) n) ≡ Ok bytes → ⊥) [
-        | erased ↦ λ e f. cc
-        | torn ↦ λ e f. cc
-        | whole b ↦ λ e f.
-            let first = bind_ok (ensure (starts_with nat_eq b front) page) _ bytes f in
-            let second = bind_ok (ensure (list_all (λ x. x == 0) (drop left b)) page) _ bytes first.2 in
-            let third = bind_ok (value_from shape at (page + 1) [] (left - shape.page_bytes) n) _ bytes second.2 in
-            let other : page ≢ k = λ same. let clash : whole b ≡ erased = sym e ∙ ap at same ∙ is in cc in
-            from_written (page + 1) [] (left - shape.page_bytes) n third.0 third.1 k (omega (arith, low, other)) (omega (arith, high)) is
-      ] refl ok
-
-  value_written : (key : Key) (place : Place) (v : List ℕ) → value_at shape at key place ≡ Ok v → (k : ℕ) → IsPageOf shape k place → at k ≢ erased
-  unfolding value_at
-  value_written key place v ok k is =
-      let bytes = bind_ok (value_from shape at place.page (head_bytes key place.len) (32 + place.len) (charge shape place.len)) _ v ok in
-      from_written place.page (head_bytes key place.len) (32 + place.len) (charge shape place.len) bytes.0 bytes.1 k is.0 is.1
-
-  pub values_written : (limits named : List ℕ) (taken es : List (Key × Place)) (vs : List (Key × List ℕ)) → values_of shape at limits named taken es ≡ Ok vs → (k : ℕ) → IsValuePage shape es k → at k ≢ erased
-  unfolding values_of
-  values_written limits named taken [] vs ok k is = absurd is
-  values_written limits named taken (e ∷ es) vs ok k is =
-      let room = bind_ok (ensure (fits_after shape limits named taken e) e.1.page) _ vs ok in
-      let value = bind_ok (value_at shape at e.0 e.1) _ vs room.2 in
-      let others = bind_ok (values_of shape at limits named (taken ++ e ∷ []) es) _ vs value.2 in
-      elim is [
-        | inl here ↦ value_written e.0 e.1 value.0 value.1 k here
-        | inr there ↦ values_written limits named (taken ++ e ∷ []) es others.0 others.1 k there
-      ]
 
 -- ---- refusals
 
@@ -102,8 +65,7 @@ pub as_whole : {X : Type 0} (part : Result X Refusal) (shape : Shape) (old new :
     → ((refusal : Refusal) → part ≡ Err refusal → reading shape old.pages [] ≡ Err refusal) → PartNotOpened part old new e → NotOpened shape old new e
 as_whole part shape old new NotFormatted passes why = absurd why
 as_whole part shape old new (Damaged page) passes why = (passes (damaged page) why.0, why.1)
-as_whole part shape old new Fault passes why = why
-as_whole part shape old new Memory passes why = why
+as_whole part shape old new _ passes why = why
 
 module _ (shape : Shape) (page : ℕ) (root : Root) (old : BoardState) (top : newest_root shape (page_at old.pages) ≡ Some (page, root))
     (now : BoardState) (reads : OnlyReads old now) (same : now.pages ≡ old.pages) where
@@ -111,86 +73,24 @@ module _ (shape : Shape) (page : ℕ) (root : Root) (old : BoardState) (top : ne
   lists_refuse new e why =
       let part = found_under shape (page_at old.pages) root in
       as_whole part shape old new e (found_refuses shape old.pages page root top)
-      (behind_reads part old now new e reads same (subst (λ (f : Flash). PartNotOpened (found_under shape (page_at f) root) now new e) same why))
+      (behind_reads part old now new e reads (subst (λ (f : Flash). PartNotOpened (found_under shape (page_at f) root) now new e) same why))
 
   pub values_refused : (found : Found) → found_under shape (page_at old.pages) root ≡ Ok found → length (firsts found.newest) ≤ buffer shape → (new : BoardState) (e : OpenError)
       → PartNotOpened (values_of shape (page_at now.pages) (root_limits shape root) (named root) [] (places found [])) now new e → NotOpened shape old new e
   values_refused found is room new e why =
       let part = values_of shape (page_at old.pages) (root_limits shape root) (named root) [] (places found []) in
       as_whole part shape old new e (values_refuse shape old.pages page root top found is room)
-      (behind_reads part old now new e reads same (subst (λ (f : Flash). PartNotOpened (values_of shape (page_at f) (root_limits shape root) (named root) [] (places found [])) now new e) same why))
+      (behind_reads part old now new e reads (subst (λ (f : Flash). PartNotOpened (values_of shape (page_at f) (root_limits shape root) (named root) [] (places found [])) now new e) same why))
 
--- ---- all that is on the flash
-
-module _ {A : Type 0} (shape : Shape) (flash : Flash) (frames : ℕ) (f : Opened A) (found : Found) (held : HoldsFound shape flash f.root.root f.active f.frozen f.epoch f.arena f.levels found)
-    (top : newest_root shape (page_at flash) ≡ Some (f.root_page, f.root.root)) (pinned_is : f.levels.pinned ≡ pinned shape frames)
-    (live : Values) (values : ReadsValues shape flash (root_limits shape f.root.root) (named f.root.root) live (places found [])) where
-  pub is_opened : f.root.shape ≡ shape → is_root shape f.root.root ≡ true → f.root_page < root_pages shape → f.levels.shape ≡ shape → length f.active.entries ≤ f.active.capacity
-      → HasArena shape frames f.levels f.arena [] → (pool : Blocks) → HasOwners shape f.root.root live pool
-      → used_by for_values pool.states ≡ length (blocks_with shape (all_pages shape (places found [])))
-      → (u : Use) → IsUseOf shape u (places found []) → FoundOnFlash shape flash frames (record f { live = live; pool = pool; spaces = u })
-  is_opened shape_is grammar place levels_shape room arena_is pool owners values_are u uses =
-      let under = stands_under shape flash f.root_page f.root.root top found held.finds
-      (few_newest shape flash f.root.root f.active f.frozen f.epoch f.arena f.levels found held room) values.values values.read in
-      record {
-        found = found;
-        map = under.0;
-        lists = record {
-          shape_is = shape_is;
-          grammar = grammar;
-          place = place;
-          under = under.1;
-          active_is = held.active_is;
-          frozen_is = held.frozen_is;
-          epoch_is = held.epoch_is;
-          epoch_fits = held.epoch_fits;
-          levels_shape = levels_shape;
-          levels_pinned = pinned_is;
-          stand = held.stand;
-          run_blocks = held.run_blocks;
-          arena_is = arena_is;
-        };
-        blocks = record {
-          lives = values.lives;
-          written = values_written shape (page_at flash) (root_limits shape f.root.root) (named f.root.root) [] (places found []) values.values values.read;
-          owners = owners;
-          values_are = values_are;
-        };
-        uses = uses;
-      }
-
-  opened_is : opening_reads shape flash frames ≡ root_pages shape + epoch_reads shape (page_at flash) f.root.root.older + epoch_reads shape
-      (page_at flash) f.root.root.newest + run_reads shape (pinned shape frames) 1 f.root.root.counts + value_reads shape (places found [])
-  unfolding opening_reads reads_under
-  opened_is = rw (top, held.finds) refl
-
-  -- what was read, part by part
-  pub opened_reads : (old now new : BoardState) → now ≡ after_reads (root_pages shape + list_reads shape (page_at flash) f.root.root) old
-      → new ≡ after_reads (most_read f.levels.runs + value_reads shape (places found [])) now → new ≡ after_reads (opening_reads shape flash frames) old
-  opened_reads old now new first second =
-      let root = f.root.root in
-      let runs = run_reads_are shape flash f.arena f.levels.pinned 1 f.levels.runs found.runs root.runs root.counts held.stand held.run_blocks held.run_frames in
-      let pins = ap (λ (n : ℕ). run_reads shape n 1 root.counts) pinned_is in
-      reads_sum old now new (root_pages shape + list_reads shape (page_at flash) root) (most_read f.levels.runs + value_reads shape (places found [])) (opening_reads shape flash frames)
-      (sum (root_pages shape) (epoch_reads shape (page_at flash) root.older) (epoch_reads shape (page_at flash) root.newest)
-      (pages_of_runs shape root.counts) (most_read f.levels.runs) (run_reads shape (pinned shape frames) 1 root.counts)
-      (value_reads shape (places found [])) (runs ∙ pins) ∙ sym opened_is) first second
-    where
-      sum : (roots older newest once again all values : ℕ) → once + again ≡ all → (again + values) + (roots + (older + newest + once)) ≡ roots + older + newest + all + values
-      sum roots older newest once again all values e = omega (arith, e)
+-- ---- lists
 
 -- the lists were read after the root
-pub root_then_lists : (shape other : Shape) (root : Root) (old now new : BoardState) → other ≡ shape
-    → now ≡ after_reads (root_pages shape) old → now.pages ≡ old.pages → new ≡ after_reads (list_reads other (page_at now.pages) root) now
-    → new ≡ after_reads (root_pages shape + list_reads shape (page_at old.pages) root) old
-root_then_lists shape other root old now new is first same second =
-    let there : new ≡ after_reads (list_reads shape (page_at now.pages) root) now = subst (λ (s : Shape). new ≡ after_reads (list_reads s (page_at now.pages) root) now) is second in
-    let here : new ≡ after_reads (list_reads shape (page_at old.pages) root) now = subst (λ (f : Flash). new ≡ after_reads (list_reads shape (page_at f) root) now) same there in
-    reads_sum old now new (root_pages shape) (list_reads shape (page_at old.pages) root)
-    (root_pages shape + list_reads shape (page_at old.pages) root) (swap (list_reads shape (page_at old.pages) root) (root_pages shape)) first here
-  where
-    swap : (m n : ℕ) → m + n ≡ n + m
-    swap m n = omega arith
+pub root_then_lists : (shape : Shape) (root : Root) (old now new : BoardState) → now ≡ after_reads (root_pages shape) old → now.pages ≡ old.pages
+    → new ≡ after_reads (list_reads shape (page_at now.pages) root) now → new ≡ after_reads (root_pages shape + list_reads shape (page_at old.pages) root) old
+root_then_lists shape root old now new first same second =
+    let lists : ℕ = list_reads shape (page_at old.pages) root in
+    let sum : lists + root_pages shape ≡ root_pages shape + lists = omega arith in
+    reads_sum old now new (root_pages shape) lists (root_pages shape + lists) sum first (subst (λ (f : Flash). new ≡ after_reads (list_reads shape (page_at f) root) now) same second)
 
 -- the root was found, and after it the lists
 pub finds_lists : {A : Type 0} (flash now : Flash) (old mid new : Opened A) (found : Found)
@@ -202,12 +102,10 @@ finds_lists flash now old mid new found kept shape levels arena same top place g
     let root_is : new.root ≡ mid.root = ap (λ x. x.root) kept in
     let page_is : new.root_page ≡ mid.root_page = ap (λ x. x.root_page) kept in
     record {
-      top = subst (λ (p : ℕ). newest_root old.root.shape (page_at flash) ≡ Some (p, new.root.root)) (sym page_is)
-          (subst (λ (r : Held). newest_root old.root.shape (page_at flash) ≡ Some (mid.root_page, r.root)) (sym root_is) top);
-      place = subst (λ (p : ℕ). p < root_pages old.root.shape) (sym page_is) place;
-      grammar = subst (λ (r : Held). is_root old.root.shape r.root ≡ true) (sym root_is) grammar;
-      held = subst (λ (r : Held). HoldsFound old.root.shape flash r.root new.active new.frozen new.epoch new.arena new.levels found) (sym root_is)
-          (subst (λ (f : Flash). HoldsFound old.root.shape f mid.root.root new.active new.frozen new.epoch new.arena new.levels found) same
+      top = rw (page_is, root_is) top;
+      place = rw page_is place;
+      grammar = rw root_is grammar;
+      held = rw root_is (subst (λ (f : Flash). HoldsFound old.root.shape f mid.root.root new.active new.frozen new.epoch new.arena new.levels found) same
           (subst (λ (s : Shape). HoldsFound s now mid.root.root new.active new.frozen new.epoch new.arena new.levels found) shape loads.held));
       few = few;
       more = subst (λ (a : Frames). LeasedMore a new.arena (leases_of new.levels.runs)) arena loads.more;
@@ -217,62 +115,87 @@ finds_lists flash now old mid new found kept shape levels arena same top place g
 
 -- ---- in one call
 
-module _ {A : Type 0} (shape a : Shape) (f : Opened A) (is : a ≡ shape) (root_is : f.root.shape ≡ a) (old now : BoardState)
-    (same : now.pages ≡ old.pages) (frames : ℕ) (before : Opened A) (before_is : before.root.shape ≡ a) (found : Found)
-    (finds : FindsLists old.pages before f found) where
-  held_old : HoldsFound a old.pages f.root.root f.active f.frozen f.epoch f.arena f.levels found
-  held_old = subst (λ (s : Shape). HoldsFound s old.pages f.root.root f.active f.frozen f.epoch f.arena f.levels found) before_is finds.held
-
+module _ {A : Type 0} {shape : Shape} {frames : ℕ} {before f : Opened A} {found : Found} (old now : BoardState) (unread : FoundNothing shape frames before)
+    (root_is : f.root.shape ≡ before.root.shape) (same : now.pages ≡ old.pages) (finds : FindsLists old.pages before f found) where
   -- the lists still match the board after them
   pub held_behind : HoldsLists now.pages f found
   held_behind =
       subst (λ (x : Flash). HoldsFound f.root.shape x f.root.root f.active f.frozen f.epoch f.arena f.levels found) (sym same)
-      (subst (λ (s : Shape). HoldsFound s old.pages f.root.root f.active f.frozen f.epoch f.arena f.levels found) (sym root_is) held_old)
+      (subst (λ (s : Shape). HoldsFound s old.pages f.root.root f.active f.frozen f.epoch f.arena f.levels found) (sym root_is) finds.held)
 
   held_here : HoldsFound shape old.pages f.root.root f.active f.frozen f.epoch f.arena f.levels found
-  held_here = subst (λ (s : Shape). HoldsFound s old.pages f.root.root f.active f.frozen f.epoch f.arena f.levels found) is held_old
+  held_here = subst (λ (s : Shape). HoldsFound s old.pages f.root.root f.active f.frozen f.epoch f.arena f.levels found) unread.root_shape finds.held
 
   shape_is : f.root.shape ≡ shape
-  shape_is = root_is ∙ is
-
-  from_before : before.root.shape ≡ shape
-  from_before = before_is ∙ is
-
-  values_here : (live : Values) → ReadsValues f.root.shape now.pages (root_limits f.root.shape f.root.root) (named f.root.root) live (places found []) → ReadsValues shape old.pages (root_limits shape f.root.root) (named f.root.root) live (places found [])
-  values_here live values =
-      subst (λ (s : Shape). ReadsValues s old.pages (root_limits s f.root.root) (named f.root.root) live (places found [])) shape_is
-      (subst (λ (x : Flash). ReadsValues f.root.shape x (root_limits f.root.shape f.root.root) (named f.root.root) live (places found [])) same values)
+  shape_is = root_is ∙ unread.root_shape
 
   top_here : newest_root shape (page_at old.pages) ≡ Some (f.root_page, f.root.root)
-  top_here = subst (λ (s : Shape). newest_root s (page_at old.pages) ≡ Some (f.root_page, f.root.root)) from_before finds.top
+  top_here = subst (λ (s : Shape). newest_root s (page_at old.pages) ≡ Some (f.root_page, f.root.root)) unread.root_shape finds.top
 
   pub scan_refuses : OnlyReads old now → (new : BoardState) (e : OpenError)
       → PartNotOpened (values_of f.root.shape (page_at now.pages) (root_limits f.root.shape f.root.root) (named f.root.root) [] (places found [])) now new e → NotOpened shape old new e
   scan_refuses reads new e why =
-      values_refused shape f.root_page f.root.root old top_here now reads same found held_here.finds
-      (few_newest shape old.pages f.root.root f.active f.frozen f.epoch f.arena f.levels found held_here finds.few) new e
+      values_refused shape f.root_page f.root.root old top_here now reads same found held_here.finds (few_newest held_here finds.few) new e
       (subst (λ (s : Shape). PartNotOpened (values_of s (page_at now.pages) (root_limits s f.root.root) (named f.root.root) [] (places found [])) now new e) shape_is why)
 
-  module _ (unread : FoundNothing shape frames before) (live : Values) (values : ReadsValues f.root.shape now.pages (root_limits f.root.shape f.root.root) (named f.root.root) live (places found [])) where
-    pinned_here : f.levels.pinned ≡ pinned shape frames
-    pinned_here = finds.pinned_is ∙ ap (λ (l : Levels). l.pinned) unread.no_run
+  pinned_here : f.levels.pinned ≡ pinned shape frames
+  pinned_here = finds.pinned_is ∙ ap (λ (l : Levels). l.pinned) unread.no_run
 
-    pub scan_opened : (pool : Blocks) → HasOwners f.root.shape f.root.root live pool → used_by for_values pool.states ≡ length (blocks_with f.root.shape (all_pages f.root.shape (places found [])))
-        → (u : Use) → IsUseOf f.root.shape u (places found []) → FoundOnFlash shape old.pages frames (record f { live = live; pool = pool; spaces = u })
-    scan_opened pool owners values_are u uses =
-        is_opened shape old.pages frames f found held_here top_here pinned_here live (values_here live values) shape_is
-        (subst (λ (s : Shape). is_root s f.root.root ≡ true) from_before finds.grammar)
-        (subst (λ (s : Shape). f.root_page < root_pages s) from_before finds.place) (finds.levels_shape ∙ from_before) finds.few
-        (arena_opened shape frames before.arena f.arena f.levels f.root.root.counts finds.held.run_frames (finds.levels_shape ∙ from_before) pinned_here unread.page_bytes unread.all_free finds.more)
-        pool (subst (λ (s : Shape). HasOwners s f.root.root live pool) shape_is owners)
-        (subst (λ (s : Shape). used_by for_values pool.states ≡ length (blocks_with s (all_pages s (places found [])))) shape_is values_are) u (subst (λ (s : Shape). IsUseOf s u (places found [])) shape_is uses)
+  pub scan_opened : (live : Values) → ReadsValues f.root.shape now.pages (root_limits f.root.shape f.root.root) (named f.root.root) live (places found []) → (pool : Blocks) → HasOwners f.root.shape f.root.root live pool
+      → used_by for_values pool.states ≡ length (blocks_with f.root.shape (all_pages f.root.shape (places found []))) → (u : Use) → IsUseOf f.root.shape u (places found [])
+      → FoundOnFlash shape old.pages frames (record f { live = live; pool = pool; spaces = u })
+  scan_opened live there pool owners values_are u uses =
+      let values = subst (λ (s : Shape). ReadsValues s old.pages (root_limits s f.root.root) (named f.root.root) live (places found [])) shape_is
+      (subst (λ (x : Flash). ReadsValues f.root.shape x (root_limits f.root.shape f.root.root) (named f.root.root) live (places found [])) same there) in
+      let under = stands_under shape old.pages f.root_page f.root.root top_here found held_here.finds (few_newest held_here finds.few) values.values values.read in
+      record {
+        found = found;
+        map = under.0;
+        lists = record {
+          shape_is = shape_is;
+          grammar = subst (λ (s : Shape). is_root s f.root.root ≡ true) unread.root_shape finds.grammar;
+          place = subst (λ (s : Shape). f.root_page < root_pages s) unread.root_shape finds.place;
+          under = under.1;
+          active_is = held_here.active_is;
+          frozen_is = held_here.frozen_is;
+          epoch_is = held_here.epoch_is;
+          epoch_fits = held_here.epoch_fits;
+          levels_shape = finds.levels_shape ∙ unread.root_shape;
+          levels_pinned = pinned_here;
+          stand = held_here.stand;
+          run_blocks = held_here.run_blocks;
+          arena_is = arena_opened shape frames before.arena f.arena f.levels f.root.root.counts finds.held.run_frames
+              (finds.levels_shape ∙ unread.root_shape) pinned_here unread.page_bytes unread.all_free finds.more;
+        };
+        blocks = record {
+          lives = values.lives;
+          written = λ k is. not_erased (page_at old.pages k) (value_page_whole shape old.pages [] (f.root_page, f.root.root) found under.0 under.1 k is);
+          owners = subst (λ (s : Shape). HasOwners s f.root.root live pool) shape_is owners;
+          values_are = subst (λ (s : Shape). used_by for_values pool.states ≡ length (blocks_with s (all_pages s (places found [])))) shape_is values_are;
+        };
+        uses = subst (λ (s : Shape). IsUseOf s u (places found [])) shape_is uses;
+      }
 
-    pub scan_reads : (new : BoardState) → now ≡ after_reads (root_pages before.root.shape + list_reads before.root.shape (page_at old.pages) f.root.root) old
-        → new ≡ after_reads (most_read f.levels.runs + value_reads f.root.shape (places found [])) now → new ≡ after_reads (opening_reads shape old.pages frames) old
-    scan_reads new first second =
-        opened_reads shape old.pages frames f found held_here top_here pinned_here live (values_here live values) old now new
-        (subst (λ (s : Shape). now ≡ after_reads (root_pages s + list_reads s (page_at old.pages) f.root.root) old) from_before first)
-        (subst (λ (s : Shape). new ≡ after_reads (most_read f.levels.runs + value_reads s (places found [])) now) shape_is second)
+  opened_is : opening_reads shape old.pages frames ≡ root_pages shape + epoch_reads shape (page_at old.pages) f.root.root.older + epoch_reads shape
+      (page_at old.pages) f.root.root.newest + run_reads shape (pinned shape frames) 1 f.root.root.counts + value_reads shape (places found [])
+  unfolding opening_reads reads_under
+  opened_is = rw (top_here, held_here.finds) refl
+
+  -- what was read, part by part
+  pub scan_reads : (new : BoardState) → now ≡ after_reads (root_pages before.root.shape + list_reads before.root.shape (page_at old.pages) f.root.root) old
+      → new ≡ after_reads (most_read f.levels.runs + value_reads f.root.shape (places found [])) now → new ≡ after_reads (opening_reads shape old.pages frames) old
+  scan_reads new first second =
+      let root = f.root.root in
+      let runs = run_reads_are shape old.pages f.arena f.levels.pinned 1 f.levels.runs found.runs root.runs root.counts held_here.stand held_here.run_blocks held_here.run_frames in
+      reads_sum old now new (root_pages shape + list_reads shape (page_at old.pages) root) (most_read f.levels.runs + value_reads shape (places found [])) (opening_reads shape old.pages frames)
+      (sum (root_pages shape) (epoch_reads shape (page_at old.pages) root.older) (epoch_reads shape (page_at old.pages) root.newest)
+      (pages_of_runs shape root.counts) (most_read f.levels.runs) (run_reads shape (pinned shape frames) 1 root.counts)
+      (value_reads shape (places found [])) (runs ∙ ap (λ (n : ℕ). run_reads shape n 1 root.counts) pinned_here) ∙ sym opened_is)
+      (subst (λ (s : Shape). now ≡ after_reads (root_pages s + list_reads s (page_at old.pages) root) old) unread.root_shape first)
+      (subst (λ (s : Shape). new ≡ after_reads (most_read f.levels.runs + value_reads s (places found [])) now) shape_is second)
+    where
+      sum : (roots older newest once again all values : ℕ) → once + again ≡ all → (again + values) + (roots + (older + newest + once)) ≡ roots + older + newest + all + values
+      sum roots older newest once again all values e = omega (arith, e)
 
 -- an arena of free frames has those that are wanted
 pub awaits_lists : {A : Type 0} (shape : Shape) (frames : ℕ) (f : Opened A) → FoundNothing shape frames f → AwaitsLists f

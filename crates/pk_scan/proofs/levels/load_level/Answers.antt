@@ -1,10 +1,10 @@
 use Rattle.std.proofs.Common.{◌≡◌, ◌∙◌, ℕ, ◌*◌, ◌≤◌, length, refl, sym, ap, subst, arith}
-use Rattle.std.specs.Prelude.{nat_le}
+use Rattle.std.{specs.Prelude.nat_le, proofs.lemmas.Bool.leb-true}
 use Rattle.pk_base.{specs.Shape.Shape, specs.Shape.IsShape, specs.Shape.cap, specs.Shape.page_entries, specs.Shape.run_pages, specs.Shape.run_blocks, proofs.ShapeLemmas.entries_some}
 use Rattle.pk_model.specs.RootLimits.{root_spaces}
 use Rattle.pk_run.specs.Kept.{Kept, empty}
 use Rattle.pk_scan.{specs.Runs.MayLoadRun, specs.Runs.HasRun, specs.Runs.NotRead, proofs.Boards.reads_none, proofs.Boards.stays_same, proofs.Boards.stays_ready_behind, proofs.Rereading.pages_most}
-use Rattle.pk_scan.{proofs.RootFacts.level_few, proofs.RootFacts.level_blocks, proofs.RootFacts.level_exist, proofs.RunsHeld.level_loaded, proofs.RunsHeld.level_not_loaded, proofs.RunsHeld.le_of}
+use Rattle.pk_scan.{proofs.RootFacts.level_few, proofs.RootFacts.level_blocks, proofs.RootFacts.level_exist, proofs.RunsHeld.level_loaded, proofs.RunsHeld.level_not_loaded}
 use Rattle.pk_nand.specs.Counts.{after_reads}
 use Rattle.pk_scan.proofs.levels.load_level.Goals as goal
 
@@ -24,7 +24,7 @@ load_run-requires-clause-may g c =
       exist = level_exist c.args.root.now.shape c.args.root.now.root c.requires.may.grammar c.args.level c.blocks-blocks.result.now c.blocks-blocks.ensures;
       page_bytes = c.requires.may.page_bytes;
       free = λ pins.
-          let low = le_of c.args.level c.pinned.result pins in
+          let low = leb-true c.args.level c.pinned.result pins in
           let free = c.requires.may.free (omega (arith, low, c.pinned.ensures)) in
           omega (arith, pages, free);
     })

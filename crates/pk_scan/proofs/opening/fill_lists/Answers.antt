@@ -1,8 +1,5 @@
-use Rattle.std.proofs.Common.{◌≡◌, ◌+◌, refl, sym, ap, subst}
-use Rattle.pk_base.{specs.Page.page_at, specs.Shape.root_pages}
-use Rattle.pk_nand.specs.Counts.{after_reads}
-use Rattle.pk_rootfmt.specs.Root.{Root}
-use Rattle.pk_scan.{specs.Reads.list_reads, proofs.Boards.stays_both, proofs.Whole.root_then_lists, proofs.Whole.lists_refuse, proofs.Whole.finds_lists}
+use Rattle.std.proofs.Common.{refl, ap}
+use Rattle.pk_scan.{proofs.Boards.stays_both, proofs.Whole.root_then_lists, proofs.Whole.lists_refuse, proofs.Whole.finds_lists}
 use Rattle.pk_scan.proofs.opening.fill_lists.Goals as goal
 
 pub returns-in-Ok-read_lists-clause-finds : goal.returns-in-Ok-read_lists-clause-finds
@@ -16,11 +13,9 @@ returns-in-Ok-read_lists-clause-finds g c =
 
 pub returns-in-Ok-read_lists-clause-reads : goal.returns-in-Ok-read_lists-clause-reads
 returns-in-Ok-read_lists-clause-reads g c =
-    let shape = c.args.memory.now.found.root.shape in
-    let old = g.B.Nand.state c.args.board.now in
-    subst (λ (r : Root). g.B.Nand.state c.read_lists.new.board ≡ after_reads (root_pages shape + list_reads shape (page_at old.pages) r) old) (sym (ap (λ x. x.root.root) c.read_lists.ensures.kept))
-    (root_then_lists shape c.find_root.new.root.shape c.find_root.new.root.root old (g.B.Nand.state c.find_root.new.board) (g.B.Nand.state c.read_lists.new.board)
-    c.find_root.ensures.shape c.in-Ok.ensures.reads c.find_root.ensures.board.pages c.in-Ok-read_lists.ensures.reads)
+    rw (ap (λ x. x.root.root) c.read_lists.ensures.kept)
+    (root_then_lists c.args.memory.now.found.root.shape c.find_root.new.root.root (g.B.Nand.state c.args.board.now) (g.B.Nand.state c.find_root.new.board) (g.B.Nand.state c.read_lists.new.board)
+    c.in-Ok.ensures.reads c.find_root.ensures.board.pages (rw c.find_root.ensures.shape at c.in-Ok-read_lists.ensures.reads))
 
 pub returns-in-Err-read_lists-clause-err : goal.returns-in-Err-read_lists-clause-err
 returns-in-Err-read_lists-clause-err g c =
@@ -29,11 +24,7 @@ returns-in-Err-read_lists-clause-err g c =
     (g.B.Nand.state c.read_lists.new.board) c.in-Err-read_lists.error (rw c.find_root.ensures.shape at c.in-Err-read_lists.ensures.err)
 
 pub returns-in-Ok-read_lists-clause-board : goal.returns-in-Ok-read_lists-clause-board
-returns-in-Ok-read_lists-clause-board g c =
-    stays_both c.args.memory.now.found.root.shape (g.B.Nand.state c.args.board.now) (g.B.Nand.state c.find_root.new.board)
-    (g.B.Nand.state c.read_lists.new.board) c.find_root.ensures.board (rw c.find_root.ensures.shape at c.read_lists.ensures.board)
+returns-in-Ok-read_lists-clause-board g c = stays_both c.args.memory.now.found.root.shape _ _ _ c.find_root.ensures.board (rw c.find_root.ensures.shape at c.read_lists.ensures.board)
 
 pub returns-in-Err-read_lists-clause-board : goal.returns-in-Err-read_lists-clause-board
-returns-in-Err-read_lists-clause-board g c =
-    stays_both c.args.memory.now.found.root.shape (g.B.Nand.state c.args.board.now) (g.B.Nand.state c.find_root.new.board)
-    (g.B.Nand.state c.read_lists.new.board) c.find_root.ensures.board (rw c.find_root.ensures.shape at c.read_lists.ensures.board)
+returns-in-Err-read_lists-clause-board g c = stays_both c.args.memory.now.found.root.shape _ _ _ c.find_root.ensures.board (rw c.find_root.ensures.shape at c.read_lists.ensures.board)

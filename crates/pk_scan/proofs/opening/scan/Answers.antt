@@ -18,20 +18,16 @@ fill_values-requires-clause-awaits g c =
 
 pub fill_values-requires-clause-held : goal.fill_values-requires-clause-held
 fill_values-requires-clause-held g c =
-    let finds = c.in-Ok-fill_lists.ensures.finds in (
-      finds.0,
-      held_behind c.args.shape c.in-Ok.memory.found.root.shape c.fill_lists.new.memory.found c.in-Ok.ensures.nothing.root_shape c.fill_lists.ensures.shape
-          (g.B.Nand.state c.args.board.now) (g.B.Nand.state c.fill_lists.new.board) c.fill_lists.ensures.board.pages
-          c.args.frames c.in-Ok.memory.found refl finds.0 finds.1,
-    )
+    let finds = c.in-Ok-fill_lists.ensures.finds in
+    let old = g.B.Nand.state c.args.board.now in
+    let now = g.B.Nand.state c.fill_lists.new.board in
+    (finds.0, held_behind old now c.in-Ok.ensures.nothing c.fill_lists.ensures.shape c.fill_lists.ensures.board.pages finds.1)
 
 pub adopt_values-requires : goal.adopt_values-requires
 adopt_values-requires g c =
     let l = c.fill_lists.new.memory.found in
     let finds = c.in-Ok-fill_lists.ensures.finds in
-    let held = held_behind c.args.shape c.in-Ok.memory.found.root.shape l c.in-Ok.ensures.nothing.root_shape c.fill_lists.ensures.shape
-    (g.B.Nand.state c.args.board.now) (g.B.Nand.state c.fill_lists.new.board) c.fill_lists.ensures.board.pages
-    c.args.frames c.in-Ok.memory.found refl finds.0 finds.1 in
+    let held = held_behind (g.B.Nand.state c.args.board.now) (g.B.Nand.state c.fill_lists.new.board) c.in-Ok.ensures.nothing c.fill_lists.ensures.shape c.fill_lists.ensures.board.pages finds.1 in
     let root_is = ap (λ m. m.found.root) c.fill_values.ensures.kept in
     let lives = rw root_is at (c.in-Ok-fill_values.ensures.finds finds.0 held).values.lives in
     record {
@@ -46,8 +42,7 @@ returns-in-Ok-fill_values-clause-opened g c =
     let old = g.B.Nand.state c.args.board.now in
     let now = g.B.Nand.state c.fill_lists.new.board in
     let nothing = c.in-Ok.ensures.nothing in
-    let held = held_behind c.args.shape c.in-Ok.memory.found.root.shape l nothing.root_shape c.fill_lists.ensures.shape
-    old now c.fill_lists.ensures.board.pages c.args.frames c.in-Ok.memory.found refl finds.0 finds.1 in
+    let held = held_behind old now nothing c.fill_lists.ensures.shape c.fill_lists.ensures.board.pages finds.1 in
     let v = c.in-Ok-fill_values.ensures.finds finds.0 held in
     let kept = ap (λ m. m.found) c.fill_values.ensures.kept in
     let root_is = ap (λ f. f.root) kept in
@@ -63,37 +58,29 @@ returns-in-Ok-fill_values-clause-opened g c =
     (unused l.root.shape) c.fill_values.new.memory.found.pool c.adopt_values.new.pool refl fits owned.named_owned c.adopt_values.ensures.adopted owned.values c.known-in-Ok-fill_values.ensures.size
     owned.journal owned.meta c.adopt_values.ensures.few in
     subst (λ f. FoundOnFlash c.args.shape old.pages c.args.frames (record f { pool = c.adopt_values.new.pool })) (sym kept)
-    (scan_opened c.args.shape c.in-Ok.memory.found.root.shape l nothing.root_shape c.fill_lists.ensures.shape
-    old now c.fill_lists.ensures.board.pages c.args.frames c.in-Ok.memory.found refl finds.0 finds.1
-    nothing live values c.adopt_values.new.pool owners (c.adopt_values.ensures.counted ∙ many_closed l.root.shape is_shape (named l.root.root) live (places finds.0 []) values.lives)
+    (scan_opened old now nothing c.fill_lists.ensures.shape c.fill_lists.ensures.board.pages finds.1
+    live values c.adopt_values.new.pool owners (c.adopt_values.ensures.counted ∙ many_closed l.root.shape is_shape (named l.root.root) live (places finds.0 []) values.lives)
     c.fill_values.new.memory.found.spaces (rw root_is at v.uses))
 
 pub returns-in-Ok-fill_values-clause-reads : goal.returns-in-Ok-fill_values-clause-reads
 returns-in-Ok-fill_values-clause-reads g c =
-    let l = c.fill_lists.new.memory.found in
     let finds = c.in-Ok-fill_lists.ensures.finds in
     let old = g.B.Nand.state c.args.board.now in
     let now = g.B.Nand.state c.fill_lists.new.board in
-    let held = held_behind c.args.shape c.in-Ok.memory.found.root.shape l c.in-Ok.ensures.nothing.root_shape
-    c.fill_lists.ensures.shape old now c.fill_lists.ensures.board.pages c.args.frames c.in-Ok.memory.found refl finds.0 finds.1 in
-    let v = c.in-Ok-fill_values.ensures.finds finds.0 held in
+    let held = held_behind old now c.in-Ok.ensures.nothing c.fill_lists.ensures.shape c.fill_lists.ensures.board.pages finds.1 in
     let kept = ap (λ m. m.found) c.fill_values.ensures.kept in
     let root_is = ap (λ f. f.root) kept in
     let levels_are = ap (λ f. f.levels) kept in
-    scan_reads c.args.shape c.in-Ok.memory.found.root.shape l c.in-Ok.ensures.nothing.root_shape c.fill_lists.ensures.shape
-    old now c.fill_lists.ensures.board.pages c.args.frames c.in-Ok.memory.found refl finds.0 finds.1
-    c.in-Ok.ensures.nothing c.fill_values.new.memory.found.live (rw root_is at v.values) (g.B.Nand.state c.fill_values.new.board) c.in-Ok-fill_lists.ensures.reads (rw (root_is, levels_are) at v.reads)
+    scan_reads old now c.in-Ok.ensures.nothing c.fill_lists.ensures.shape c.fill_lists.ensures.board.pages finds.1
+    (g.B.Nand.state c.fill_values.new.board) c.in-Ok-fill_lists.ensures.reads (rw (root_is, levels_are) at (c.in-Ok-fill_values.ensures.finds finds.0 held).reads)
 
 pub returns-in-Err-fill_values-clause-err : goal.returns-in-Err-fill_values-clause-err
 returns-in-Err-fill_values-clause-err g c =
-    let l = c.fill_lists.new.memory.found in
     let finds = c.in-Ok-fill_lists.ensures.finds in
     let old = g.B.Nand.state c.args.board.now in
     let now = g.B.Nand.state c.fill_lists.new.board in
-    let held = held_behind c.args.shape c.in-Ok.memory.found.root.shape l c.in-Ok.ensures.nothing.root_shape
-    c.fill_lists.ensures.shape old now c.fill_lists.ensures.board.pages c.args.frames c.in-Ok.memory.found refl finds.0 finds.1 in
-    scan_refuses c.args.shape c.in-Ok.memory.found.root.shape l c.in-Ok.ensures.nothing.root_shape c.fill_lists.ensures.shape old
-    now c.fill_lists.ensures.board.pages c.args.frames c.in-Ok.memory.found refl finds.0 finds.1 (_, c.in-Ok-fill_lists.ensures.reads)
+    let held = held_behind old now c.in-Ok.ensures.nothing c.fill_lists.ensures.shape c.fill_lists.ensures.board.pages finds.1 in
+    scan_refuses old now c.in-Ok.ensures.nothing c.fill_lists.ensures.shape c.fill_lists.ensures.board.pages finds.1 (_, c.in-Ok-fill_lists.ensures.reads)
     (g.B.Nand.state c.fill_values.new.board) c.in-Err-fill_values.error (c.in-Err-fill_values.ensures.err finds.0 held)
 
 pub returns-in-Err-clause-err : goal.returns-in-Err-clause-err

@@ -1,9 +1,7 @@
 use Rattle.pk_scan.{specs.Used.held_limits, specs.Adopts.owned_blocks, proofs.Using.use_of_more, proofs.Using.not_fitting, proofs.Using.fitting, proofs.Using.value_count_most}
 use Rattle.pk_scan.{proofs.UseRoom.use_small, proofs.Taking.free, proofs.Taking.block_closes, proofs.Taking.Lives-more}
-use Rattle.std.proofs.Common.{◌≡◌, ℕ, ◌/◌, ◌∙◌, true, length, sym, ap, arith}
-use Rattle.std.proofs.Math.ListN.{set}
+use Rattle.std.proofs.Common.{◌∙◌, sym, arith}
 use Rattle.pk_base.{specs.Shape.charge, proofs.ShapeLemmas.charge_least}
-use Rattle.pk_live.specs.Values.{Values}
 use Rattle.pk_scan.proofs.taken.take_value.Goals as goal
 
 pub returns-then-not-has_room-clause-fits : goal.returns-then-not-has_room-clause-fits
@@ -11,11 +9,7 @@ returns-then-not-has_room-clause-fits g c taken lives uses =
     not_fitting c.args.shape.now (held_limits c.args.root.now) (owned_blocks c.args.pool.now) taken c.args.key.now c.args.place (sym (c.has_room.ensures taken lives) ∙ c.if-not-has_room.true)
 
 pub is_within-requires-clause-space : goal.is_within-requires-clause-space
-is_within-requires-clause-space g c =
-    let key = c.space-space.ensures.key in
-    let least = key.space_some in
-    let most = key.space_most in
-    (omega (arith, least, c.space-space.ensures.value), omega (arith, most, c.space-space.ensures.value))
+is_within-requires-clause-space g c = let key = c.space-space.ensures.key in rw c.space-space.ensures.value (key.space_some, key.space_most)
 
 pub is_within-requires-clause-some : goal.is_within-requires-clause-some
 is_within-requires-clause-some g c =
@@ -36,31 +30,19 @@ returns-clause-fits g c taken lives uses =
     sym c.if-not-is_within.false ∙ fitting c.args.shape.now (held_limits c.args.root.now) (owned_blocks c.args.pool.now) taken c.args.key.now c.args.place
     (sym (c.has_room.ensures taken lives) ∙ c.if-not-has_room.false) c.args.spaces.now (key.space_some, key.space_most) uses _ told
 
-pub change-requires-clause-space : goal.change-requires-clause-space
-change-requires-clause-space g c =
-    let key = c.space-space.ensures.key in
-    let least = key.space_some in
-    let most = key.space_most in
-    (omega (arith, least, c.space-space.ensures.value), omega (arith, most, c.space-space.ensures.value))
-
-pub change-requires-clause-live_fits : goal.change-requires-clause-live_fits
-change-requires-clause-live_fits g c =
+pub change-requires : goal.change-requires
+change-requires g c =
     let key = c.space-space.ensures.key in
     let l = c.requires.lives in
     let small = use_small c.args.shape.now (owned_blocks c.args.pool.now) l.0 c.args.key.now c.args.place (sym (c.has_room.ensures l.0 l.1) ∙ c.if-not-has_room.false)
     c.args.spaces.now (key.space_some, key.space_most) l.2 c.block_pages.ensures.shape in
-    let live = small.0 in
-    rw (c.space-space.ensures.value, c.charge-count.ensures.value) (omega (arith, live))
-
-pub change-requires-clause-keys_fit : goal.change-requires-clause-keys_fit
-change-requires-clause-keys_fit g c =
-    let key = c.space-space.ensures.key in
-    let l = c.requires.lives in
-    let small = use_small c.args.shape.now (owned_blocks c.args.pool.now) l.0 c.args.key.now c.args.place (sym (c.has_room.ensures l.0 l.1) ∙ c.if-not-has_room.false)
-    c.args.spaces.now (key.space_some, key.space_most) l.2 c.block_pages.ensures.shape in
-    let keys = small.1 in
     let one = value_count_most (charge c.args.shape.now c.args.place.len) in
-    rw (c.space-space.ensures.value, c.charge-count.ensures.value) (omega (arith, keys, one))
+    rw (c.space-space.ensures.value, c.charge-count.ensures.value) (record {
+      space = (key.space_some, key.space_most);
+      there = omega arith;
+      live_fits = let live = small.0 in omega (arith, live);
+      keys_fit = let keys = small.1 in omega (arith, keys, one);
+    })
 
 pub returns-clause-used : goal.returns-clause-used
 returns-clause-used g c is_true taken uses =
@@ -72,26 +54,12 @@ returns-clause-used g c is_true taken uses =
 pub set-requires-clause-free : goal.set-requires-clause-free
 set-requires-clause-free g c =
     let l = c.requires.lives in
-    let passed = sym (c.has_room.ensures l.0 l.1) ∙ c.if-not-has_room.false in
-    free c.args.shape.now (owned_blocks c.args.pool.now) c.args.live.now l.0 c.args.place c.block_pages.ensures.shape c.requires.place l.1 passed
+    free c.block_pages.ensures.shape c.requires.place l.1 (sym (c.has_room.ensures l.0 l.1) ∙ c.if-not-has_room.false)
 
 pub close-requires : goal.close-requires
-close-requires g c =
-    let l = c.requires.lives in
-    let closes = block_closes c.args.shape.now (owned_blocks c.args.pool.now) c.args.live.now l.0 c.args.place c.block_pages.ensures.shape c.requires.place l.1 in
-    let same : length c.set.new.self.closed ≡ length c.args.live.now.closed = ap (λ (v : Values). length v.closed) c.set.ensures in
-    rw (same, c.block_pages.ensures.value) closes
+close-requires g c = rw (c.set.ensures, c.block_pages.ensures.value) (block_closes c.block_pages.ensures.shape c.requires.place c.requires.lives.1)
 
 pub returns-clause-taken : goal.returns-clause-taken
 returns-clause-taken g c is_true taken lives =
-    let passed = sym (c.has_room.ensures taken lives) ∙ c.if-not-has_room.false in
-    let new =
-    c.close.ensures ∙ ap (λ (v : Values). record v { closed = set v.closed (c.args.place.page / c.block_pages.result) true }) c.set.ensures
-    ∙ ap (λ (k : ℕ). record c.args.live.now { heads = set c.args.live.now.heads c.args.place.page k; closed = set c.args.live.now.closed (c.args.place.page / c.block_pages.result) true })
-    c.charge-count.ensures.value
-    ∙ ap (λ (n : ℕ). record c.args.live.now {
-      heads = set c.args.live.now.heads c.args.place.page (charge c.args.shape.now c.args.place.len);
-      closed = set c.args.live.now.closed (c.args.place.page / n) true;
-    })
-    c.block_pages.ensures.value in
-    Lives-more c.args.shape.now (owned_blocks c.args.pool.now) c.args.live.now taken c.args.place c.block_pages.ensures.shape c.requires.place lives c.args.key.now passed c.close.new.self new
+    Lives-more c.block_pages.ensures.shape c.requires.place lives c.args.key.now (sym (c.has_room.ensures taken lives) ∙ c.if-not-has_room.false) c.close.new.self
+    (rw (c.set.ensures, c.charge-count.ensures.value, c.block_pages.ensures.value) at c.close.ensures)
