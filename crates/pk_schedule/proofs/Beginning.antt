@@ -1,7 +1,7 @@
 -- The next merge begins: it can be, its source has an entry, and the index is as before with it.
 use Rattle.std.proofs.Common.{◌≡◌, ◌⊎◌, inl, inr, ℕ, ◌+◌, ◌-◌, ◌<◌, ◌≤◌, Bool, true, false, T, ◌==◌, if◌then◌else◌, List, [], length, map, nat_le, Option, Some, None, refl, sym, ap, subst, ◌∙◌, arith}
 use Rattle.std.proofs.Common.{leb-false, le_trans}
-use Rattle.std.{proofs.lemmas.Bool.Decides.nat_tests, specs.Prelude.slice_index, specs.Prelude.slice_index_or, specs.Prelude.unwrap_or, specs.List.AllByRecursion, specs.FinMap.Entries.is_sorted}
+use Rattle.std.{proofs.lemmas.Bool.Decides.nat_tests, specs.Prelude.slice_index, specs.Prelude.slice_index_or, specs.Prelude.unwrap_or, specs.List.concat, specs.List.AllByRecursion, specs.FinMap.Entries.is_sorted}
 use Rattle.pk_base.{specs.Key.key_cmp, specs.Shape.Shape, specs.Shape.IsShape, specs.Shape.cap, specs.Shape.run_pages, specs.Shape.run_blocks, specs.Shape.buffer, specs.Entry.Entry, specs.Map.Map}
 use Rattle.pk_base.{specs.EntryChecks.IsEntry, specs.Page.Flash, specs.Page.page_at, specs.Merge.next_merge, specs.Merge.room, proofs.Logic.is_true}
 use Rattle.pk_buf.specs.Table.{Table}
@@ -266,23 +266,9 @@ module _ (x : Index) (frames : ℕ) (old : BoardState) (top : ℕ × Root) (foun
     runs_then = record { into = into_then; runs = job_runs; undone = undone }
 
     index_then : IndexOnFlash begun_index frames old.pages top found
-    index_then = record {
-      logs = stands.logs;
-      pool_shape = stands.pool_shape;
-      pool_fits = stands.pool_fits;
-      levels_shape = stands.levels_shape;
-      levels_pinned = stands.levels_pinned;
-      stand = stands.stand;
-      run_blocks = stands.run_blocks;
-      arena_is = has_arena;
-      journal = stands.journal;
-      journal_few = stands.journal_few;
-      runs = stands.runs;
-      runs_few = (let few = stands.runs_few in let zero_blocks = no_blocks in omega (arith, few, zero_blocks));
-      pins_are = stands.pins_are;
-      merge = runs_then;
-      freeze = record { taken = stands.freeze.taken; different = stands.freeze.different; none_frozen = stands.freeze.none_frozen };
-    }
+    index_then =
+        let few : used_by Meta x.pool.states ≡ length (concat top.1.runs) + length (output begun_index.schedule).blocks = omega (arith, stands.runs_few, no_blocks) in
+        assumption (stands, has_arena, runs_then, few)
 
     settles : IsSettled begun_index
     settles = record { whole = may.settles.whole; none_leaves = may.settles.none_leaves }

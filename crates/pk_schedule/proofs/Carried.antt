@@ -56,13 +56,7 @@ module _ {X Y : Type 0} (source : Source X) (s : Source Y) (is : Shown source s)
       let c = r.merging.cursors in
       record {
         lists = r.lists;
-        shapes = record {
-          of_merger = r.shapes.of_merger;
-          of_target = r.shapes.of_target;
-          of_source = is.of_shape out.shape r.shapes.of_source;
-          of_pool = r.shapes.of_pool;
-          of_frames = r.shapes.of_frames;
-        };
+        shapes = (let same = is.of_shape out.shape r.shapes.of_source in assumption (r.shapes, same));
         merging = record {
           cursors = record { has = is.has flash arena es c.has; stands = c.stands; rising = c.rising; source_at = is.follows flash m.source c.source_at; target_at = c.target_at };
           entries = r.merging.entries;
@@ -72,15 +66,10 @@ module _ {X Y : Type 0} (source : Source X) (s : Source Y) (is : Shown source s)
           output = r.merging.output;
           no_spare = r.merging.no_spare;
         };
-        blocks = record {
-          fits = r.blocks.fits;
-          own = r.blocks.own;
-          of_source = subst (λ (bs : List ℕ). AreMeta pool bs) (sym is.blocks) r.blocks.of_source;
-          of_target = r.blocks.of_target;
-          from_source = subst (λ (bs : List ℕ). BlocksApart bs out.blocks) (sym is.blocks) r.blocks.from_source;
-          from_target = r.blocks.from_target;
-          room = r.blocks.room;
-        };
+        blocks =
+            (let owned = subst (λ (bs : List ℕ). AreMeta pool bs) (sym is.blocks) r.blocks.of_source in
+            let apart = subst (λ (bs : List ℕ). BlocksApart bs out.blocks) (sym is.blocks) r.blocks.from_source in
+            assumption (r.blocks, owned, apart));
         frames = record { pinned = r.frames.pinned; free = r.frames.free };
       }
 

@@ -104,26 +104,14 @@ module _ (x : Index) (frames : ℕ) (old : BoardState) (top : ℕ × Root) (foun
       counts_are = ap (λ (ls : Levels). map (λ (k : Kept). k.count) ls.runs) e.levels_are ∙ bare_counts last 1 levels'.runs
 
       pub released : Replaced levels_last arena_last pool' job'
-      released = record {
-        levels_shape = ap (λ (ls : Levels). ls.shape) e.levels_are ∙ r.levels_shape;
-        levels_pinned = ap (λ (ls : Levels). ls.pinned) e.levels_are ∙ r.levels_pinned;
-        stand = e.stand new.pages then_found.runs r.stand;
-        run_blocks = subst (λ (ls : Levels). HaveBlocks shape ls.runs then_root.runs) (sym e.levels_are) (bare_blocks shape last 1 levels'.runs then_root.runs r.run_blocks);
-        arena_is = released_arena.leases;
-        same_shape = r.same_shape;
-        size = r.size;
-        others = r.others;
-        gone = r.gone;
-        journal_fewer = r.journal_fewer;
-        meta_fewer = r.meta_fewer;
-        same_values = r.same_values;
-        same_unready = r.same_unready;
-        pool_fits = r.pool_fits;
-        idle = r.idle;
-        pinned_is = r.pinned_is;
-        source = λ deep. ap (λ (ns : List ℕ). slice_index ns (level - 2)) counts_are ∙ r.source deep;
-        above = λ i low. ap (λ (ns : List ℕ). slice_index ns i) counts_are ∙ r.above i low;
-      }
+      released =
+          let shape_now = ap (λ (ls : Levels). ls.shape) e.levels_are ∙ r.levels_shape in
+          let pinned_now = ap (λ (ls : Levels). ls.pinned) e.levels_are ∙ r.levels_pinned in
+          let stand = e.stand new.pages then_found.runs r.stand in
+          let blocks = subst (λ (ls : Levels). HaveBlocks shape ls.runs then_root.runs) (sym e.levels_are) (bare_blocks shape last 1 levels'.runs then_root.runs r.run_blocks) in
+          let source = subst (λ (ns : List ℕ). 2 ≤ level → slice_index ns (level - 2) ≡ 0) (sym counts_are) r.source in
+          let above = subst (λ (ns : List ℕ). (i : ℕ) → i + 2 < level → slice_index ns i ≡ slice_index (map (λ (k : Kept). k.count) x.levels.runs) i) (sym counts_are) r.above in
+          assumption (r, released_arena.leases, shape_now, pinned_now, stand, blocks, source, above)
 
   module _ (log' : LogState) (programs : programs_next x.log.next ≡ true) (f : LogMerged x.log old top found m level out.count out.blocks log' new)
       (levels' : Levels) (arena' : Frames) (left : Blocks) (job' : Job) (r : Replaced levels' arena' (freed left) job') (has : HasArena shape frames levels' arena' [])

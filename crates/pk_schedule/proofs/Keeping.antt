@@ -125,29 +125,14 @@ module _ (x : Index) (frames : ℕ) (old new : Flash) (top : ℕ × Root) (found
     then = record x { log = log_then; pool = pool'; schedule = record x.schedule { freeze = job } }
 
     into_then : (level : ℕ) → MergesInto x top.1 found level → MergesInto then top.1 found_then level
-    into_then level m = record {
-      due = m.due;
-      target = m.target;
-      has_output = m.has_output;
-      output_shape = m.output_shape;
-      output_level = m.output_level;
-      held = held m.held;
-      spares = m.spares;
-      merger_shape = m.merger_shape;
-    }
+    into_then level m = let here = held m.held in assumption (m, here)
 
     runs_then : (level : ℕ) → MergeRuns x old top.1 found level → MergeRuns then new top.1 found_then level
-    runs_then level m = record {
-      into = into_then level m.into;
-      runs = record {
-        output = m.runs.output;
-        same_level = m.runs.same_level;
-        running = runs_elsewhere x.pool pool' old new e (source_at x level) (run_of x.levels level) (pins x.schedule.job)
-            (output x.schedule) x.schedule.job.merger x.arena (entries_at x found level) (run_at found.runs level)
-            (subst IsShape (sym m.into.output_shape) is_shape) m.runs.running;
-      };
-      undone = m.undone;
-    }
+    runs_then level m =
+        let into = into_then level m.into in
+        let running = runs_elsewhere x.pool pool' old new e (source_at x level) (run_of x.levels level) (pins x.schedule.job)
+        (output x.schedule) x.schedule.job.merger x.arena (entries_at x found level) (run_at found.runs level) (subst IsShape (sym m.into.output_shape) is_shape) m.runs.running in
+        assumption (m, into, running)
 
     waits_then : (level : ℕ) → MergeWaits x old top.1 found level → MergeWaits then new top.1 found_then level
     waits_then level m =
