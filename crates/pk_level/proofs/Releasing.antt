@@ -5,8 +5,8 @@ use Rattle.std.{specs.Prelude.slice_set, specs.Prelude.slice_index_or, proofs.le
 use Rattle.pk_base.{specs.Shape.Shape, specs.Entry.Entry, specs.Page.Flash}
 use Rattle.pk_pin.{specs.Frames.Frames, specs.Frames.AreLeases, specs.Frames.times, proofs.Leases.times-append}
 use Rattle.pk_adapt.specs.Adapted.{adapted}
-use Rattle.pk_run.{specs.Kept.Kept, specs.Kept.RunOnFlash, specs.Kept.empty, specs.Leases.AreLeased, specs.Leases.LeavesOthers, specs.Leases.LeavesOtherLeases, proofs.Leasing.are_leased, proofs.Leasing.at_most_one}
-use Rattle.pk_run.proofs.Others.{among}
+use Rattle.pk_run.{specs.Kept.Kept, specs.Kept.RunOnFlash, specs.Kept.empty, specs.Leases.AreLeased, specs.Leases.LeavesOthers, specs.Leases.LeavesOtherLeases, proofs.Others.among}
+use Rattle.pk_run.proofs.Leasing.{are_leased, at_most_one}
 use Rattle.pk_level.specs.Levels.{Levels, IsLevels, RunsOnFlash, HaveBlocks, run_of, with_run}
 use Rattle.pk_level.specs.Arenas.{AreBareAbove, BaresRun, Releases, bared, bare_from, leases_of, page_counts, last_level}
 

@@ -226,7 +226,7 @@ one_less : (more : Bool) (pages used : ℕ) → (if more then pages - (used + 1)
 one_less true pages used = omega arith
 one_less false pages used = omega arith
 
-no_more_left : (log log' : LogState) (old new : BoardState) → CommitsNone log old log' new ⊎ CommitsAll log old log' new → left_of log'.epoch ≤ left_of log.epoch
+pub no_more_left : (log log' : LogState) (old new : BoardState) → CommitsNone log old log' new ⊎ CommitsAll log old log' new → left_of log'.epoch ≤ left_of log.epoch
 no_more_left log log' old new (inl none) = subst (λ (l : LogState). left_of l.epoch ≤ left_of log.epoch) (sym none.kept) (le_itself (left_of log.epoch))
   where
     le_itself : (n : ℕ) → n ≤ n
@@ -245,41 +245,16 @@ shape_kept (Ok x) log log' old new made kept = elim made [
 ]
 shape_kept (Err e) log log' old new made kept = ap (λ (l : LogState). l.shape) kept
 
-pub left_ok : (r : Result Unit Fault) (log log' : LogState) (old new : BoardState)
-    → OnOk r (CommitsNone log old log' new ⊎ CommitsAll log old log' new) → OnOk r (left_of log'.epoch ≤ left_of log.epoch)
-left_ok (Ok x) log log' old new made = no_more_left log log' old new made
-left_ok (Err e) log log' old new made = tt
-
 -- both programs of a commit
 both_programs : (least : ℕ) (log log' : LogState) (old new : BoardState) → least ≤ 2 → CommitsAll log old log' new → ProgramsOfCommit least old new
-both_programs least log log' old new few all = record {
-  made = 2;
-  some = few;
-  most = omega arith;
-  programs = ap (λ (s : BoardState). s.programs) all.board;
-  erases = ap (λ (s : BoardState). s.erases) all.board;
-  reads = ap (λ (s : BoardState). s.reads) all.board;
-}
+both_programs least log log' old new few all =
+    subst (ProgramsOfCommit least old) (sym all.board) (record { made = 2; some = few; most = omega arith; programs = refl; erases = refl; reads = refl })
 
 -- one of them failed
 failed_programs : (log : LogState) (old new : BoardState) → CommitFailed log old new → ProgramsOfCommit 1 old new
 failed_programs log old new f = elim f.failed [
-  | inl first ↦ record {
-    made = 1;
-    some = omega arith;
-    most = omega arith;
-    programs = ap (λ (s : BoardState). s.programs) first.rest;
-    erases = ap (λ (s : BoardState). s.erases) first.rest;
-    reads = ap (λ (s : BoardState). s.reads) first.rest;
-  }
-  | inr second ↦ record {
-    made = 2;
-    some = omega arith;
-    most = omega arith;
-    programs = ap (λ (s : BoardState). s.programs) second.rest;
-    erases = ap (λ (s : BoardState). s.erases) second.rest;
-    reads = ap (λ (s : BoardState). s.reads) second.rest;
-  }
+  | inl first ↦ subst (ProgramsOfCommit 1 old) (sym first.rest) (record { made = 1; some = omega arith; most = omega arith; programs = refl; erases = refl; reads = refl })
+  | inr second ↦ subst (ProgramsOfCommit 1 old) (sym second.rest) (record { made = 2; some = omega arith; most = omega arith; programs = refl; erases = refl; reads = refl })
 ]
 
 -- if entries were pending, one program was made at least, whether or not it failed
@@ -290,11 +265,9 @@ some_programs (Ok x) log log' old new (inr all) failed some = both_programs 1 lo
 some_programs (Err e) log log' old new made failed some = failed_programs log old new failed
 
 -- and both of them if none failed
-pub all_programs : (r : Result Unit Fault) (log log' : LogState) (old new : BoardState)
-    → OnOk r (CommitsNone log old log' new ⊎ CommitsAll log old log' new) → OnOk r (log.pending ≢ [] → ProgramsOfCommit commit_programs old new)
-all_programs (Ok x) log log' old new (inl none) = λ some. absurd (some none.none)
-all_programs (Ok x) log log' old new (inr all) = λ some. both_programs commit_programs log log' old new (omega arith) all
-all_programs (Err e) log log' old new made = tt
+pub all_programs : (log log' : LogState) (old new : BoardState) → CommitsNone log old log' new ⊎ CommitsAll log old log' new → log.pending ≢ [] → ProgramsOfCommit commit_programs old new
+all_programs log log' old new (inl none) some = absurd (some none.none)
+all_programs log log' old new (inr all) some = both_programs commit_programs log log' old new (omega arith) all
 
 -- if none were, nothing was done
 pub nothing_done : (r : Result Unit Fault) (d : Parts) (log' : LogState) (old new : BoardState)
@@ -306,11 +279,9 @@ nothing_done (Err e) d log' old new made failed is = absurd (failed.some is)
 
 -- ---- the step
 
-pub rest_ok : (r : Result Unit Fault) (d : Parts) (log' : LogState) (old new : BoardState)
-    → OnOk r (CommitsNone d.log old log' new ⊎ CommitsAll d.log old log' new) → OnOk r (OnlyCommits d (with_log d log'))
-rest_ok (Ok x) d log' old new (inl none) = let P : LogState → Type 0 = λ l. OnlyCommits d (with_log d l) in subst P (sym none.kept) refl
-rest_ok (Ok x) d log' old new (inr all) = let P : LogState → Type 0 = λ l. OnlyCommits d (with_log d l) in subst P (sym all.taken) refl
-rest_ok (Err e) d log' old new made = tt
+pub only_commits : (d : Parts) (log' : LogState) (old new : BoardState) → CommitsNone d.log old log' new ⊎ CommitsAll d.log old log' new → OnlyCommits d (with_log d log')
+only_commits d log' old new (inl none) = let P : LogState → Type 0 = λ l. OnlyCommits d (with_log d l) in subst P (sym none.kept) refl
+only_commits d log' old new (inr all) = let P : LogState → Type 0 = λ l. OnlyCommits d (with_log d l) in subst P (sym all.taken) refl
 
 pub commit_step : (r : Result Unit Fault) (d : Parts) (log' : LogState) (old new : BoardState) → MayCommit d old → IsReady new d.log.shape
     → OnOk r (CommitsNone d.log old log' new ⊎ CommitsAll d.log old log' new) → OnOk r (CommitStands d.log old log' new) → OnOk r (CommitHolds d.log old new) → OnOk r (CommitReaches d.log old new)

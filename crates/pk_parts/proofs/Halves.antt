@@ -1,6 +1,6 @@
 -- A drive that is whole, and one of which a pair is half made.
-use Rattle.std.proofs.Common.{◌≡◌, ◌⊎◌, inl, inr, ℕ, Bool, true, false, ◌||◌, [], refl, sym, ap, subst, ◌∙◌, Err}
-use Rattle.std.specs.Prelude.{IsOk}
+use Rattle.std.proofs.Common.{◌≡◌, ◌⊎◌, inl, inr, ℕ, Bool, true, false, ◌||◌, [], sym, ap, subst, ◌∙◌, Err}
+use Rattle.std.{specs.Prelude.IsOk, proofs.lemmas.Bool.or_parts}
 use Rattle.pk_base.{specs.Shape.Shape, specs.Page.Flash, specs.Map.Map, proofs.Logic.not_both}
 use Rattle.pk_plan.specs.declared.owner.Owner.TheVariants.{Values}
 use Rattle.pk_pool.{specs.Blocks.Blocks, specs.Blocks.NoneLeaves, specs.Blocks.used_by, specs.Blocks.freed, proofs.Leaving.freed_same}
@@ -8,8 +8,7 @@ use Rattle.pk_rootfmt.specs.Root.{Root}
 use Rattle.pk_root.specs.Installing.{repeats_next}
 use Rattle.pk_nand.{specs.declared.types.Fault.Fault, specs.BoardState.BoardState}
 use Rattle.pk_model.specs.Found.{Found}
-use Rattle.pk_gc.specs.declared.course.Phase.{Phase}
-use Rattle.pk_gc.specs.declared.course.Phase.TheVariants.{Idle, Copies, Commits, GivesBack}
+use Rattle.pk_gc.{specs.declared.course.Phase.Phase, specs.declared.course.Phase.TheVariants.Commits}
 use Rattle.pk_reclaim.specs.Space.{ReclaimParts, HalfIn}
 use Rattle.pk_schedule.specs.Index.{Index, IsSettled, HalfStands}
 use Rattle.pk_parts.specs.Parts.{Parts, index_of, settled_parts, commits_in, is_half}
@@ -39,24 +38,16 @@ with_settled d shape flash top found without all settles with = subst (λ (p : P
 
 -- ---- which pair is half made
 
-or_left : (a b : Bool) → (a || b) ≡ false → a ≡ false
-or_left false b e = refl
-or_left true b e = cc
-
-or_right : (a b : Bool) → (a || b) ≡ false → b ≡ false
-or_right false b e = e
-or_right true b e = cc
-
 or_then : (a b : Bool) → (a || b) ≡ true → a ≡ false → b ≡ true
 or_then false b e none = e
 or_then true b e none = cc
 
 -- no pair of a root is half made, and no commit of moves
 pub root_whole : (d : Parts) → is_half d ≡ false → repeats_next d.log.next ≡ false
-root_whole d whole = or_left (repeats_next d.log.next) (commits_in d.reclaim.phase) whole
+root_whole d whole = (or_parts (repeats_next d.log.next) (commits_in d.reclaim.phase) whole).0
 
 pub moves_whole : (d : Parts) → is_half d ≡ false → commits_in d.reclaim.phase ≡ false
-moves_whole d whole = or_right (repeats_next d.log.next) (commits_in d.reclaim.phase) whole
+moves_whole d whole = (or_parts (repeats_next d.log.next) (commits_in d.reclaim.phase) whole).1
 
 -- if the root's is not, the commit is
 pub commit_half : (d : Parts) → is_half d ≡ true → repeats_next d.log.next ≡ false → commits_in d.reclaim.phase ≡ true
@@ -142,13 +133,9 @@ may_commit d board may = record { ready = may.ready; stands = (may.stands.0, bet
 -- ---- the reclaim of a drive that is whole
 
 pub half_in : (p : Phase) (x : ReclaimParts) (flash : Flash) (top : ℕ × Root) (found : Found) (m : Map) → commits_in p ≡ false → x.log.epoch.half ≡ false → HalfIn p x flash top found m
-half_in Idle x flash top found m moves epoch = epoch
-half_in (Copies c) x flash top found m moves epoch = epoch
 half_in (Commits victim) x flash top found m moves epoch = absurd cc
-half_in (GivesBack victim) x flash top found m moves epoch = epoch
+half_in p x flash top found m moves epoch = epoch
 
 pub half_out : (p : Phase) (x : ReclaimParts) (flash : Flash) (top : ℕ × Root) (found : Found) (m : Map) → commits_in p ≡ false → HalfIn p x flash top found m → x.log.epoch.half ≡ false
-half_out Idle x flash top found m moves is = is
-half_out (Copies c) x flash top found m moves is = is
 half_out (Commits victim) x flash top found m moves is = absurd cc
-half_out (GivesBack victim) x flash top found m moves is = is
+half_out p x flash top found m moves is = is

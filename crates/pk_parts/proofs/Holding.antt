@@ -1,7 +1,8 @@
 -- Levels that have all their pages in frames.
 use Rattle.std.proofs.Common.{◌≡◌, inl, inr, ℕ, zero, suc, ◌+◌, ◌-◌, ◌<◌, ◌≤◌, Bool, true, false, cond, if◌then◌else◌, nat_le, List, [], ◌∷◌, length, map, slice_get, refl, ap, sym, subst, ◌∙◌, arith}
 use Rattle.std.proofs.Common.{Some}
-use Rattle.std.{specs.Prelude.count_by, specs.Prelude.slice_index_or, proofs.lemmas.Bool.cases_lt, proofs.lemmas.Bool.Decides.nat_tests, proofs.lemmas.List.Sums.sum_by-cons}
+use Rattle.std.{specs.Prelude.count_by, specs.Prelude.slice_index_or, proofs.lemmas.List.Sums.sum_by-cons}
+use Rattle.std.proofs.lemmas.Bool.{cases_lt, le-leb, lt-leb, leb-true}
 use Rattle.pk_base.{specs.Shape.Shape, specs.Shape.need, specs.Shape.pinned, specs.Shape.run_pages, specs.Entry.Entry, specs.Map.Map, specs.Page.Flash, proofs.Logic.some_same}
 use Rattle.pk_adapt.{specs.Adapted.adapted, proofs.Fitting.is_adapted}
 use Rattle.pk_rootfmt.specs.Root.{Root}
@@ -14,18 +15,6 @@ use Rattle.pk_schedule.proofs.Backlogs.{four}
 use Rattle.pk_call.specs.Sight.{AreHeldTo, pages_of_each}
 use Rattle.pk_parts.specs.Parts.{Parts, counts_of, frames_of, held_by, index_of, most_looks, sight_of}
 use Rattle.pk_parts.specs.Agreeing.{DriveOnFlashWith}
-
-le_true : (x y : ℕ) → x ≤ y → nat_le x y ≡ true
-le_true x y h = grind (arith, nat_tests)
-
-gt_false : (x y : ℕ) → y < x → nat_le x y ≡ false
-gt_false x y h = grind (arith, nat_tests)
-
-le_of : (x y : ℕ) → nat_le x y ≡ true → x ≤ y
-le_of x y e = elim (cases_lt y x) [
-  | inl less ↦ let no = gt_false x y less in cc
-  | inr enough ↦ enough
-]
 
 -- ---- how many levels have all their pages in frames
 
@@ -55,7 +44,7 @@ pinned_counted shape k level (r ∷ rs) are within =
       | inl above ↦ omega (arith, above)
       | inr pins ↦
           let all : length r.leases ≡ length r.firsts = are.0.frames pins in
-          let one : ◌≡◌ {A = ℕ} (cond (is_pinned r) 1 0) 1 = ap (λ (held : Bool). cond {A = ℕ} held 1 0) (le_true (length r.firsts) (length r.leases) (omega (arith, all))) in
+          let one : ◌≡◌ {A = ℕ} (cond (is_pinned r) 1 0) 1 = ap (λ (held : Bool). cond {A = ℕ} held 1 0) (le-leb (length r.firsts) (length r.leases) (omega (arith, all))) in
           omega (arith, rest, step, one)
     ]
 
@@ -82,8 +71,8 @@ pub held_filled : (last level : ℕ) (rs : List Kept) (i : ℕ) → unfilled_fro
 held_filled last level [] i none low inside = absurd (omega (arith, inside))
 held_filled last level (r ∷ rs) zero none low inside =
     let here : (if nat_le level last then length r.firsts - length r.leases else 0) ≡ length r.firsts - length r.leases =
-    ap (λ (b : Bool). if b then length r.firsts - length r.leases else 0) (le_true level last (omega (arith, low))) in
-    ap (λ (held : Bool). Some held) (le_true (length r.firsts) (length r.leases) (omega (arith, none, here)))
+    ap (λ (b : Bool). if b then length r.firsts - length r.leases else 0) (le-leb level last (omega (arith, low))) in
+    ap (λ (held : Bool). Some held) (le-leb (length r.firsts) (length r.leases) (omega (arith, none, here)))
 held_filled last level (r ∷ rs) (suc i) none low inside = held_filled last (suc level) rs i (omega (arith, none)) (omega (arith, low)) (omega (arith, inside))
 
 -- and the other way round
@@ -92,10 +81,10 @@ filled_held last level [] all = refl
 filled_held last level (r ∷ rs) all =
     let rest = filled_held last (suc level) rs (λ i low inside. all (suc i) (omega (arith, low)) (omega (arith, inside))) in
     elim (cases_lt last level) [
-      | inl above ↦ rw (gt_false level last above) (omega (arith, rest))
+      | inl above ↦ rw (lt-leb level last above) (omega (arith, rest))
       | inr within ↦
-          let enough = le_of (length r.firsts) (length r.leases) (some_same (is_pinned r) true (all 0 (omega (arith, within)) (omega arith))) in
-          rw (le_true level last within) (omega (arith, rest, enough))
+          let enough = leb-true (length r.firsts) (length r.leases) (some_same (is_pinned r) true (all 0 (omega (arith, within)) (omega arith))) in
+          rw (le-leb level last within) (omega (arith, rest, enough))
     ]
 
 -- ---- by what is seen of the drive
@@ -118,22 +107,15 @@ pages_are shape flash arena (r ∷ rs) (bs ∷ bss) (es ∷ ess) have stand =
 pub counts_of_four : (rs : List Kept) (shape : Shape) → length rs ≡ 4
     → (slice_index_or rs 0 (empty shape 1)).count ∷ (slice_index_or rs 1 (empty shape 2)).count ∷
     (slice_index_or rs 2 (empty shape 3)).count ∷ (slice_index_or rs 3 (empty shape 4)).count ∷ [] ≡ entries_of rs
-counts_of_four [] shape e = absurd (omega (arith, e))
-counts_of_four (a ∷ []) shape e = absurd (omega (arith, e))
-counts_of_four (a ∷ b ∷ []) shape e = absurd (omega (arith, e))
-counts_of_four (a ∷ b ∷ c ∷ []) shape e = absurd (omega (arith, e))
 counts_of_four (a ∷ b ∷ c ∷ d ∷ []) shape e = refl
-counts_of_four (a ∷ b ∷ c ∷ d ∷ x ∷ rs) shape e = absurd (omega (arith, e))
+counts_of_four rs shape e = absurd (omega (arith, e))
 
 few_pinned : (shape : Shape) (frames : ℕ) → pinned shape frames ≤ 4
 few_pinned shape frames = few (nat_le (need shape 4) frames) (nat_le (need shape 3) frames) (nat_le (need shape 2) frames) (nat_le (need shape 1) frames)
   where
     few : (a b c d : Bool) → (if a then 4 else if b then 3 else if c then 2 else if d then 1 else 0) ≤ 4
-    few true b c d = omega arith
-    few false true c d = omega arith
-    few false false true d = omega arith
     few false false false true = omega arith
-    few false false false false = omega arith
+    few a b c d = omega arith
 
 module _ (d : Parts) (shape : Shape) (flash : Flash) (top : ℕ × Root) (found : Found) (without all : Map) (a : DriveOnFlashWith d shape flash top found without all) where
   runs_four : length d.levels.runs ≡ 4

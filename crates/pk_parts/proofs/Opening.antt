@@ -25,31 +25,13 @@ log_opens : {A : Type 0} (shape : Shape) (flash : Flash) (frames : ℕ) (f : Ope
 log_opens shape flash frames f found m has =
     let S : Shape → Type 0 = λ s. Opens (record { shape = s; root = f.root.root }) f.root_page f.epoch f.active f.frozen flash found in
     let epoch_is = has.epoch_is.1 in
-    subst S (sym has.shape_is) (record {
-      is_top = has.under.is_top;
-      is_found = has.under.is_found;
-      epoch_shape = ap (λ (e : JournalEpoch). e.shape) epoch_is;
-      epoch_number = ap (λ (e : JournalEpoch). e.number) epoch_is;
-      epoch_blocks = ap (λ (e : JournalEpoch). e.blocks) epoch_is;
-      epoch_fits = has.epoch_fits;
-      active_is = has.active_is;
-      frozen_is = has.frozen_is;
-    })
+    subst S (sym has.shape_is)
+    (search (ap (λ (e : JournalEpoch). e.shape) epoch_is, ap (λ (e : JournalEpoch). e.number) epoch_is, ap (λ (e : JournalEpoch). e.blocks) epoch_is))
 
 -- and the blocks with their owners those that values are found in
 values_found : {A : Type 0} (shape : Shape) (flash : Flash) (f : Opened A) (found : Found) → IsShape shape
     → BlocksOnFlash shape flash f found → FoundAtOpening shape (named f.root.root) f.live f.pool flash (places found [])
-values_found shape flash f found is has = record {
-  is_shape = is;
-  shape_is = has.owners.pool_shape;
-  size = has.owners.pool_size;
-  fits = has.owners.pool_fits flash;
-  lives = has.lives;
-  written = has.written;
-  closed_owned = has.owners.closed_owned;
-  owned_closed = has.owners.owned_closed;
-  none_leaves = has.owners.none_leaves;
-}
+values_found shape flash f found is has = search (has.owners.pool_fits flash)
 
 -- the parts of a drive made of what was found
 module _ {A : Type 0} (shape : Shape) (flash : Flash) (frames : ℕ) (f : Opened A) (log : LogState) (values : ValuesState) (s : Schedule) (job : JobState) (walk : Walk) where

@@ -44,10 +44,6 @@ few_of shape (l ∷ ls) is =
     leb→le (length (l ∷ ls)) MOST_SPACES
     (right_part (has_limits_room shape) (nat_le (length (l ∷ ls)) MOST_SPACES) (left_part (has_limits_room shape && nat_le (length (l ∷ ls)) MOST_SPACES) (fit_in (limit shape) (l ∷ ls)) is))
 
-few_under : (shape : Shape) (root : Root) → T (is_root shape root) → length (root_limits shape root) ≤ MOST_SPACES
-unfolding root_limits
-few_under shape root is = few_of shape root.limits (right_part (is_laid_out shape root) (are_limits shape root.limits) is)
-
 -- together no more than the limit of the shape
 sum_fits : (left : ℕ) (ls : List ℕ) → T (fit_in left ls) → sum ls ≤ left
 sum_fits left [] fit = omega arith
@@ -61,9 +57,10 @@ sum_of : (shape : Shape) (limits : List ℕ) → T (are_limits shape limits) →
 sum_of shape [] is = let one = sum_by-cons (λ (x : ℕ). x) (limit shape) [] in omega (arith, one)
 sum_of shape (l ∷ ls) is = sum_fits (limit shape) (l ∷ ls) (right_part (has_limits_room shape && nat_le (length (l ∷ ls)) MOST_SPACES) (fit_in (limit shape) (l ∷ ls)) is)
 
-sum_under : (shape : Shape) (root : Root) → T (is_root shape root) → sum (root_limits shape root) ≤ limit shape
+-- both of those of a root
+both_under : (shape : Shape) (root : Root) → T (is_root shape root) → (length (root_limits shape root) ≤ MOST_SPACES) × (sum (root_limits shape root) ≤ limit shape)
 unfolding root_limits
-sum_under shape root is = sum_of shape root.limits (right_part (is_laid_out shape root) (are_limits shape root.limits) is)
+both_under shape root is = let are = right_part (is_laid_out shape root) (are_limits shape root.limits) is in (few_of shape root.limits are, sum_of shape root.limits are)
 
 -- of a drive
 module _ (d : Parts) (shape : Shape) (flash : Flash) (top : ℕ × Root) (found : Found) (without all : Map) (a : DriveOnFlashWith d shape flash top found without all) where
@@ -74,10 +71,10 @@ module _ (d : Parts) (shape : Shape) (flash : Flash) (top : ℕ × Root) (found 
   same = λ i. root_limits (sym a.shape_is i) (sym a.index.logs.root_is i)
 
   pub few_with : length (drive_limits d) ≤ MOST_SPACES
-  few_with = subst (λ (limits : List ℕ). length limits ≤ MOST_SPACES) same (few_under shape top.1 valid)
+  few_with = subst (λ (limits : List ℕ). length limits ≤ MOST_SPACES) same (both_under shape top.1 valid).0
 
   pub sum_with : sum (drive_limits d) ≤ limit shape
-  sum_with = subst (λ (limits : List ℕ). sum limits ≤ limit shape) same (sum_under shape top.1 valid)
+  sum_with = subst (λ (limits : List ℕ). sum limits ≤ limit shape) same (both_under shape top.1 valid).1
 
 pub limits_few : (d : Parts) (told : Option Shape) (flash : Flash) (a : DriveOnFlash d told flash) → length (drive_limits d) ≤ MOST_SPACES
 limits_few d told flash a = few_with (settled_parts d) a.shape flash a.top a.found a.without a.all a.with

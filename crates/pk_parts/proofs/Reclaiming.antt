@@ -19,21 +19,15 @@ use Rattle.pk_parts.specs.Parts.{reclaim_left}
 
 pub runs_or_rests : (p : Phase) → (runs_in p ≡ true) ⊎ (runs_in p ≡ false)
 runs_or_rests Idle = inr refl
-runs_or_rests (Copies c) = inl refl
-runs_or_rests (Commits victim) = inl refl
-runs_or_rests (GivesBack victim) = inl refl
+runs_or_rests p = inl refl
 
 pub holds_none : (p : Phase) → runs_in p ≡ false → held_blocks p ≡ []
 holds_none Idle rests = refl
-holds_none (Copies c) rests = absurd cc
-holds_none (Commits victim) rests = absurd cc
-holds_none (GivesBack victim) rests = absurd cc
+holds_none p rests = absurd cc
 
 rests_so : (p : Phase) (shape : Shape) (job : JobState) (live : Values) (flash : Flash) (es : List (Key × Place)) → runs_in p ≡ false → ReclaimStands p shape job live flash es
 rests_so Idle shape job live flash es rests = tt
-rests_so (Copies c) shape job live flash es rests = absurd cc
-rests_so (Commits victim) shape job live flash es rests = absurd cc
-rests_so (GivesBack victim) shape job live flash es rests = absurd cc
+rests_so p shape job live flash es rests = absurd cc
 
 pub reclaim_rests : (shape : Shape) (job : JobState) (live : Values) (pool : Blocks) (flash : Flash) (es : List (Key × Place)) → job.shape ≡ shape → runs_in job.phase ≡ false
     → ReclaimOnFlash shape job live pool flash es
@@ -61,14 +55,9 @@ of_copy shape c d pool flash es b closed placed (inr is) =
 
 stands_elsewhere : (p : Phase) (shape : Shape) (job : JobState) (d : ValuesState) (pool : Blocks) (old new : Flash) (es : List (Key × Place)) → ReclaimStands p shape job d.live old es
     → ValuesOnFlash shape d pool (held_blocks p) old es → SameButOpen shape pool d.open_block old new → ReclaimStands p shape job d.live new es
-stands_elsewhere Idle shape job d pool old new es was placed same = tt
-stands_elsewhere (Copies c) shape job d pool old new es was placed same = record {
-  runs = runs_elsewhere shape c job.moves job.page old new es was.runs (λ k here. let of = of_copy shape c d pool old es (k / shape.block_pages) was.closed placed here in same k of.0 of.1);
-  sparse = was.sparse;
-  closed = was.closed;
-}
-stands_elsewhere (Commits victim) shape job d pool old new es was placed same = tt
-stands_elsewhere (GivesBack victim) shape job d pool old new es was placed same = tt
+stands_elsewhere (Copies c) shape job d pool old new es was placed same =
+    search (runs_elsewhere shape c job.moves job.page old new es was.runs (λ k here. let of = of_copy shape c d pool old es (k / shape.block_pages) was.closed placed here in same k of.0 of.1))
+stands_elsewhere p shape job d pool old new es was placed same = tt
 
 pub reclaim_elsewhere : (shape : Shape) (job : JobState) (d : ValuesState) (pool pool' : Blocks) (old new : Flash) (es : List (Key × Place)) → ReclaimOnFlash shape job d.live pool old es
     → ValuesOnFlash shape d pool (held_blocks job.phase) old es → used_by for_values pool'.states ≡ used_by for_values pool.states → SameButOpen shape pool d.open_block old new
@@ -117,61 +106,39 @@ stands_stored : (p : Phase) (shape : Shape) (job : JobState) (d : ValuesState) (
     → ValuesOnFlash shape d pool (held_blocks p) flash es → IsInOpen shape d place.page (charge shape place.len) → 0 < charge shape place.len
     → ((k : ℕ) → (k ≡ place.page → ⊥) → slice_index heads k ≤ slice_index d.live.heads k)
     → ReclaimStands p shape job (record d.live { heads = heads }) flash (put key_cmp key place es)
-stands_stored Idle shape job d pool flash es key place heads was placed inside some fewer = tt
 stands_stored (Copies c) shape job d pool flash es key place heads was placed inside some fewer =
     let other : (k : ℕ) → IsPageOf shape k place → (k / shape.block_pages ≡ c.victim) ⊎ (k / shape.block_pages ≡ c.output) → ⊥ = λ k page_of here.
     not_of_open shape d pool (c.output ∷ []) flash es place.page (charge shape place.len) k placed inside page_of.0 page_of.1
     (of_copy shape c d pool flash es (k / shape.block_pages) was.closed placed here).1 in
-    record {
-      runs = runs_stored shape c job.moves job.page flash es key place was.runs other;
-      sparse = fewer_in_victim shape c d.live.heads heads (λ k in_victim. fewer k (λ e. other k (omega (arith, e), omega (arith, e, some)) (inl in_victim))) was.sparse;
-      closed = was.closed;
-    }
-stands_stored (Commits victim) shape job d pool flash es key place heads was placed inside some fewer = tt
-stands_stored (GivesBack victim) shape job d pool flash es key place heads was placed inside some fewer = tt
+    let sparse = fewer_in_victim shape c d.live.heads heads (λ k in_victim. fewer k (λ e. other k (omega (arith, e), omega (arith, e, some)) (inl in_victim))) was.sparse in
+    search (runs_stored shape c job.moves job.page flash es key place was.runs other, sparse)
+stands_stored p shape job d pool flash es key place heads was placed inside some fewer = tt
 
 pub reclaim_stored : (shape : Shape) (job : JobState) (d : ValuesState) (pool : Blocks) (flash : Flash) (es : List (Key × Place)) (key : Key) (place : Place) (heads : List ℕ)
     → ReclaimOnFlash shape job d.live pool flash es
     → ValuesOnFlash shape d pool (held_blocks job.phase) flash es → IsInOpen shape d place.page (charge shape place.len) → 0 < charge shape place.len
     → ((k : ℕ) → (k ≡ place.page → ⊥) → slice_index heads k ≤ slice_index d.live.heads k)
     → ReclaimOnFlash shape job (record d.live { heads = heads }) pool flash (put key_cmp key place es)
-reclaim_stored shape job d pool flash es key place heads was placed inside some fewer = record {
-  shape_is = was.shape_is;
-  stands = stands_stored job.phase shape job d pool flash es key place heads was.stands placed inside some fewer;
-  full = was.full;
-}
+reclaim_stored shape job d pool flash es key place heads was placed inside some fewer =
+    search (stands_stored job.phase shape job d pool flash es key place heads was.stands placed inside some fewer)
 
 stands_gone : (p : Phase) (shape : Shape) (job : JobState) (live : Values) (flash : Flash) (es : List (Key × Place)) (key : Key) (heads : List ℕ) → ReclaimStands p shape job live flash es
     → ((k : ℕ) → slice_index heads k ≤ slice_index live.heads k) → ReclaimStands p shape job (record live { heads = heads }) flash (without key es)
-stands_gone Idle shape job live flash es key heads was fewer = tt
-stands_gone (Copies c) shape job live flash es key heads was fewer = record {
-  runs = runs_deleted shape c job.moves job.page flash es key was.runs;
-  sparse = fewer_in_victim shape c live.heads heads (λ k in_victim. fewer k) was.sparse;
-  closed = was.closed;
-}
-stands_gone (Commits victim) shape job live flash es key heads was fewer = tt
-stands_gone (GivesBack victim) shape job live flash es key heads was fewer = tt
+stands_gone (Copies c) shape job live flash es key heads was fewer =
+    search (runs_deleted shape c job.moves job.page flash es key was.runs, fewer_in_victim shape c live.heads heads (λ k in_victim. fewer k) was.sparse)
+stands_gone p shape job live flash es key heads was fewer = tt
 
 pub reclaim_gone : (shape : Shape) (job : JobState) (live : Values) (pool : Blocks) (flash : Flash) (es : List (Key × Place)) (key : Key) (heads : List ℕ) → ReclaimOnFlash shape job live pool flash es
     → ((k : ℕ) → slice_index heads k ≤ slice_index live.heads k) → ReclaimOnFlash shape job (record live { heads = heads }) pool flash (without key es)
-reclaim_gone shape job live pool flash es key heads was fewer = record {
-  shape_is = was.shape_is;
-  stands = stands_gone job.phase shape job live flash es key heads was.stands fewer;
-  full = was.full;
-}
+reclaim_gone shape job live pool flash es key heads was fewer = search (stands_gone job.phase shape job live flash es key heads was.stands fewer)
 
 -- ---- the heads
 
-set_other : (xs : List ℕ) (i j x : ℕ) → (j ≡ i → ⊥) → slice_index (slice_set xs i x) j ≡ slice_index xs j
-set_other xs i j x other = get_or-set_other xs i j x 0 other
-
 -- one of them is 0 now
 pub zero_fewer : (xs : List ℕ) (i j : ℕ) → slice_index (slice_set xs i 0) j ≤ slice_index xs j
-zero_fewer [] i j = omega arith
 zero_fewer (x ∷ xs) zero zero = omega arith
-zero_fewer (x ∷ xs) zero (suc j) = omega arith
-zero_fewer (x ∷ xs) (suc i) zero = omega arith
 zero_fewer (x ∷ xs) (suc i) (suc j) = zero_fewer xs i j
+zero_fewer xs i j = omega arith
 
 without_fewer : (o : Option Span) (heads : List ℕ) (k : ℕ) → slice_index (heads_without o heads) k ≤ slice_index heads k
 without_fewer None heads k = omega arith
@@ -180,7 +147,7 @@ without_fewer (Some span) heads k = zero_fewer heads span.page k
 -- after a change of one value all heads but its own are gone
 pub replaced_fewer : (o : Option Span) (heads : List ℕ) (page count k : ℕ) → (k ≡ page → ⊥) → slice_index (slice_set (heads_without o heads) page count) k ≤ slice_index heads k
 replaced_fewer o heads page count k other =
-    let same = set_other (heads_without o heads) page k count other in
+    let same = get_or-set_other (heads_without o heads) page k count 0 other in
     let less = without_fewer o heads k in
     omega (arith, same, less)
 
@@ -194,11 +161,9 @@ reclaim_most pages most false few = omega (arith, few)
 pub reclaim_within : (p : Phase) (shape : Shape) (due : Bool) (job : JobState) (live : Values) (flash : Flash) (es : List (Key × Place)) → ReclaimStands p shape job live flash es
     → IfSome (reclaim_left shape live.heads due p) (λ left. left ≤ whole_reclaim shape)
 reclaim_within Idle shape false job live flash es stands = tt
-reclaim_within Idle shape true job live flash es stands = omega arith
 reclaim_within (Copies c) shape due job live flash es stands =
     let few = stands.sparse in
     reclaim_most (c.left + live_unseen shape live.heads c) (dense shape) c.held (omega (arith, few))
 reclaim_within (Commits victim) shape false job live flash es stands = omega arith
-reclaim_within (Commits victim) shape true job live flash es stands = omega arith
 reclaim_within (GivesBack victim) shape false job live flash es stands = omega arith
-reclaim_within (GivesBack victim) shape true job live flash es stands = omega arith
+reclaim_within p shape due job live flash es stands = omega arith

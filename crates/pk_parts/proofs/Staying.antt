@@ -1,11 +1,12 @@
 -- What of a drive is unchanged by steps, one after another.
-use Rattle.std.proofs.Common.{◌≡◌, ◌⊎◌, inl, inr, ℕ, ◌+◌, ◌-◌, refl, sym, ap, subst, ◌∙◌, arith, Result, Ok, Err}
+use Rattle.std.proofs.Common.{◌≡◌, ◌⊎◌, inl, inr, ℕ, ◌+◌, refl, sym, ap, subst, ◌∙◌, arith, Result, Ok, Err}
 use Rattle.std.specs.Prelude.{OnOk}
 use Rattle.pk_base.{specs.Shape.charge, specs.Entry.Entry}
 use Rattle.pk_plan.specs.declared.owner.Owner.TheVariants.{Values}
-use Rattle.pk_nand.{specs.declared.types.Fault.Fault, specs.BoardState.BoardState}
+use Rattle.pk_nand.specs.BoardState.{BoardState}
 use Rattle.pk_pool.{specs.declared.state.BlockState.TheVariants.Free, specs.declared.state.BlockState.TheVariants.Ready, specs.Blocks.Blocks, specs.Blocks.is_owned_by, proofs.Sharing.count-set}
 use Rattle.pk_pool.specs.Taking.{ErasesOne, ErasesNone}
+use Rattle.pk_merge.proofs.Results.{on_ok}
 use Rattle.pk_log.{specs.State.LogState, specs.State.pushed, specs.Commits.CommitsNone, specs.Commits.CommitsAll}
 use Rattle.pk_values.specs.State.{ValuesState, fits_open}
 use Rattle.pk_space.specs.Uses.{Use}
@@ -78,27 +79,17 @@ pub stays_then_ok : {X E : Type 0} (r : Result X E) (a b c : Parts) → Stays a 
 stays_then_ok (Ok x) a b c first second = stays_then a b c first second
 stays_then_ok (Err e) a b c first second = tt
 
-pub opens_behind_ok : {X E : Type 0} (r : Result X E) (a b c : Parts) (count : ℕ) → Stays a b
-    → b.log.shape ≡ a.log.shape → b.values ≡ a.values → OnOk r (StaysOrOpens b c count) → OnOk r (StaysOrOpens a c count)
-opens_behind_ok (Ok x) a b c count first shapes spaces second = opens_behind a b c count first shapes spaces second
-opens_behind_ok (Err e) a b c count first shapes spaces second = tt
-
 pub opens_then_ok : {X E : Type 0} (r : Result X E) (a b c : Parts) (count : ℕ) → StaysOrOpens a b count → OnOk r (Stays b c) → OnOk r (StaysOrOpens a c count)
 opens_then_ok (Ok x) a b c count first second = opens_then a b c count first second
 opens_then_ok (Err e) a b c count first second = tt
 
 -- ---- single steps
 
-commit_stays : (d : Parts) (log' : LogState) (old new : BoardState) → CommitsNone d.log old log' new ⊎ CommitsAll d.log old log' new → Stays d (record d { log = log' })
+pub commit_stays : (d : Parts) (log' : LogState) (old new : BoardState) → CommitsNone d.log old log' new ⊎ CommitsAll d.log old log' new → Stays d (record d { log = log' })
 commit_stays d log' old new (inl none) = stays_same d (record d { log = log' }) (ap (λ (l : LogState). record d { log = l }) none.kept)
 commit_stays d log' old new (inr all) =
     let T : LogState → Type 0 = λ l. Stays d (record d { log = l }) in
     subst T (sym all.taken) (record { fresh = record { stays = λ e. e; begun = inl refl }; blocks = record { used = refl; open_same = refl } })
-
-pub commit_stays_ok : (r : Result Unit Fault) (d : Parts) (log' : LogState) (old new : BoardState)
-    → OnOk r (CommitsNone d.log old log' new ⊎ CommitsAll d.log old log' new) → OnOk r (Stays d (record d { log = log' }))
-commit_stays_ok (Ok x) d log' old new made = commit_stays d log' old new made
-commit_stays_ok (Err e) d log' old new made = tt
 
 -- an entry is noted
 pub note_stays : (d : Parts) (e : Entry) (log' : LogState) (space' : ValuesState) (spaces' : Use) → log' ≡ pushed d.log e
@@ -119,7 +110,8 @@ erase_stays d q old new (inr none) = stays_same d (record d { pool = q }) (ap (�
 
 pub opens_put : {X E : Type 0} (r : Result X E) (a b c : Parts) (size : ℕ) → Stays a b → b.log.shape ≡ a.log.shape
     → b.values ≡ a.values → OnOk r (StaysOrOpens b c (charge b.log.shape size)) → OnOk r (StaysOrOpens a c (charge a.log.shape size))
-opens_put r a b c size first shapes spaces second = opens_behind_ok r a b c (charge a.log.shape size) first shapes spaces (subst (λ s. OnOk r (StaysOrOpens b c (charge s size))) shapes second)
+opens_put r a b c size first shapes spaces second =
+    on_ok r _ _ second (λ s. opens_behind a b c (charge a.log.shape size) first shapes spaces (subst (λ x. StaysOrOpens b c (charge x size)) shapes s))
 
 pub step_stays : (d d' : Parts) (old new : BoardState) → ErasesOne d.pool old d'.pool new ⊎ ErasesNone d.pool old d'.pool new → d' ≡ record d { pool = d'.pool } → Stays d d'
 step_stays d d' old new erases rest = subst (λ x. Stays d x) (sym rest) (erase_stays d d'.pool old new erases)

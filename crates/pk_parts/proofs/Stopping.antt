@@ -1,5 +1,5 @@
 -- A drive that a flash operation stopped.
-use Rattle.std.proofs.Common.{◌≡◌, ℕ, sym, ap, subst, ◌∙◌, true, Result, Ok, Err}
+use Rattle.std.proofs.Common.{◌≡◌, ℕ, sym, ap, subst, ◌∙◌, true, Result, Err}
 use Rattle.std.specs.Prelude.{OnErr}
 use Rattle.pk_base.specs.Shape.{Shape}
 use Rattle.pk_nand.{specs.declared.types.Fault.Fault, specs.declared.types.Fault.TheVariants.Reading, specs.declared.types.Fault.TheVariants.Stopped, specs.BoardState.BoardState}
@@ -25,6 +25,5 @@ module _ (f r : Fault) (d e : Parts) (same : r ≡ f) (rest : e ≡ failed_by d 
 
 -- a commit that failed has stopped the drive
 pub stopped_kept : (r : Result Unit Fault) (d e : Parts) → OnErr r (e ≡ record d { stopped = true }) → StoppedOn e r
-stopped_kept (Ok u) d e kept = tt
-stopped_kept (Err Reading) d e kept = tt
 stopped_kept (Err Stopped) d e kept = ap (λ (x : Parts). x.stopped) kept
+stopped_kept r d e kept = tt

@@ -17,8 +17,6 @@ of_space space vs = where_key key_cmp (λ k. space_of k == space) vs
 module _ (shape : Shape) (at : ℕ → Page) (full : (k : ℕ) (bytes : List ℕ) → at k ≡ whole bytes → length bytes ≡ shape.page_bytes) (positive : 0 < shape.page_bytes) (blocks : List ℕ) (space : ℕ) where
   pages_read : (es : List (Key × Place)) (vs : List (Key × List ℕ)) → Reads shape blocks at es vs → pages_of_space shape space es ≡ pages_in shape (of_space space vs)
   pages_read [] [] reads = refl
-  pages_read [] (v ∷ vs) reads = absurd reads
-  pages_read (e ∷ es) [] reads = absurd reads
   pages_read (e ∷ es) (v ∷ vs) reads =
       let rest = pages_read es vs reads.1 in
       let size : charge shape (length v.1) ≡ charge shape e.1.len = ap (charge shape) (length-value_at shape at full positive e.0 e.1 v.1 reads.0.1) in
@@ -27,11 +25,10 @@ module _ (shape : Shape) (at : ℕ → Page) (full : (k : ℕ) (bytes : List ℕ
         | true ↦ omega (arith, rest, size)
         | false ↦ omega (arith, rest)
       ])
+  pages_read es vs reads = absurd reads
 
   keys_read : (es : List (Key × Place)) (vs : List (Key × List ℕ)) → Reads shape blocks at es vs → keys_of_space space es ≡ length (of_space space vs)
   keys_read [] [] reads = refl
-  keys_read [] (v ∷ vs) reads = absurd reads
-  keys_read (e ∷ es) [] reads = absurd reads
   keys_read (e ∷ es) (v ∷ vs) reads =
       let rest = keys_read es vs reads.1 in
       subst (λ (k : Key). keys_of_space space (e ∷ es) ≡ length (cond (space_of k == space) (v ∷ of_space space vs) (of_space space vs))) (sym reads.0.0)
@@ -39,6 +36,7 @@ module _ (shape : Shape) (at : ℕ → Page) (full : (k : ℕ) (bytes : List ℕ
         | true ↦ omega (arith, rest)
         | false ↦ omega (arith, rest)
       ])
+  keys_read es vs reads = absurd reads
 
 -- the pages and the keys of a namespace, under the newest root, are those of its part of the map
 pub part_used : (shape : Shape) (flash : Flash) (pending : List Entry) (top : ℕ × Root) (found : Found) (m : Map) → IsShape shape → IsFlash shape flash → IsUnder shape flash pending top found m

@@ -1,6 +1,7 @@
 use Rattle.std.proofs.Common.{◌≡◌, ap, arith, length, drop, ◌++◌, length-take, length-append, length-drop}
-use Rattle.pk_parts.proofs.Committing.{shape_kept, commit_step, rest_ok, left_ok, some_programs, all_programs, nothing_done}
-use Rattle.pk_parts.{proofs.Sights.begin_of, proofs.Sights.seen_ok, proofs.Staying.commit_stays_ok}
+use Rattle.pk_merge.proofs.Results.{on_ok}
+use Rattle.pk_parts.proofs.Committing.{shape_kept, commit_step, only_commits, no_more_left, some_programs, all_programs, nothing_done}
+use Rattle.pk_parts.{proofs.Sights.begin_of, proofs.Sights.commits_seen, proofs.Staying.commit_stays}
 use Rattle.pk_parts.proofs.parts.Parts.commit_once.Goals as goal
 
 pub returns-clause-step : goal.returns-clause-step
@@ -12,11 +13,11 @@ returns-clause-step g c =
 
 pub returns-clause-rest : goal.returns-clause-rest
 returns-clause-rest g c =
-    rw (← c.self.view_is) (rest_ok c.commit.result _ c.commit.new.self (g.B.Nand.state c.args.board.now) (g.B.Nand.state c.commit.new.board) c.commit.ensures.ok)
+    rw (← c.self.view_is) (on_ok c.commit.result _ _ c.commit.ensures.ok (only_commits _ c.commit.new.self (g.B.Nand.state c.args.board.now) (g.B.Nand.state c.commit.new.board)))
 
 pub returns-clause-pages_left : goal.returns-clause-pages_left
 returns-clause-pages_left g c =
-    rw (← c.self.view_is) (left_ok c.commit.result c.self.inside.log c.commit.new.self (g.B.Nand.state c.args.board.now) (g.B.Nand.state c.commit.new.board) c.commit.ensures.ok)
+    rw (← c.self.view_is) (on_ok c.commit.result _ _ c.commit.ensures.ok (no_more_left c.self.inside.log c.commit.new.self (g.B.Nand.state c.args.board.now) (g.B.Nand.state c.commit.new.board)))
 
 pub returns-clause-program : goal.returns-clause-program
 returns-clause-program g c =
@@ -25,7 +26,7 @@ returns-clause-program g c =
 
 pub returns-clause-programs : goal.returns-clause-programs
 returns-clause-programs g c =
-    rw (← c.self.view_is) (all_programs c.commit.result c.self.inside.log c.commit.new.self (g.B.Nand.state c.args.board.now) (g.B.Nand.state c.commit.new.board) c.commit.ensures.ok)
+    rw (← c.self.view_is) (on_ok c.commit.result _ _ c.commit.ensures.ok (all_programs c.self.inside.log c.commit.new.self (g.B.Nand.state c.args.board.now) (g.B.Nand.state c.commit.new.board)))
 
 pub returns-clause-idle : goal.returns-clause-idle
 returns-clause-idle g c =
@@ -34,11 +35,12 @@ returns-clause-idle g c =
 
 pub returns-clause-seen : goal.returns-clause-seen
 returns-clause-seen g c =
-    rw (← c.self.view_is) (seen_ok c.commit.result (begin_of c.self.view_is) c.commit.new.self (g.B.Nand.state c.args.board.now) (g.B.Nand.state c.commit.new.board) c.commit.ensures.ok)
+    rw (← c.self.view_is)
+    (on_ok c.commit.result _ _ c.commit.ensures.ok (commits_seen (begin_of c.self.view_is) c.commit.new.self (g.B.Nand.state c.args.board.now) (g.B.Nand.state c.commit.new.board)))
 
 pub returns-clause-moves : goal.returns-clause-moves
 returns-clause-moves g c =
-    rw (← c.self.view_is) (commit_stays_ok c.commit.result _ c.commit.new.self (g.B.Nand.state c.args.board.now) (g.B.Nand.state c.commit.new.board) c.commit.ensures.ok)
+    rw (← c.self.view_is) (on_ok c.commit.result _ _ c.commit.ensures.ok (commit_stays _ c.commit.new.self (g.B.Nand.state c.args.board.now) (g.B.Nand.state c.commit.new.board)))
 
 pub invariant_of-self : goal.invariant_of-self
 invariant_of-self g c =
