@@ -11,7 +11,7 @@ use Rattle.pk_top.specs.Makes.{MakeRun, Makes, IsMade}
 
 pub never_done : (fault : LoadFault) → load_status fault ≡ 0 → ⊥
 never_done Fault e = omega arith
-never_done fault e = omega arith
+never_done other e = omega arith
 
 formatted_made : (shape : Shape) (limits : List ℕ) (loaded new : BoardState) (status : ℕ) → status ≡ 0 → Makes shape limits loaded new status → IsMade shape limits new
 formatted_made shape limits loaded new status done (inl r) = absurd (never_done r.fault (sym r.tells ∙ done))

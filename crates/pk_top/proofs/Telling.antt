@@ -108,7 +108,7 @@ refused_untouched old new sound l = record { gives = refused_gives old new l; tr
 -- a load that lacks memory
 pub wants_sound : (old new : BoardState) (fault : LoadFault) → load_status fault ≡ 7 → HasReason old new fault → new.flash_faults ≡ old.flash_faults
 wants_sound old new Memory wants reason = reason
-wants_sound old new fault wants reason = absurd (omega arith)
+wants_sound old new other wants reason = absurd (omega arith)
 
 some_bad : (at : ℕ) (bad : Option ℕ) → bad ≡ Some at → IsSome bad
 some_bad at bad e = let T : Option ℕ → Type 0 = IsSome in subst T (sym e) refl
