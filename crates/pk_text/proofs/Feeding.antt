@@ -3,9 +3,10 @@ use Rattle.std.proofs.Common.{◌≡◌, ℕ, ◌<◌, ◌≤◌, Bool, true, fa
 use Rattle.std.{specs.Prelude.nat_lt, proofs.lemmas.Bool.Decides.nat_tests, proofs.lemmas.List.take-append-drop, proofs.lemmas.List.length-take, proofs.Math.Seq.take-append_seam}
 use Rattle.std.proofs.Math.ListN.{drop_of_length-le}
 use Rattle.pk_base.specs.Mark.{Mark}
-use Rattle.pk_nand.{specs.BoardState.BoardState, specs.Calls.put_back, specs.Calls.AtEnd, specs.Operations.Fetched, specs.Operations.FetchFailed, specs.Operations.Takes, proofs.Resting.Rests-start}
+use Rattle.pk_nand.{specs.BoardState.BoardState, specs.Calls.put_back, specs.Calls.AtEnd, specs.Operations.Fetched, specs.Operations.FetchFailed, specs.Operations.Takes, proofs.Reaching.longer-nil}
+use Rattle.pk_nand.proofs.Resting.{Rests-start}
 use Rattle.pk_text.specs.Steps.{ahead, Moved, Fed, FeedFailed, Filled, Nexted}
-use Rattle.pk_text.proofs.Turning.{put_back-nil, put_back-append, longer-nil, Fed-then}
+use Rattle.pk_text.proofs.Turning.{put_back-nil, put_back-append, Fed-then}
 
 takes_back : (o left : Option (List ℕ)) (n : ℕ) (into : List ℕ) → Takes o left n into → o ≡ put_back (take n into) left
 takes_back None left n into h = sym (ap (put_back (take n into)) h)
@@ -22,7 +23,7 @@ Moved-fetched a b n bytes f =
       touched = record {
         taken = take n bytes;
         left = takes_back a.input b.input n bytes f.bytes;
-        posted = p ∙ longer-nil a.posted;
+        posted = p ∙ sym (longer-nil a.posted);
         rests = Rests-start a b (ap (λ s. s.shape) f.rest) (ap (λ s. s.pages) f.rest) t p;
         rest = f.rest ∙ ap (λ (x : Option (List ℕ) × Option (List Mark) × ℕ × ℕ). record a { input = b.input; posted = x.0; trail = x.1; in_faults = x.2; out_faults = x.3 })
             (λ k. (sym p k, sym t k, sym i k, sym o k));
@@ -41,7 +42,7 @@ Feed-failed a b f =
       touched = record {
         taken = [];
         left = sym h ∙ put_back-nil b.input;
-        posted = p ∙ longer-nil a.posted;
+        posted = p ∙ sym (longer-nil a.posted);
         rests = Rests-start a b (ap (λ s. s.shape) f.rest) (ap (λ s. s.pages) f.rest) t p;
         rest = f.rest ∙ ap (λ (x : Option (List ℕ) × Option (List ℕ) × Option (List Mark) × ℕ). record a { input = x.0; posted = x.1; trail = x.2; in_faults = b.in_faults; out_faults = x.3 })
             (λ k. (sym h k, sym p k, sym t k, sym o k));

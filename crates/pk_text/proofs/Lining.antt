@@ -1,13 +1,14 @@
 -- Lines that are taken, and what they give.
 use Rattle.std.proofs.Common.{◌≡◌, ℕ, suc, ◌<◌, ◌≤◌, ◌+◌, Bool, true, false, List, [], ◌∷◌, ◌++◌, length, refl, sym, ◌∙◌, ap, subst, arith, append_assoc, append-nil, length-append, Option, Some, None}
-use Rattle.std.{specs.Prelude.nat_lt, specs.Prelude.nat_le, specs.Prelude.◌==◌, specs.Prelude.if◌then◌else◌, specs.Prelude.IfSome, specs.Prelude.option_map, proofs.lemmas.Bool.Decides.nat_tests}
+use Rattle.std.{specs.Prelude.◌==◌, specs.Prelude.if◌then◌else◌, specs.Prelude.IfSome, specs.Prelude.option_map, proofs.lemmas.Bool.Decides.nat_tests, proofs.lemmas.Bool.lt-ltb}
+use Rattle.std.{proofs.lemmas.Bool.le-leb, proofs.lemmas.Bool.lt-leb}
 use Rattle.pk_asm.specs.Line.{Line, nothing, entry, says, entry_in, line_bytes}
 use Rattle.pk_nand.{specs.BoardState.BoardState, specs.Calls.put_back, specs.Calls.AtEnd, specs.Operations.after_post, specs.Operations.PostFailed}
 use Rattle.pk_text.{specs.Written.ended, specs.Assembled.onto_first, specs.Assembled.lines, specs.Assembled.line_given, specs.Assembled.lines_given, specs.Assembled.assembled_from}
 use Rattle.pk_text.{specs.Turns.TurnsFrom, specs.declared.end.TextEnd.TextEnd, proofs.Feeding.Fed-more, proofs.Feeding.Fed-end}
 use Rattle.pk_text.specs.Steps.{ahead, Moved, TextAdvances, Fed, Nexted, IsLine, LineTaken, NoLine, LineGives, GivesNot, TextStops}
-use Rattle.pk_text.specs.declared.end.TextEnd.TheVariants.{Done, Truncated, Input, Output, TooMany, BadLine}
-use Rattle.pk_text.proofs.Turning.{Moved-none, Moved-then, Moved-post, known, known_is, told-back, none_ahead, Turns-input, Turns-output, Turns-stop, all_posted}
+use Rattle.pk_text.specs.declared.end.TextEnd.TheVariants.{Done, Input, Output, TooMany, BadLine}
+use Rattle.pk_text.proofs.Turning.{Moved-none, Moved-then, Moved-post, known, known_is, told-back, none_ahead, Turns-input, Turns-output, Turns-stop, Turns-taken}
 
 -- ---- the lines of bytes
 
@@ -52,18 +53,14 @@ some-line byte rest false e = let o = onto_any byte (lines rest) in (byte ∷ o.
 
 first_line : (taken number : ℕ) (line : List ℕ) (ls : List (List ℕ)) → taken < 4294967295
     → lines_given taken number (line ∷ ls) ≡ line_given (says number line) number (λ next. lines_given (suc taken) next ls)
-first_line taken number line ls few =
-    let e : nat_le 4294967295 taken ≡ false = grind (arith, nat_tests) in
-    ap (λ b. if b then ended TooMany else line_given (says number line) number (λ next. lines_given (suc taken) next ls)) e
+first_line taken number line ls few = rw (lt-leb 4294967295 taken few)
 
 too_many : (taken number : ℕ) (line : List ℕ) (ls : List (List ℕ)) → 4294967295 ≤ taken → lines_given taken number (line ∷ ls) ≡ ended TooMany
-too_many taken number line ls full =
-    let e : nat_le 4294967295 taken ≡ true = grind (arith, nat_tests) in
-    ap (λ b. if b then ended TooMany else line_given (says number line) number (λ next. lines_given (suc taken) next ls)) e
+too_many taken number line ls full = rw (le-leb 4294967295 taken full)
 
 says-long : (number : ℕ) (line : List ℕ) → 2200000 < length line → says number line ≡ None
 unfolding says
-says-long number line long = let e : nat_lt 2200000 (length line) ≡ true = grind (arith, nat_tests) in rw e refl
+says-long number line long = rw (lt-ltb 2200000 (length line) long)
 
 -- ---- steps
 
@@ -107,66 +104,35 @@ found_line p q line a b false h = record {
 pub Line-last : (taken number next : ℕ) (p q line : List ℕ) (a b c : BoardState) → taken < 4294967295 → LineTaken p q a b line false → LineGives number line next b c
     → TurnsFrom (assembled_from taken number) (ahead p a) a c Done
 Line-last taken number next p q line a b c few h given =
-    let m : Moved a c given.out = Moved-then a b c [] given.out h.1.moved given.moved in
-    record {
-      input = line ++ [];
-      told = told-back (ahead p a) (ahead q b) line [] h.1.came (none_ahead q b h.3);
-      out = given.out;
-      touched = m.touched;
-      ends = (
-        all_posted a c (assembled_from taken number (line ++ [])) given.out Done m
-            (ap (λ l. lines_given taken number (lines l)) (append-nil line) ∙ (ap (lines_given taken number) (lines-last line h.0 h.2)
-            ∙ (first_line taken number line [] few ∙ given.spells (λ n. lines_given (suc taken) n [])))),
-        subst AtEnd (sym given.input) h.3.at_end,
-      );
-    }
+    Turns-taken (assembled_from taken number) _ a c (line ++ []) given.out Done (told-back (ahead p a) (ahead q b) line [] h.1.came (none_ahead q b h.3))
+    (Moved-then a b c [] given.out h.1.moved given.moved)
+    (ap (λ l. lines_given taken number (lines l)) (append-nil line) ∙ (ap (lines_given taken number) (lines-last line h.0 h.2)
+    ∙ (first_line taken number line [] few ∙ given.spells (λ n. lines_given (suc taken) n [])))) (λ all. (all, subst AtEnd (sym given.input) h.3.at_end))
 
 pub Line-not : (taken number : ℕ) (p q line : List ℕ) (a b c : BoardState) (whole : Bool) (end : TextEnd) → taken < 4294967295 → LineTaken p q a b line whole → GivesNot number line b c end
     → TurnsFrom (assembled_from taken number) (ahead p a) a c end
-Line-not taken number p q line a b c whole Done few t h = absurd h
-Line-not taken number p q line a b c whole Truncated few t h = absurd h
-Line-not taken number p q line a b c whole Input few t h = absurd h
 Line-not taken number p q line a b c whole Output few t h =
     let f = found_line p q line a b whole t in
     Turns-output (assembled_from taken number) (ahead p a) f.input a b c (h.0 ++ h.1) (lines_given (suc taken) (number + 1) (lines f.rest)) f.told f.moved h.3
     (ap (lines_given taken number) f.split ∙ (first_line taken number line (lines f.rest) few ∙ ap (λ o. line_given o number (λ n. lines_given (suc taken) n (lines f.rest))) h.2))
-Line-not taken number p q line a b c whole TooMany few t h = absurd h
 Line-not taken number p q line a b c whole BadLine few t h =
     let f = found_line p q line a b whole t in
     let T : BoardState → Type 0 = λ s. Moved a s [] in
-    let m : Moved a c [] = subst T (sym h.1) f.moved in
-    record {
-      input = f.input;
-      told = f.told;
-      out = [];
-      touched = m.touched;
-      ends = all_posted a c (assembled_from taken number f.input) [] BadLine m
-          (ap (lines_given taken number) f.split ∙ (first_line taken number line (lines f.rest) few ∙ ap (λ o. line_given o number (λ n. lines_given (suc taken) n (lines f.rest))) h.0));
-    }
+    Turns-taken (assembled_from taken number) _ a c f.input [] BadLine f.told (subst T (sym h.1) f.moved)
+    (ap (lines_given taken number) f.split ∙ (first_line taken number line (lines f.rest) few ∙ ap (λ o. line_given o number (λ n. lines_given (suc taken) n (lines f.rest))) h.0)) (λ all. all)
+Line-not taken number p q line a b c whole end few t h = absurd h
 
 pub No-line : (taken number : ℕ) (p q line : List ℕ) (a b : BoardState) (end : TextEnd) → taken < 4294967295 → NoLine p q a b line end → TurnsFrom (assembled_from taken number) (ahead p a) a b end
-No-line taken number p q line a b Done few h = record {
-  input = [];
-  told = told-back (ahead p a) (ahead q b) [] [] h.0.came (none_ahead q b h.1);
-  out = [];
-  touched = h.0.moved.touched;
-  ends = (all_posted a b (ended Done) [] Done h.0.moved refl, h.1.at_end);
-}
-No-line taken number p q line a b Truncated few h = absurd h
+No-line taken number p q line a b Done few h =
+    Turns-taken (assembled_from taken number) _ a b [] [] Done (told-back (ahead p a) (ahead q b) [] [] h.0.came (none_ahead q b h.1)) h.0.moved refl (λ all. (all, h.1.at_end))
 No-line taken number p q line a b Input few h = Turns-input (assembled_from taken number) (ahead p a) a b h
-No-line taken number p q line a b Output few h = absurd h
-No-line taken number p q line a b TooMany few h = absurd h
 No-line taken number p q line a b BadLine few h =
-    let l = lines-long line (known (ahead q b)) h.0 (omega (arith, h.2)) in
-    record {
-      input = line ++ known (ahead q b);
-      told = told-back (ahead p a) (ahead q b) line (known (ahead q b)) h.1.came (known_is (ahead q b));
-      out = [];
-      touched = h.1.moved.touched;
-      ends = all_posted a b (assembled_from taken number (line ++ known (ahead q b))) [] BadLine h.1.moved
-          (ap (lines_given taken number) l.is ∙ (first_line taken number (line ++ l.more) l.tail few
-          ∙ ap (λ o. line_given o number (λ n. lines_given (suc taken) n l.tail)) (says-long number (line ++ l.more) (omega (arith, h.2, length-append line l.more)))));
-    }
+    let rest : List ℕ = known (ahead q b) in
+    let l = lines-long line rest h.0 (omega (arith, h.2)) in
+    Turns-taken (assembled_from taken number) _ a b (line ++ rest) [] BadLine (told-back (ahead p a) (ahead q b) line rest h.1.came (known_is (ahead q b))) h.1.moved
+    (ap (lines_given taken number) l.is ∙ (first_line taken number (line ++ l.more) l.tail few
+    ∙ ap (λ o. line_given o number (λ n. lines_given (suc taken) n l.tail)) (says-long number (line ++ l.more) (omega (arith, h.2, length-append line l.more))))) (λ all. all)
+No-line taken number p q line a b end few h = absurd h
 
 pub Lines-stop : (taken number : ℕ) (p q : List ℕ) (a b : BoardState) (end : TextEnd) → 4294967295 ≤ taken → TextStops p q a b end → TurnsFrom (assembled_from taken number) (ahead p a) a b end
 Lines-stop taken number p q a b end full h = Turns-stop (assembled_from taken number) p q a b end refl

@@ -2,7 +2,8 @@
 use Rattle.std.proofs.Common.{◌≡◌, ℕ, zero, suc, ◌<◌, ◌≤◌, ◌+◌, ◌-◌, Bool, true, false, List, [], ◌∷◌, ◌++◌, length, take, drop, refl, sym, ◌∙◌, ap, subst, arith, append_assoc, append-nil}
 use Rattle.std.proofs.Common.{length-append, length-drop, length-take-le}
 use Rattle.std.specs.Prelude.{nat_lt, nat_le, ◌==◌, ◌^◌, if◌then◌else◌, codes, IsTrue, ◌↔◌}
-use Rattle.std.{proofs.lemmas.Bool.Decides.nat_tests, proofs.Math.Seq.take-append_seam, proofs.Math.Seq.drop-append_seam, proofs.Math.Seq.take-append-add, proofs.Math.Seq.drop-append-add}
+use Rattle.std.{proofs.lemmas.Bool.Decides.nat_tests, proofs.lemmas.Bool.le-ltb, proofs.lemmas.Bool.lt-ltb, proofs.lemmas.Bool.le-leb, proofs.lemmas.Bool.lt-leb, proofs.Math.Seq.take-append_seam}
+use Rattle.std.{proofs.Math.Seq.drop-append_seam, proofs.Math.Seq.take-append-add, proofs.Math.Seq.drop-append-add}
 use Rattle.pk_base.specs.Fields.{u16_at, u32_at}
 use Rattle.pk_nvme.{specs.Reply.status_at, specs.Text.hex_text, specs.Text.number_text, proofs.TextLemmas.hex_text-append, proofs.TextLemmas.length-hex_text, proofs.TextLemmas.number_text_short}
 use Rattle.pk_nvme.specs.Bytes.{RoomyList}
@@ -12,7 +13,7 @@ use Rattle.pk_text.{specs.Written.Written, specs.Written.ended, specs.Written.be
 use Rattle.pk_text.specs.Records.{cut_short, data_shown, head_shown, record_shown, records_shown, shown_from}
 use Rattle.pk_text.specs.Steps.{ahead, TextAdvances, Fed, IsOver, HeadTaken, TextStops}
 use Rattle.pk_text.specs.declared.end.TextEnd.TheVariants.{Truncated, Output, TooMany}
-use Rattle.pk_text.proofs.Turning.{not_false, put_back-nil, before-before, Moved-none, Moved-then, Moved-post, known, known_is, told-back, none_ahead, Turns-output, Turns-stop, all_posted}
+use Rattle.pk_text.proofs.Turning.{not_false, put_back-nil, before-before, Moved-none, Moved-then, Moved-post, known, known_is, told-back, none_ahead, Turns-output, Turns-stop, Turns-taken}
 
 nil_of : (xs : List ℕ) → length xs ≡ 0 → xs ≡ []
 nil_of [] e = refl
@@ -33,14 +34,10 @@ drop-front n xs ys e = ap (λ k. drop k (xs ++ ys)) (sym e) ∙ drop-append_seam
 -- ---- data
 
 data_whole : (size : ℕ) (more : List ℕ → Written) (bytes : List ℕ) → size ≤ length bytes → data_shown size more bytes ≡ before (hex_text (take size bytes) ++ codes "\n") (more (drop size bytes))
-data_whole size more bytes fits =
-    let e : nat_lt (length bytes) size ≡ false = grind (arith, nat_tests) in
-    ap (λ b. if b then cut_short bytes else before (hex_text (take size bytes) ++ codes "\n") (more (drop size bytes))) e
+data_whole size more bytes fits = rw (le-ltb (length bytes) size fits)
 
 data_part : (size : ℕ) (more : List ℕ → Written) (bytes : List ℕ) → length bytes < size → data_shown size more bytes ≡ cut_short bytes
-data_part size more bytes few =
-    let e : nat_lt (length bytes) size ≡ true = grind (arith, nat_tests) in
-    ap (λ b. if b then cut_short bytes else before (hex_text (take size bytes) ++ codes "\n") (more (drop size bytes))) e
+data_part size more bytes few = rw (lt-ltb (length bytes) size few)
 
 take-behind : (size : ℕ) (piece rest : List ℕ) → length piece ≤ size → take size (piece ++ rest) ≡ piece ++ take (size - length piece) rest
 take-behind size piece rest fits =
@@ -79,22 +76,15 @@ data_none size more some = data_part size more [] some ∙ ap truncated no_digit
 -- ---- heads
 
 record_whole : (more : List ℕ → Written) (head rest : List ℕ) → length head ≡ 24 → record_shown more (head ++ rest) ≡ head_shown head more rest
-record_whole more head rest size =
-    let e : nat_lt (length (head ++ rest)) 24 ≡ false = grind (arith, nat_tests, length-append head rest) in
-    ap (λ b. if b then ended Truncated else head_shown (take 24 (head ++ rest)) more (drop 24 (head ++ rest))) e
-    ∙ (ap (λ h. head_shown h more (drop 24 (head ++ rest))) (take-front 24 head rest size) ∙ ap (head_shown head more) (drop-front 24 head rest size))
+record_whole more head rest size = rw (le-ltb (length (head ++ rest)) 24 (omega (arith, length-append head rest)), take-front 24 head rest size, drop-front 24 head rest size)
 
 record_part : (more : List ℕ → Written) (bytes : List ℕ) → length bytes < 24 → record_shown more bytes ≡ ended Truncated
-record_part more bytes few =
-    let e : nat_lt (length bytes) 24 ≡ true = grind (arith, nat_tests) in
-    ap (λ b. if b then ended Truncated else head_shown (take 24 bytes) more (drop 24 bytes)) e
+record_part more bytes few = rw (lt-ltb (length bytes) 24 few)
 
 -- ---- any number of records
 
 record_same : (f g : List ℕ → Written) (bytes : List ℕ) → ((rest : List ℕ) → length rest ≤ length bytes - 24 → f rest ≡ g rest) → record_shown f bytes ≡ record_shown g bytes
 record_same f g bytes same =
-    let behind : List ℕ = drop 24 bytes in
-    let size : ℕ = u32_at (take 24 bytes) 20 in
     ap (λ (w : Written). if nat_lt (length bytes) 24 then ended Truncated else before (shown_head (take 24 bytes))
     (if nat_lt (length (drop 24 bytes)) (u32_at (take 24 bytes) 20) then cut_short (drop 24 bytes)
     else before (hex_text (take (u32_at (take 24 bytes) 20) (drop 24 bytes)) ++ codes "\n") w))
@@ -114,14 +104,11 @@ enough (suc n) (suc m) taken (x ∷ xs) hn hm =
 one_record : (taken : ℕ) (bytes : List ℕ) → taken < 4294967295 → 0 < length bytes → shown_from taken bytes ≡ record_shown (shown_from (suc taken)) bytes
 one_record taken [] few some = absurd (omega arith)
 one_record taken (x ∷ xs) few some =
-    let e : nat_le 4294967295 taken ≡ false = grind (arith, nat_tests) in
-    ap (λ b. if b then ended TooMany else record_shown (λ rest. records_shown (length xs) (suc taken) rest) (x ∷ xs)) e
-    ∙ record_same (λ rest. records_shown (length xs) (suc taken) rest) (shown_from (suc taken)) (x ∷ xs) (λ rest short. enough (length xs) (length rest) (suc taken) rest (omega arith) (omega arith))
+    rw (lt-leb 4294967295 taken few) (record_same (λ rest. records_shown (length xs) (suc taken) rest) (shown_from (suc taken)) (x ∷ xs)
+    (λ rest short. enough (length xs) (length rest) (suc taken) rest (omega arith) (omega arith)))
 
 too_many : (taken byte : ℕ) (rest : List ℕ) → 4294967295 ≤ taken → shown_from taken (byte ∷ rest) ≡ ended TooMany
-too_many taken byte rest full =
-    let e : nat_le 4294967295 taken ≡ true = grind (arith, nat_tests) in
-    ap (λ b. if b then ended TooMany else record_shown (λ r. records_shown (length rest) (suc taken) r) (byte ∷ rest)) e
+too_many taken byte rest full = rw (le-leb 4294967295 taken full)
 
 first_head : (taken : ℕ) (head rest : List ℕ) → taken < 4294967295 → length head ≡ 24 → shown_from taken (head ++ rest) ≡ head_shown head (shown_from (suc taken)) rest
 first_head taken head rest few size =
@@ -153,32 +140,26 @@ Head-advances taken p q head a b few h = record {
 
 pub Head-part : (taken : ℕ) (p q head : List ℕ) (a b : BoardState) → taken < 4294967295 → 0 < length head → HeadTaken p q a b head false → TurnsFrom (shown_from taken) (ahead p a) a b Truncated
 Head-part taken p q head a b few some h =
-    let e : head ++ [] ≡ head = append-nil head in
-    record {
-      input = head ++ [];
-      told = told-back (ahead p a) (ahead q b) head [] h.0.came (none_ahead q b h.2);
-      out = [];
-      touched = h.0.moved.touched;
-      ends = (
-        all_posted a b (shown_from taken (head ++ [])) [] Truncated h.0.moved
-            (ap (shown_from taken) e ∙ (one_record taken head few some ∙ record_part (shown_from (suc taken)) head h.1)),
-        h.2.at_end,
-      );
-    }
+    Turns-taken (shown_from taken) _ a b (head ++ []) [] Truncated (told-back (ahead p a) (ahead q b) head [] h.0.came (none_ahead q b h.2)) h.0.moved
+    (ap (shown_from taken) (append-nil head) ∙ (one_record taken head few some ∙ record_part (shown_from (suc taken)) head h.1)) (λ all. (all, h.2.at_end))
+
+-- the same bytes are ahead after a post
+posted_advances : (f g : List ℕ → Written) (p out : List ℕ) (a b : BoardState) → ((rest : List ℕ) → f rest ≡ before out (g rest)) → b ≡ after_post a out → TextAdvances f g (ahead p a) (ahead p b) a b
+posted_advances f g p out a b spells posted =
+    record { bytes = []; out = out; came = ap (put_back p) (sym (ap (λ s. s.input) posted)) ∙ put_back-nil (ahead p b); spells = spells; moved = Moved-post a b out posted }
+
+-- a post fails before anything is taken
+unposted : (f g : List ℕ → Written) (p out : List ℕ) (a b : BoardState) → ((rest : List ℕ) → f rest ≡ before out (g rest)) → PostFailed a b out → TurnsFrom f (ahead p a) a b Output
+unposted f g p out a b spells failed =
+    Turns-output f (ahead p a) (known (ahead p a)) a a b out (g (known (ahead p a))) (known_is (ahead p a)) (Moved-none a) failed (spells (known (ahead p a)))
 
 pub Front-advances : (size : ℕ) (more : List ℕ → Written) (p head : List ℕ) (a b : BoardState) → size ≡ u32_at head 20 → b ≡ after_post a (shown_head head)
     → TextAdvances (head_shown head more) (data_shown size more) (ahead p a) (ahead p b) a b
-Front-advances size more p head a b same posted = record {
-  bytes = [];
-  out = shown_head head;
-  came = ap (put_back p) (sym (ap (λ s. s.input) posted)) ∙ put_back-nil (ahead p b);
-  spells = λ rest. ap (λ k. before (shown_head head) (data_shown k more rest)) (sym same);
-  moved = Moved-post a b (shown_head head) posted;
-}
+Front-advances size more p head a b same posted =
+    posted_advances (head_shown head more) (data_shown size more) p (shown_head head) a b (λ rest. ap (λ k. before (shown_head head) (data_shown k more rest)) (sym same)) posted
 
 pub Front-failed : (more : List ℕ → Written) (p head : List ℕ) (a b : BoardState) → PostFailed a b (shown_head head) → TurnsFrom (head_shown head more) (ahead p a) a b Output
-Front-failed more p head a b f =
-    Turns-output (head_shown head more) (ahead p a) (known (ahead p a)) a a b (shown_head head) (data_shown (u32_at head 20) more (known (ahead p a))) (known_is (ahead p a)) (Moved-none a) f refl
+Front-failed more p head a b f = unposted (head_shown head more) (data_shown (u32_at head 20) more) p (shown_head head) a b (λ rest. refl) f
 
 pub Data-advances : (left count : ℕ) (more : List ℕ → Written) (p q q' piece : List ℕ) (a b c : BoardState) → Fed p q a b [] → count ≤ length q → count ≤ left → piece ≡ take count q
     → q' ≡ drop count q → c ≡ after_post b (hex_text piece) → TextAdvances (data_shown left more) (data_shown (left - count) more) (ahead p a) (ahead q' c) a c
@@ -207,26 +188,14 @@ Data-failed left count more p q piece a b c fed fits few is f =
     (data_step left more piece rest (nat_lt (length rest) (left - length piece)) (omega arith) refl)
 
 pub Data-part : (left : ℕ) (more : List ℕ → Written) (p q : List ℕ) (a b : BoardState) → 0 < left → Fed p q a b [] → IsOver q b → TurnsFrom (data_shown left more) (ahead p a) a b Truncated
-Data-part left more p q a b some fed over = record {
-  input = [];
-  told = told-back (ahead p a) (ahead q b) [] [] fed.came (none_ahead q b over);
-  out = [];
-  touched = fed.moved.touched;
-  ends = (all_posted a b (data_shown left more []) [] Truncated fed.moved (data_none left more some), over.at_end);
-}
+Data-part left more p q a b some fed over =
+    Turns-taken (data_shown left more) _ a b [] [] Truncated (told-back (ahead p a) (ahead q b) [] [] fed.came (none_ahead q b over)) fed.moved (data_none left more some) (λ all. (all, over.at_end))
 
 pub End-advances : (more : List ℕ → Written) (p : List ℕ) (a b : BoardState) → b ≡ after_post a (codes "\n") → TextAdvances (data_shown 0 more) more (ahead p a) (ahead p b) a b
-End-advances more p a b posted = record {
-  bytes = [];
-  out = codes "\n";
-  came = ap (put_back p) (sym (ap (λ s. s.input) posted)) ∙ put_back-nil (ahead p b);
-  spells = λ rest. data_end more rest;
-  moved = Moved-post a b (codes "\n") posted;
-}
+End-advances more p a b posted = posted_advances (data_shown 0 more) more p (codes "\n") a b (data_end more) posted
 
 pub End-failed : (more : List ℕ → Written) (p : List ℕ) (a b : BoardState) → PostFailed a b (codes "\n") → TurnsFrom (data_shown 0 more) (ahead p a) a b Output
-End-failed more p a b f =
-    Turns-output (data_shown 0 more) (ahead p a) (known (ahead p a)) a a b (codes "\n") (more (known (ahead p a))) (known_is (ahead p a)) (Moved-none a) f (data_end more (known (ahead p a)))
+End-failed more p a b f = unposted (data_shown 0 more) more p (codes "\n") a b (data_end more) f
 
 pub Records-stop : (taken : ℕ) (p q : List ℕ) (a b : BoardState) (end : TextEnd) → 4294967295 ≤ taken → TextStops p q a b end → TurnsFrom (shown_from taken) (ahead p a) a b end
 Records-stop taken p q a b end full h = Turns-stop (shown_from taken) p q a b end refl (λ byte rest. too_many taken byte rest full) h
@@ -255,9 +224,7 @@ front_length head cid result reads =
 
 pub front_short : (head : List ℕ) (cid result reads : ℕ) → cid ≡ u16_at head 12 → result ≡ u32_at head 0
     → reads ≡ u32_at head 16 → cid < 2 ^ 32 → result < 2 ^ 32 → reads < 2 ^ 32 → length (shown_head head) ≤ 66
-front_short head cid result reads e f g cid_few result_few reads_few =
-    let L : ℕ → Type 0 = λ n. n < 2 ^ 32 in
-    front_length head (subst L e cid_few) (subst L f result_few) (subst L g reads_few)
+front_short head cid result reads e f g cid_few result_few reads_few = front_length head (omega arith) (omega arith) (omega arith)
 
 -- the start of a line fits
 pub no_refusal : (old now : RoomyList) (text : List ℕ) (r : Bool) → length text ≤ 66 → old.room ≡ 8192

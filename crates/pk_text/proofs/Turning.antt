@@ -2,11 +2,12 @@
 use Rattle.std.proofs.Common.{◌≡◌, ℕ, suc, ◌+◌, Bool, true, false, arith, ◌<◌, List, [], ◌∷◌, ◌++◌, length, refl, sym, ◌∙◌, ap, subst, append_assoc, append-nil, Option, Some, None}
 use Rattle.std.specs.Prelude.{IfSome, IfErr, OnOk, OnErr, IsTrue, Result, Ok, Err, ◌↔◌}
 use Rattle.pk_nand.{specs.BoardState.BoardState, specs.Calls.Rose, specs.Calls.longer, specs.Calls.put_back, specs.Calls.AtEnd, specs.Operations.after_post, specs.Operations.PostFailed}
+use Rattle.pk_nand.proofs.Reaching.{longer-longer, longer-nil}
 use Rattle.pk_nand.proofs.Resting.{Rests-same, Rests-then, Rests-post, Rests-post_failed}
 use Rattle.pk_text.{specs.Written.Written, specs.Written.ended, specs.Written.before, specs.declared.end.TextEnd.TextEnd}
 use Rattle.pk_text.specs.Turns.{Touched, IsTextPrefix, IsAll, TextEnds, TurnsFrom, Turns}
 use Rattle.pk_text.specs.Steps.{ahead, Moved, TextAdvances, Fed, IsOver, FeedFailed, Nexted, TextStops}
-use Rattle.pk_text.specs.declared.end.TextEnd.TheVariants.{Done, Truncated, Input, Output, TooMany, BadLine}
+use Rattle.pk_text.specs.declared.end.TextEnd.TheVariants.{Done, Truncated, Input, Output, TooMany}
 
 pub put_back-append : (xs ys : List ℕ) (o : Option (List ℕ)) → put_back xs (put_back ys o) ≡ put_back (xs ++ ys) o
 put_back-append xs ys None = refl
@@ -18,14 +19,6 @@ put_back-nil (Some left) = refl
 
 pub taken-append : (a b c : Option (List ℕ)) (xs ys : List ℕ) → a ≡ put_back xs b → b ≡ put_back ys c → a ≡ put_back (xs ++ ys) c
 taken-append a b c xs ys p q = p ∙ (ap (put_back xs) q ∙ put_back-append xs ys c)
-
-longer-append : (o : Option (List ℕ)) (xs ys : List ℕ) → longer (longer o xs) ys ≡ longer o (xs ++ ys)
-longer-append None xs ys = refl
-longer-append (Some told) xs ys = ap (λ l. Some l) (append_assoc told xs ys)
-
-pub longer-nil : (o : Option (List ℕ)) → o ≡ longer o []
-longer-nil None = refl
-longer-nil (Some told) = ap (λ l. Some l) (sym (append-nil told))
 
 abbrev written : List ℕ → TextEnd → Written
 written bytes end = record { bytes = bytes; end = end }
@@ -39,7 +32,7 @@ pub Touched-then : (a b c : BoardState) (x y : List ℕ) → Touched a b x → T
 Touched-then a b c x y p q = record {
   taken = p.taken ++ q.taken;
   left = taken-append a.input b.input c.input p.taken q.taken p.left q.left;
-  posted = q.posted ∙ (ap (λ o. longer o y) p.posted ∙ longer-append a.posted x y);
+  posted = q.posted ∙ (ap (λ o. longer o y) p.posted ∙ longer-longer a.posted x y);
   rests = Rests-then a b c (ap (λ (s : BoardState). s.pages) p.rest) p.rests q.rests;
   rest = q.rest ∙ ap (λ (s : BoardState). record s { input = c.input; posted = c.posted; trail = c.trail; in_faults = c.in_faults; out_faults = c.out_faults }) p.rest;
 }
@@ -49,7 +42,7 @@ Moved-none a = record {
   touched = record {
     taken = [];
     left = put_back-nil a.input;
-    posted = longer-nil a.posted;
+    posted = sym (longer-nil a.posted);
     rests = Rests-same a a refl;
     rest = refl;
   };
@@ -195,8 +188,7 @@ TextEnds-behind a b c w v x y Output e i o h = record {
   in_same = h.in_same ∙ i;
   front = front_behind w v x y e h.front;
 }
-TextEnds-behind a b c w v x y TooMany e i o h = all_behind a b c w v x y TooMany e i o h
-TextEnds-behind a b c w v x y BadLine e i o h = all_behind a b c w v x y BadLine e i o h
+TextEnds-behind a b c w v x y end e i o h = all_behind a b c w v x y end e i o h
 
 pub Turns-behind : (f g : List ℕ → Written) (u v : Option (List ℕ)) (a b c : BoardState) (end : TextEnd) → TextAdvances f g u v a b → TurnsFrom g v b c end → TurnsFrom f u a c end
 Turns-behind f g u v a b c end p t = record {
@@ -232,36 +224,32 @@ Turns-output f u input a b c bytes w told m failed e = record {
   };
 }
 
--- all was posted
-pub all_posted : (a b : BoardState) (w : Written) (out : List ℕ) (end : TextEnd) → Moved a b out → w ≡ before out (ended end) → IsAll a b w out end
-all_posted a b w out end m e = record {
-  end_is = ap (λ (t : Written). t.end) e;
-  all = sym (ap (λ (t : Written). t.bytes) e ∙ append-nil out);
-  in_same = m.in_same;
-  out_same = m.out_same;
+-- all was posted, and the run ends
+pub Turns-taken : (f : List ℕ → Written) (u : Option (List ℕ)) (a b : BoardState) (input out : List ℕ) (end : TextEnd) → IfSome u (λ l. l ≡ input) → Moved a b out
+    → f input ≡ before out (ended end) → (IsAll a b (f input) out end → TextEnds a b (f input) out end) → TurnsFrom f u a b end
+Turns-taken f u a b input out end told m e ends = record {
+  input = input;
+  told = told;
+  out = out;
+  touched = m.touched;
+  ends = ends (
+      record {
+        end_is = ap (λ (t : Written). t.end) e;
+        all = sym (ap (λ (t : Written). t.bytes) e ∙ append-nil out);
+        in_same = m.in_same;
+        out_same = m.out_same;
+      });
 }
 
 -- no more is to be taken
 pub Turns-stop : (f : List ℕ → Written) (p q : List ℕ) (a b : BoardState) (end : TextEnd) → f [] ≡ ended Done → ((byte : ℕ) (rest : List ℕ) → f (byte ∷ rest) ≡ ended TooMany) → TextStops p q a b end
     → TurnsFrom f (ahead p a) a b end
-Turns-stop f p q a b Done none some h = record {
-  input = [];
-  told = told-back (ahead p a) (ahead q b) [] [] h.0.came (none_ahead q b h.1);
-  out = [];
-  touched = h.0.moved.touched;
-  ends = (all_posted a b (f []) [] Done h.0.moved none, h.1.at_end);
-}
-Turns-stop f p q a b Truncated none some h = absurd h
+Turns-stop f p q a b Done none some h = Turns-taken f _ a b [] [] Done (told-back (ahead p a) (ahead q b) [] [] h.0.came (none_ahead q b h.1)) h.0.moved none (λ all. (all, h.1.at_end))
 Turns-stop f p q a b Input none some h = Turns-input f (ahead p a) a b h
-Turns-stop f p q a b Output none some h = absurd h
-Turns-stop f p q a b TooMany none some h = record {
-  input = h.0 ∷ known (ahead q b);
-  told = told-back (ahead p a) (ahead q b) (h.0 ∷ []) (known (ahead q b)) h.1.came (known_is (ahead q b));
-  out = [];
-  touched = h.1.moved.touched;
-  ends = all_posted a b (f (h.0 ∷ known (ahead q b))) [] TooMany h.1.moved (some h.0 (known (ahead q b)));
-}
-Turns-stop f p q a b BadLine none some h = absurd h
+Turns-stop f p q a b TooMany none some h =
+    let rest : List ℕ = known (ahead q b) in
+    Turns-taken f _ a b (h.0 ∷ rest) [] TooMany (told-back (ahead p a) (ahead q b) (h.0 ∷ []) rest h.1.came (known_is (ahead q b))) h.1.moved (some h.0 rest) (λ all. all)
+Turns-stop f p q a b end none some h = absurd h
 
 -- a run from the board's own input
 pub Turns-all : (f : List ℕ → Written) (a b : BoardState) (end : TextEnd) → TurnsFrom f (ahead [] a) a b end → Turns f a b end

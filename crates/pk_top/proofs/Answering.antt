@@ -1,21 +1,19 @@
 -- If no call fails, a word is done.
-use Rattle.std.proofs.Common.{◌≡◌, ◌⊎◌, inl, inr, ℕ, ◌+◌, ◌<◌, ◌≤◌, List, Option, Some, None, IsSome, refl, sym, ◌∙◌, ap, subst, arith, true, nat_le}
+use Rattle.std.proofs.Common.{◌≡◌, inl, inr, ℕ, ◌+◌, ◌<◌, ◌≤◌, List, Option, Some, IsSome, refl, sym, ◌∙◌, ap, subst, arith, true, nat_le}
 use Rattle.std.proofs.lemmas.Bool.Decides.{nat_tests}
 use Rattle.pk_base.{specs.Shape.Shape, specs.Page.Flash, specs.Map.Map}
-use Rattle.pk_nand.{specs.BoardState.BoardState, specs.BoardState.shape_or_none, specs.Calls.Rose, specs.Calls.Loaded, specs.Calls.longer, specs.declared.types.LoadFault.LoadFault}
-use Rattle.pk_nand.specs.declared.types.LoadFault.TheVariants.{Fault, BadImage, Memory}
-use Rattle.pk_model.{specs.Spaces.terms_at, specs.Kept.AtMost, specs.Kept.rise, specs.Reading.Holds, specs.Run.faults, specs.Wear.root_number, specs.Wear.roots}
+use Rattle.pk_nand.{specs.BoardState.BoardState, specs.Calls.Rose, specs.Calls.Loaded, specs.Calls.longer}
+use Rattle.pk_model.{specs.Spaces.terms_at, specs.Kept.AtMost, specs.Kept.rise, specs.Reading.Holds, specs.Run.faults, specs.Wear.roots}
 use Rattle.pk_call.specs.Meter.{Meter, meter, MeteredAll}
-use Rattle.pk_serve.specs.Complete.{NoneRose}
 use Rattle.pk_scan.{specs.Opening.NotOpened, specs.declared.errors.OpenError.OpenError}
 use Rattle.pk_scan.specs.declared.errors.OpenError.TheVariants.{NotFormatted, Damaged, Fault as ReadFault, Memory as NoMemory}
-use Rattle.pk_wordrun.{specs.Tasks.Task, specs.Tasks.answer, specs.Tasks.list, specs.Tasks.generate, specs.Tasks.SaysTask, specs.Seen.IsAllowedTask, specs.declared.end.WordEnd.WordEnd}
+use Rattle.pk_wordrun.{specs.Tasks.Task, specs.Tasks.generate, specs.Tasks.SaysTask, specs.Seen.IsAllowedTask, specs.declared.end.WordEnd.WordEnd}
 use Rattle.pk_wordrun.specs.Told.{WordDone, most_roots}
 use Rattle.pk_wordrun.specs.declared.end.WordEnd.TheVariants.{Done, Output, Flash as FlashFailed, Worn}
 use Rattle.pk_top.{specs.Asks.word_status, specs.Asks.AskedTo, specs.Asks.Asks, specs.Asks.AsksAll, specs.Asks.AsksWhole, specs.Asks.AsksFound, specs.Asks.AskRun, specs.Ends.open_status}
-use Rattle.pk_top.{specs.declared.asking.TheConstants.WORD_FRAMES, specs.Serves.behind_opening, specs.Statuses.Untouched, proofs.Asked.same_meter}
-use Rattle.pk_top.specs.Loads.{load_status, HasReason, no_memory, not_loaded, no_image, has_image}
-use Rattle.pk_top.{proofs.Completing.reads_leave, proofs.Completing.untouched_loaded, proofs.Telling.untouched_same, proofs.Telling.refused_untouched}
+use Rattle.pk_top.{specs.declared.asking.TheConstants.WORD_FRAMES, specs.Serves.behind_opening, proofs.Asked.same_meter}
+use Rattle.pk_top.{proofs.Opened.found_shape, proofs.Opened.found_pages, proofs.Opened.same_roots, proofs.Opened.none_loaded}
+use Rattle.pk_top.proofs.Telling.{Untouched-then, reads_leave, load_untouched, found_or_none}
 
 -- ---- from the load on
 
@@ -27,7 +25,7 @@ not_opened task shape loaded new status (Damaged page) is reason start holds far
 not_opened task shape loaded new status ReadFault is reason start holds far none sound = absurd (sound reason.0)
 not_opened task shape loaded new status NoMemory is reason start holds far none sound = inr (is, reads_leave loaded new reason)
 
-worn_never : (before behind more : ℕ) → nat_le 9223372036854775808 behind ≡ true → behind ≤ before + more → before < 4611686018427387904 → more < 4611686018427387904 → ⊥
+pub worn_never : (before behind more : ℕ) → nat_le 9223372036854775808 behind ≡ true → behind ≤ before + more → before < 4611686018427387904 → more < 4611686018427387904 → ⊥
 worn_never before behind more worn used far few = grind (arith, nat_tests, worn, used, far, few)
 
 module _ (task : Task) (few : most_roots task < 4611686018427387904) (shape : Shape) (loaded new : BoardState) where
@@ -50,23 +48,9 @@ module _ (task : Task) (few : most_roots task < 4611686018427387904) (shape : Sh
 -- ---- a board that holds its pages from the start
 
 module _ (task : Task) (few : most_roots task < 4611686018427387904) (old new : BoardState) (status : ℕ) where
-  whole_refused : (fault : LoadFault) → status ≡ load_status fault → HasReason old new fault → (new.flash_faults ≡ old.flash_faults → Untouched old new) → AsksWhole task old new status
-  whole_refused Fault is reason leaves shape has start holds far none sound = absurd (sound reason)
-  whole_refused (BadImage at) is reason leaves shape has start holds far none sound = absurd (reason.2 (subst IsSome (sym has) refl))
-  whole_refused Memory is reason leaves shape has start holds far none sound = inr (is, leaves reason)
-
   module _ (shape : Shape) (loaded : BoardState) (found : Loaded old loaded (Some shape)) (has : old.shape ≡ Some shape) where
-    some : IsSome old.shape
-    some = subst IsSome (sym has) refl
-
     same_pages : loaded.pages ≡ old.pages
-    same_pages = (found.held some).0
-
-    same_shape : loaded.shape ≡ old.shape
-    same_shape = (found.held some).1
-
-    same_roots : roots old ≡ roots loaded
-    same_roots = λ k. root_number (shape_or_none (sym same_shape k)) (sym same_pages k)
+    same_pages = found_pages old loaded (Some shape) shape has found
 
     finished_loaded : (start : Map) → WordDone task shape (terms_at shape loaded.pages WORD_FRAMES) start (behind_opening shape WORD_FRAMES loaded) new
         → WordDone task shape (terms_at shape old.pages WORD_FRAMES) start (behind_opening shape WORD_FRAMES old) new
@@ -85,63 +69,41 @@ module _ (task : Task) (few : most_roots task < 4611686018427387904) (old new : 
             are = f.answered.are;
             ran = f.answered.ran;
             few = subst F same_faults f.answered.few;
-            metered = subst M (same_meter shape old loaded found some) f.answered.metered;
+            metered = subst M (same_meter shape old loaded found (subst IsSome (sym has) refl)) f.answered.metered;
           };
           text = f.text;
           says = subst R same_faults f.says;
           posted = f.posted ∙ ap (λ (o : Option (List ℕ)). longer o f.text) (ap (λ (s : BoardState). s.posted) found.rest);
           holds = f.holds;
           sound = record { output = f.sound.output ∙ ap (λ (s : BoardState). s.out_faults) found.rest; stop = f.sound.stop ∙ ap (λ (s : BoardState). s.stop_faults) found.rest };
-          unworn = λ begins. ap (λ n. nat_le 9223372036854775808 n) same_roots ∙ f.unworn begins;
+          unworn = λ begins. ap (λ n. nat_le 9223372036854775808 n) (same_roots old loaded (Some shape) shape has found) ∙ f.unworn begins;
         })
-
-    none_loaded : NoneRose old new → NoneRose loaded new
-    none_loaded none =
-        let R : ℕ → Type 0 = λ n. Rose n new.read_faults → ⊥ in
-        let S : ℕ → Type 0 = λ n. Rose n new.stop_faults → ⊥ in
-        let I : ℕ → Type 0 = λ n. Rose n new.in_faults → ⊥ in
-        let O : ℕ → Type 0 = λ n. Rose n new.out_faults → ⊥ in
-        record {
-          reads = subst R (sym (ap (λ (s : BoardState). s.read_faults) found.rest)) none.reads;
-          stops = subst S (sym (ap (λ (s : BoardState). s.stop_faults) found.rest)) none.stops;
-          input = subst I (sym (ap (λ (s : BoardState). s.in_faults) found.rest)) none.input;
-          output = subst O (sym (ap (λ (s : BoardState). s.out_faults) found.rest)) none.output;
-        }
 
     whole_loaded : AsksAll task shape loaded new status → AsksAll task shape old new status
     whole_loaded all start holds far none sound =
         let H : Flash → Type 0 = λ f. Holds shape f start in
         let F : ℕ → Type 0 = λ n. Rose n new.flash_faults → ⊥ in
         let W : ℕ → Type 0 = λ n. n < 4611686018427387904 in
-        elim (all start (subst H (sym same_pages) holds) (subst W same_roots far) (none_loaded none) (subst F (sym (ap (λ (s : BoardState). s.flash_faults) found.rest)) sound)) [
+        let far_loaded = subst W (same_roots old loaded (Some shape) shape has found) far in
+        elim (all start (subst H (sym same_pages) holds) far_loaded (none_loaded old loaded new (Some shape) found none) (subst F (sym (ap (λ (s : BoardState). s.flash_faults) found.rest)) sound)) [
           | inl done ↦ inl (done.0, finished_loaded start done.1)
-          | inr nothing ↦ inr (nothing.0, untouched_loaded 0 old new status shape loaded found has nothing.1)
+          | inr nothing ↦ inr (nothing.0, Untouched-then old loaded new (load_untouched old loaded (Some shape) found) nothing.1)
         ]
 
   whole_found : AsksFound task old new status → AsksWhole task old new status
   whole_found found shape has =
-      let some : IsSome old.shape = subst IsSome (sym has) refl in
-      let told : Some found.shape ≡ Some shape = sym found.found.shape_is ∙ ((found.found.held some).1 ∙ has) in
-      let same : found.shape ≡ shape = cc in
+      let same = found_shape old found.loaded found.shape shape has found.found in
       let L : Shape → Type 0 = λ s. Loaded old found.loaded (Some s) in
       let A : Shape → Type 0 = λ s. AsksAll task s found.loaded new status in
       whole_loaded shape found.loaded (subst L same found.found) has (subst A same (asks_all task few found.shape found.loaded new status found.asks))
 
-  whole_none : (status ≡ 7) × (new ≡ old) → AsksWhole task old new status
-  whole_none none shape has start holds far quiet sound = inr (none.0, untouched_same old new none.1)
-
-  whole_missing : Loaded old new None → AsksWhole task old new status
-  whole_missing missing shape has start holds far none sound =
-      absurd (let there : None ≡ Some shape = sym missing.shape_is ∙ ((missing.held (subst IsSome (sym has) refl)).1 ∙ has) in cc)
-
   pub whole_ask : AskRun task old new status → AsksWhole task old new status
-  whole_ask (no_memory is same) = whole_none (is, same)
-  whole_ask (not_loaded refused) = whole_refused refused.fault refused.tells refused.reason (λ same. refused_untouched old new same refused.failed)
-  whole_ask (no_image missing) = whole_missing missing.found
-  whole_ask (has_image found) = whole_found found
+  whole_ask run shape has start holds far none sound = elim (found_or_none old new status run shape has sound) [
+    | inl found ↦ whole_found found shape has start holds far none sound
+    | inr nothing ↦ inr nothing
+  ]
 
 -- no word uses up the roots
 pub few_roots : (task : Task) → IsAllowedTask task → most_roots task < 4611686018427387904
-few_roots (answer q) short = omega arith
-few_roots (list from) short = omega arith
 few_roots (generate begin count) short = omega (arith, short)
+few_roots task short = omega arith

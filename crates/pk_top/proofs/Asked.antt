@@ -1,14 +1,12 @@
 -- A run of a word that asks the drive, from the load on.
-use Rattle.std.proofs.Common.{◌≡◌, ◌⊎◌, inl, inr, ℕ, List, [], Option, Some, None, IsSome, Result, Ok, refl, sym, ◌∙◌, ap, subst, arith}
+use Rattle.std.proofs.Common.{◌≡◌, inl, inr, ℕ, List, [], Some, None, IsSome, Ok, refl, sym, ◌∙◌, ap, subst}
 use Rattle.pk_base.{specs.Entry.Entry, specs.Map.Map, specs.Page.Flash, specs.Page.IsFlash, specs.Shape.Shape}
-use Rattle.pk_nvme.specs.Command.{Command}
 use Rattle.pk_nand.{specs.BoardState.BoardState, specs.BoardState.shape_or_none, specs.Calls.Rose, specs.Calls.Loaded, specs.Calls.IsReady, specs.Counts.counted_by, specs.Effects.OnlyReading}
-use Rattle.pk_nand.{specs.Resting.RestsFlash, proofs.Reaching.Reached-start, proofs.Reaching.Went-reached, proofs.Resting.Rests-start}
-use Rattle.pk_model.{specs.Spaces.Terms, specs.Spaces.limits_at, specs.Spaces.terms_at, specs.Spaces.in_space, specs.Kept.Kept, specs.Kept.rise, specs.Wear.root_number}
+use Rattle.pk_nand.{specs.Resting.RestsFlash, proofs.Resting.Rests-start}
+use Rattle.pk_model.{specs.Spaces.Terms, specs.Spaces.limits_at, specs.Spaces.terms_at, specs.Spaces.in_space, specs.Wear.root_number}
 use Rattle.pk_model.specs.Reading.{reading, Holds}
 use Rattle.pk_port.{specs.Steps.mount, proofs.Serving.mounted_terms}
 use Rattle.pk_call.{specs.Sight.Sight, specs.Drive.HoldsMap, specs.Meter.Meter, specs.Meter.meter}
-use Rattle.pk_serve.proofs.Counting.{at_most-zero}
 use Rattle.pk_scan.{specs.Opening.NotOpened, specs.Reads.opening_reads, specs.declared.errors.OpenError.OpenError}
 use Rattle.pk_words.{specs.Lines.key_lines, specs.Says.wanted_keys}
 use Rattle.pk_wordrun.{specs.Tasks.Task, specs.Tasks.answer, specs.Tasks.list, specs.Tasks.generate, specs.Tasks.KeptTask, specs.Told.Told, specs.Told.EndsBy, specs.Told.KeepsInput}
@@ -16,32 +14,18 @@ use Rattle.pk_wordrun.specs.declared.end.WordEnd.{WordEnd}
 use Rattle.pk_wordrun.specs.declared.end.WordEnd.TheVariants.{Done, Output, Flash as FlashFailed, Worn}
 use Rattle.pk_top.{specs.Loads.no_memory, specs.Loads.not_loaded, specs.Loads.no_image, specs.Loads.has_image, specs.declared.asking.TheConstants.WORD_FRAMES, specs.Ends.open_status}
 use Rattle.pk_top.{specs.Asks.word_status, specs.Asks.KeepsTask, specs.Asks.Asks, specs.Asks.AskRun, specs.Serves.behind_opening, specs.Statuses.Tells}
+use Rattle.pk_top.proofs.Opened.{Kept-none, Goes-reading, Goes-behind}
 use Rattle.pk_top.proofs.Telling.{tells_good, tells_output, tells_flash, tells_memory, tells_no_drive, tells_refused, tells_not, gives_same, load_untouched}
 
 -- ---- nothing was done
 
-kept-none : (shape : Shape) (terms : Terms) (start : Map) (cs : List Command) (before behind : ℕ) (flash : Flash) → Holds shape flash start → limits_at shape flash ≡ terms.limits
-    → Kept shape terms start cs (rise before behind) [] flash
-kept-none shape terms start cs before behind flash holds within = record {
-  served = [];
-  unserved = cs;
-  from_front = refl;
-  map_left = start;
-  ran = refl;
-  held = holds;
-  same_limits = within;
-  unposted = [];
-  begins = refl;
-  few_faults = at_most-zero (rise before behind);
-}
-
 -- a flash that holds the map, before any byte was posted
 pub silent : (task : Task) (from to : Meter) (shape : Shape) (terms : Terms) (start : Map) (flash : Flash) → Holds shape flash start → limits_at shape flash ≡ terms.limits
     → KeptTask task from to shape terms start flash []
-silent (answer q) from to shape terms start flash holds within = (kept-none shape terms start _ from.read_faults to.read_faults flash holds within, inl refl)
+silent (answer q) from to shape terms start flash holds within = (Kept-none shape terms start _ from.read_faults to.read_faults flash holds within, inl refl)
 silent (list key) from to shape terms start flash holds within =
     let lines = key_lines (wanted_keys key (in_space 1 start)) in record { held = holds; same_limits = within; text = lines; says = (refl, inl refl); unposted = lines; front = refl }
-silent (generate begin count) from to shape terms start flash holds within = (kept-none shape terms start _ from.read_faults to.read_faults flash holds within, inl refl)
+silent (generate begin count) from to shape terms start flash holds within = (Kept-none shape terms start _ from.read_faults to.read_faults flash holds within, inl refl)
 
 -- what a word keeps is a flash that holds a map
 pub task_holds : (task : Task) (from to : Meter) (shape : Shape) (terms : Terms) (start : Map) (flash : Flash) (posted : List ℕ) → KeptTask task from to shape terms start flash posted
@@ -83,14 +67,8 @@ module _ (task : Task) (shape : Shape) (loaded new : BoardState) where
   KeptFrom flash posted = (start : Map) → Holds shape loaded.pages start → KeptTask task from (meter new) shape (terms_at shape loaded.pages WORD_FRAMES) start flash posted
 
   keeps-none : OnlyReading loaded new → KeepsTask task shape loaded new
-  keeps-none only = (
-    [],
-    Went-reached [] loaded new KeptFrom
-        (Reached-start loaded new KeptFrom (ap (λ (s : BoardState). s.shape) only)
-        (ap (λ (s : BoardState). s.pages) only) (ap (λ (s : BoardState). s.trail) only) (ap (λ (s : BoardState). s.posted) only)
-        (λ start holds. silent task from (meter new) shape (terms_at shape loaded.pages WORD_FRAMES) start loaded.pages holds refl)),
-    tt,
-  )
+  keeps-none only = Goes-reading shape loaded new KeptFrom only
+      (λ start holds. silent task from (meter new) shape (terms_at shape loaded.pages WORD_FRAMES) start loaded.pages holds refl)
 
   rests-reading : OnlyReading loaded new → RestsFlash loaded new
   rests-reading only = Rests-start loaded new (ap (λ (s : BoardState). s.shape) only)
@@ -128,17 +106,7 @@ module _ (task : Task) (shape : Shape) (loaded new : BoardState) where
     told-by : (status : ℕ) (end : WordEnd) → status ≡ word_status end
         → Told task shape (terms_at shape loaded.pages WORD_FRAMES) start (behind_opening shape WORD_FRAMES loaded) new end → Asks task shape loaded new status
     told-by status end tells told = record {
-      kept = (
-        told.kept.0,
-        record {
-          trail = told.kept.1.trail;
-          posted = told.kept.1.posted;
-          same_shape = told.kept.1.same_shape;
-          cuts = λ flash posted cut. kept-from flash posted (told.kept.1.cuts flash posted cut);
-          stands = told.kept.1.stands;
-        },
-        told.kept.2,
-      );
+      kept = Goes-behind shape WORD_FRAMES loaded new (KeptTask task from (meter new) shape (terms_at shape loaded.pages WORD_FRAMES) start) KeptFrom kept-from told.kept;
       input = record { input = told.input.input; in_faults = told.input.in_faults };
       rests = λ only. rests-opened (told.rests only);
       outcome = inr (end, tells, record { start = start; holds = start-held; ends = told.ends; used = told.used });

@@ -1,21 +1,17 @@
 -- A run of the word `make`.
-use Rattle.std.proofs.Common.{◌≡◌, ◌≢◌, inl, inr, ℕ, List, Option, Some, None, IsSome, refl, sym, ◌∙◌, ap, subst, arith}
+use Rattle.std.proofs.Common.{◌≡◌, inl, inr, ℕ, List, sym, ◌∙◌, ap, arith}
 use Rattle.pk_base.specs.Shape.{Shape}
-use Rattle.pk_nand.{specs.BoardState.BoardState}
+use Rattle.pk_nand.specs.BoardState.{BoardState}
 use Rattle.pk_nand.specs.declared.types.LoadFault.{LoadFault}
-use Rattle.pk_nand.specs.declared.types.LoadFault.TheVariants.{Fault, BadImage, Memory}
+use Rattle.pk_nand.specs.declared.types.LoadFault.TheVariants.{Fault}
 use Rattle.pk_top.{specs.Loads.load_status, specs.Loads.no_memory, specs.Loads.not_loaded, specs.Loads.no_image, specs.Loads.has_image}
 use Rattle.pk_top.specs.Makes.{MakeRun, Makes, IsMade}
 
-some_shape : (shape : Shape) (o : Option Shape) → o ≡ Some shape → IsSome o
-some_shape shape o e = let T : Option Shape → Type 0 = IsSome in subst T (sym e) refl
-
 -- ---- status 0
 
-never_done : (fault : LoadFault) → load_status fault ≡ 0 → ⊥
+pub never_done : (fault : LoadFault) → load_status fault ≡ 0 → ⊥
 never_done Fault e = omega arith
-never_done (BadImage at) e = omega arith
-never_done Memory e = omega arith
+never_done other e = omega arith
 
 formatted_made : (shape : Shape) (limits : List ℕ) (loaded new : BoardState) (status : ℕ) → status ≡ 0 → Makes shape limits loaded new status → IsMade shape limits new
 formatted_made shape limits loaded new status done (inl r) = absurd (never_done r.fault (sym r.tells ∙ done))

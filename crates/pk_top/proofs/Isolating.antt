@@ -1,19 +1,19 @@
 -- The commands in one namespace of a script that was served without read errors.
-use Rattle.std.proofs.Common.{◌≡◌, ℕ, ◌+◌, ◌≤◌, ◌==◌, if◌then◌else◌, List, [], ◌∷◌, length, Bool, true, false, Option, Some, None, IsSome, refl, sym, ap, subst, ◌∙◌, arith}
+use Rattle.std.proofs.Common.{◌≡◌, ℕ, ◌+◌, ◌==◌, if◌then◌else◌, List, [], ◌∷◌, true, false, Option, Some, refl, sym, ap, subst, ◌∙◌, arith}
 use Rattle.pk_base.{specs.Shape.Shape, specs.Page.Flash, specs.Map.Map}
 use Rattle.pk_nvme.specs.Command.{Command}
-use Rattle.pk_nand.{specs.BoardState.BoardState, specs.Calls.Rose, specs.Calls.longer, specs.declared.types.LoadFault.LoadFault}
-use Rattle.pk_nand.specs.declared.types.LoadFault.TheVariants.{Fault, BadImage, Memory}
+use Rattle.pk_nand.{specs.BoardState.BoardState, specs.Calls.Rose, specs.Calls.longer}
 use Rattle.pk_model.{specs.Reading.Holds, specs.Run.Run, specs.Run.RunWithin, specs.Run.Exchange, specs.Run.records, specs.Run.faults, specs.Script.script}
 use Rattle.pk_model.specs.Spaces.{Terms, terms_at}
 use Rattle.pk_law_isolation.specs.Isolation.{map_alone, terms_alone, command_alone, commands_of_space, exchanges_in}
 use Rattle.pk_law_isolation.{proofs.Isolating.isolated, proofs.Fixing.fixed}
 use Rattle.pk_serve.{specs.Run.Served, specs.Run.ServedBy, specs.declared.end.End.End, proofs.Completing.none_counted}
-use Rattle.pk_serve.specs.declared.end.End.TheVariants.{Done, Truncated, Input, Output, Flash as FlashFailed, Worn}
+use Rattle.pk_serve.specs.declared.end.End.TheVariants.{Done}
 use Rattle.pk_scan.specs.declared.errors.OpenError.{OpenError}
-use Rattle.pk_scan.specs.declared.errors.OpenError.TheVariants.{NotFormatted, Damaged, Fault as ReadFault, Memory as NoMemory}
+use Rattle.pk_scan.specs.declared.errors.OpenError.TheVariants.{NotFormatted}
 use Rattle.pk_top.{specs.Ends.end_status, specs.Ends.open_status, specs.Isolates.AnsweredApart, specs.Isolates.IsolatesAll, specs.Isolates.IsolatesWhole}
-use Rattle.pk_top.specs.Loads.{load_status, no_memory, not_loaded, no_image, has_image}
+use Rattle.pk_top.{proofs.Opened.found_shape, proofs.Opened.found_pages, proofs.Images.never_done}
+use Rattle.pk_top.specs.Loads.{no_memory, not_loaded, no_image, has_image}
 use Rattle.pk_top.specs.Serves.{behind_opening, ServesFound, ServeRun}
 
 -- ---- runs
@@ -65,36 +65,28 @@ module _ (shape : Shape) (frames : ℕ) (loaded new : BoardState) (start : Map) 
       let same : start ≡ m = cc in
       let T : Map → Type 0 = λ s. AnsweredApart shape terms s loaded new (script input).0 in
       subst T same (apart (script input).0 (served input is).1 none_rose)
-  isolates_end status Truncated tells held served done none_rose m holds input is = absurd (omega (arith, tells, done))
-  isolates_end status Input tells held served done none_rose m holds input is = absurd (omega (arith, tells, done))
-  isolates_end status Output tells held served done none_rose m holds input is = absurd (omega (arith, tells, done))
-  isolates_end status FlashFailed tells held served done none_rose m holds input is = absurd (omega (arith, tells, done))
-  isolates_end status Worn tells held served done none_rose m holds input is = absurd (omega (arith, tells, done))
+  isolates_end status end tells held served done none_rose m holds input is = absurd (omega (arith, tells, done))
 
 -- a drive that was not opened served no script
 pub isolates_not : (shape : Shape) (frames : ℕ) (loaded new : BoardState) (status : ℕ) (error : OpenError) → status ≡ open_status error → IsolatesAll shape frames loaded new status
 isolates_not shape frames loaded new status NotFormatted tells done = absurd (omega (arith, tells, done))
-isolates_not shape frames loaded new status (Damaged page) tells done = absurd (omega (arith, tells, done))
-isolates_not shape frames loaded new status ReadFault tells done = absurd (omega (arith, tells, done))
-isolates_not shape frames loaded new status NoMemory tells done = absurd (omega (arith, tells, done))
+isolates_not shape frames loaded new status error tells done = absurd (omega (arith, tells, done))
 
 -- ---- a board that holds its pages from the start
 
 module _ (frames : ℕ) (old new : BoardState) (status : ℕ) where
   isolated_found : ServesFound frames old new status → IsolatesWhole frames old new status
   isolated_found found shape has done none_rose start holds input is =
-      let some : IsSome old.shape = subst IsSome (sym has) refl in
-      let held = found.found.held some in
-      let told : Some found.shape ≡ Some shape = sym found.found.shape_is ∙ (held.1 ∙ has) in
-      let same : found.shape ≡ shape = cc in
+      let pages = found_pages old found.loaded (Some found.shape) shape has found.found in
+      let same = found_shape old found.loaded found.shape shape has found.found in
       let A : Shape → Type 0 = λ s. IsolatesAll s frames found.loaded new status in
       let all : IsolatesAll shape frames found.loaded new status = subst A same found.serves.isolated in
       let H : Flash → Type 0 = λ f. Holds shape f start in
       let R : ℕ → Type 0 = λ n. Rose n new.read_faults → ⊥ in
-      let w = all done (subst R (sym (ap (λ (s : BoardState). s.read_faults) found.found.rest)) none_rose) start (subst H (sym held.0) holds) input
+      let w = all done (subst R (sym (ap (λ (s : BoardState). s.read_faults) found.found.rest)) none_rose) start (subst H (sym pages) holds) input
       (ap (λ (s : BoardState). s.input) found.found.rest ∙ is) in
       let T : Flash → Type 0 = λ f. AnsweredApart shape (terms_at shape f frames) start old new (script input).0 in
-      subst T held.0 (record {
+      subst T pages (record {
         served = w.served;
         are = w.are;
         posted = w.posted ∙ ap (λ (o : Option (List ℕ)). longer o (records 0 w.served)) (ap (λ (s : BoardState). s.posted) found.found.rest);
@@ -103,13 +95,8 @@ module _ (frames : ℕ) (old new : BoardState) (status : ℕ) where
         same = w.same;
       })
 
-  load_not_done : (fault : LoadFault) → status ≡ load_status fault → status ≡ 0 → ⊥
-  load_not_done Fault tells done = omega (arith, tells, done)
-  load_not_done (BadImage at) tells done = omega (arith, tells, done)
-  load_not_done Memory tells done = omega (arith, tells, done)
-
   pub isolated_whole : ServeRun frames old new status → IsolatesWhole frames old new status
   isolated_whole (no_memory is same) shape has done = absurd (omega (arith, is, done))
-  isolated_whole (not_loaded refused) shape has done = absurd (load_not_done refused.fault refused.tells done)
+  isolated_whole (not_loaded refused) shape has done = absurd (never_done refused.fault (sym refused.tells ∙ done))
   isolated_whole (no_image missing) shape has done = absurd (let tells = missing.tells in omega (arith, tells, done))
   isolated_whole (has_image found) shape has done = isolated_found found shape has done

@@ -1,7 +1,7 @@
 -- Words that ask for a flash with spare blocks, judged without memory.
-use Rattle.std.proofs.Common.{◌≡◌, ◌/◌, ◌<◌, ◌≤◌, ◌&&◌, ℕ, List, [], ◌∷◌, Option, None, Some, option_map, option_and_then, Bool, true, false, if◌then◌else◌, nat_lt, nat_le, length, bytes_eq, codes}
+use Rattle.std.proofs.Common.{◌≡◌, ◌/◌, ◌<◌, ◌≤◌, ◌&&◌, ℕ, List, [], ◌∷◌, Option, None, Some, option_and_then, Bool, true, false, if◌then◌else◌, nat_lt, nat_le, length, bytes_eq, codes}
 use Rattle.std.proofs.Common.{Bor, subst, sym, ap, ◌∙◌, refl, arith}
-use Rattle.std.{specs.Prelude.is_some, specs.Prelude.map, specs.Prelude.slice_index_or, proofs.lemmas.Bool.Decides.nat_tests, proofs.lemmas.Slice.Eq.bytes_eq-Decides}
+use Rattle.std.{specs.Prelude.is_some, specs.Prelude.map, specs.Prelude.slice_index_or, proofs.lemmas.Bool.le-leb, proofs.lemmas.Bool.lt-leb, proofs.lemmas.Slice.Eq.bytes_eq-Decides}
 use Rattle.pk_base.specs.Key.{Key}
 use Rattle.pk_nvme.specs.Text.{bytes_of, some_bytes_of}
 use Rattle.pk_asm.{proofs.TextLemmas.some_bytes_of-is, specs.Words.key_of}
@@ -32,10 +32,9 @@ some_if false word = refl
 
 both_judged : (o : Option Key) (p : Option (List ℕ)) (n : ℕ) → ((bytes : List ℕ) → p ≡ Some bytes → length bytes ≡ n)
     → is_some o && (is_some p && nat_lt n VALUE_LENGTHS) ≡ is_some (option_and_then (λ key. option_and_then (λ bytes. put_with key bytes) p) o)
-both_judged None p n half = refl
-both_judged (Some key) None n half = refl
 both_judged (Some key) (Some bytes) n half =
     ap (λ (m : ℕ). nat_lt m VALUE_LENGTHS) (sym (half bytes refl)) ∙ some_if (nat_lt (length bytes) VALUE_LENGTHS) _
+both_judged o p n half = refl
 
 -- a key, and a value whose length is a field of an entry
 pub put_judged : (key value : List ℕ)
@@ -46,10 +45,8 @@ put_judged key value = both_judged (key_of key) (bytes_of value) (length value /
 pub two_judged : (operands : List (Bor (List ℕ))) (none : Bor (List ℕ)) (has_key has_value : Bool) → 2 ≤ length operands → length operands < 3
     → has_key ≡ is_some (key_of (slice_index_or operands 0 none).now) → has_value ≡ is_some (bytes_of (slice_index_or operands 1 none).now)
     → has_key && (has_value && nat_lt (length (slice_index_or operands 1 none).now / 2) VALUE_LENGTHS) ≡ is_some (put_of (map (λ w. w.now) operands))
-two_judged [] none has_key has_value low high k v = absurd (omega (arith, low))
-two_judged (a ∷ []) none has_key has_value low high k v = absurd (omega (arith, low))
 two_judged (a ∷ b ∷ []) none has_key has_value low high k v = rw (k, v) (put_judged a.now b.now)
-two_judged (a ∷ b ∷ c ∷ more) none has_key has_value low high k v = absurd (omega (arith, high))
+two_judged operands none has_key has_value low high k v = absurd (omega (arith, low, high))
 
 -- ---- the words over spare blocks
 
@@ -60,47 +57,37 @@ fits_if spares false task = refl
 fits_both : (spares : ℕ) (o : Option Key) (p : Option (List ℕ))
     → is_some (option_and_then (λ key. option_and_then (λ bytes. put_with key bytes) p) o)
     ≡ fits_spares_if spares (option_and_then (λ key. option_and_then (λ bytes. put_with key bytes) p) o)
-fits_both spares None p = refl
-fits_both spares (Some key) None = refl
 fits_both spares (Some key) (Some bytes) = fits_if spares (nat_lt (length bytes) VALUE_LENGTHS) _
+fits_both spares o p = refl
 
 -- a `put` needs a drive
 pub put_fits : (spares : ℕ) (operands : List (List ℕ)) → is_some (put_of operands) ≡ fits_spares_if spares (put_of operands)
-put_fits spares [] = refl
-put_fits spares (k ∷ []) = refl
 put_fits spares (k ∷ b ∷ []) = fits_both spares (key_of k) (bytes_of b)
-put_fits spares (k ∷ b ∷ x ∷ more) = refl
+put_fits spares operands = refl
 
 abbrev form_of : List (List ℕ) → ℕ → SparedForm
 form_of rest spares = record { spares = spares; rest = rest }
 
-form_if : (rest : List (List ℕ)) (spares : ℕ) (low high fits : Bool) → low ≡ true → high ≡ true → fits ≡ true
-    → Some (form_of rest spares) ≡ (if low && high && fits then Some (form_of rest spares) else None)
-form_if rest spares low high fits is_low is_high is_fit = rw (is_low, is_high, is_fit) refl
-
 no_form_if : (rest : List (List ℕ)) (spares : ℕ) (low high fits : Bool) → fits ≡ false
     → None ≡ (if low && high && fits then Some (form_of rest spares) else None)
 no_form_if rest spares true true fits unfit = rw unfit refl
-no_form_if rest spares true false fits unfit = refl
-no_form_if rest spares false high fits unfit = refl
+no_form_if rest spares low high fits unfit = refl
 
 -- 1 to 64 spare blocks, and words that may be obeyed over them
 pub spared_some : (rest : List (List ℕ)) (spares : ℕ) → 1 ≤ spares → spares ≤ MOST_SPARES → fits_spares_if spares (word_of rest) ≡ true
     → Some (form_of rest spares) ≡ spared_with rest spares
-spared_some rest spares low high fits = form_if rest spares (nat_le 1 spares) (nat_le spares MOST_SPARES) _ (grind (arith, nat_tests)) (grind (arith, nat_tests)) fits
+spared_some rest spares low high fits = rw (le-leb 1 spares low, le-leb spares MOST_SPARES high, fits)
 
 pub spared_unfit : (rest : List (List ℕ)) (spares : ℕ) → fits_spares_if spares (word_of rest) ≡ false → None ≡ spared_with rest spares
 spared_unfit rest spares unfit = no_form_if rest spares (nat_le 1 spares) (nat_le spares MOST_SPARES) _ unfit
 
 -- other numbers of spare blocks
 pub spared_none : (rest : List (List ℕ)) (spares : ℕ) → spares < 1 → None ≡ spared_with rest spares
-spared_none rest spares low = let none : nat_le 1 spares ≡ false = grind (arith, nat_tests) in rw none refl
+spared_none rest spares low = rw (lt-leb 1 spares low)
 
 pub spared_many : (rest : List (List ℕ)) (spares : ℕ) → MOST_SPARES < spares → None ≡ spared_with rest spares
-spared_many rest spares many = let none : nat_le spares MOST_SPARES ≡ false = grind (arith, nat_tests) in
-    beyond (nat_le 1 spares) _ none
+spared_many rest spares many = rw (lt-leb spares MOST_SPARES many) (beyond (nat_le 1 spares))
   where
-    beyond : (low : Bool) (fits : Bool) → nat_le spares MOST_SPARES ≡ false
-        → None ≡ (if low && nat_le spares MOST_SPARES && fits then Some (form_of rest spares) else None)
-    beyond true fits none = rw none refl
-    beyond false fits none = refl
+    beyond : (low : Bool) → None ≡ (if low && false then Some (form_of rest spares) else None)
+    beyond true = refl
+    beyond false = refl

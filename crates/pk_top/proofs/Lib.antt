@@ -1,4 +1,5 @@
 mod Within
+mod Opened
 mod Isolating
 mod Sessions
 mod Telling

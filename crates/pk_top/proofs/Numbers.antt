@@ -1,9 +1,10 @@
 -- Words that are the limits of namespaces.
-use Rattle.std.proofs.Common.{◌≡◌, ◌≤◌, ◌<◌, ◌+◌, ℕ, zero, suc, List, [], ◌∷◌, length, take, Bool, true, false, nat_le, nat_lt, not, ◌&&◌, if◌then◌else◌, Option, Some, None, option_and_then, get_or}
+use Rattle.std.proofs.Common.{◌≡◌, ◌≤◌, ◌<◌, ◌+◌, ℕ, zero, suc, List, [], ◌∷◌, length, take, Bool, true, false, nat_lt, Option, Some, None, option_and_then, get_or}
 use Rattle.std.proofs.Common.{set, refl, ◌∙◌, sym, ap, arith}
 use Rattle.std.{proofs.lemmas.Bool.Decides.nat_tests, proofs.lemmas.List.get_or-set_other, proofs.lemmas.Grind.get_or-set_at, specs.Result.result_ok}
 use Rattle.pk_base.{specs.Shape.Shape, specs.declared.sizes.TheConstants.MOST_SPACES}
 use Rattle.pk_nvme.specs.Text.{number_of}
+use Rattle.pk_asm.proofs.FormLemmas.{both_are}
 use Rattle.pk_space.specs.Limits.{are_few, limits_checked}
 use Rattle.pk_top.specs.Words.{numbers_of, limits_in_words}
 
@@ -48,19 +49,7 @@ numbers-none (w ∷ ws) (suc k) less none = by (numbers-none ws k (omega (arith,
 -- there are as many numbers as words
 numbers-length : (ws : List (List ℕ)) (ns : List ℕ) → numbers_of ws ≡ Some ns → length ns ≡ length ws
 numbers-length [] ns is = (let same : Some [] ≡ Some ns = is in let e : [] ≡ ns = cc in sym (ap length e))
-numbers-length (w ∷ ws) ns is = by (numbers-length ws) (number_of w) is
-  where
-    more : ((rest : List ℕ) → numbers_of ws ≡ Some rest → length rest ≡ length ws) → (n : ℕ) (o : Option (List ℕ)) → numbers_of ws ≡ o → with_front n o ≡ Some ns
-        → length ns ≡ suc (length ws)
-    more size n None none e = absurd (let never : None ≡ Some ns = e in cc)
-    more size n (Some rest) same e =
-        let whole : n ∷ rest ≡ ns = (let some : Some (n ∷ rest) ≡ Some ns = e in cc) in
-        sym (ap length whole) ∙ ap (λ k. suc k) (size rest same)
-
-    by : ((rest : List ℕ) → numbers_of ws ≡ Some rest → length rest ≡ length ws) → (o : Option ℕ) → option_and_then (λ x. with_front x (numbers_of ws)) o ≡ Some ns
-        → length ns ≡ suc (length ws)
-    by size None e = absurd (let never : None ≡ Some ns = e in cc)
-    by size (Some n) e = more size n (numbers_of ws) refl e
+numbers-length (w ∷ ws) ns is = let h = both_are ◌∷◌ (number_of w) (numbers_of ws) ns is in sym (ap length h.4) ∙ ap (λ k. suc k) (numbers-length ws h.1 h.3)
 
 few_no : (shape : Shape) (ns : List ℕ) → are_few ns ≡ false → result_ok (limits_checked shape ns) ≡ None
 unfolding limits_checked

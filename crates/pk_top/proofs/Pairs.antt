@@ -1,35 +1,33 @@
 -- A run of a word on a pair of images, from the loads on.
-use Rattle.std.proofs.Common.{◌≡◌, ◌≢◌, ◌⊎◌, inl, inr, ℕ, ◌+◌, ◌<◌, ◌≤◌, List, [], ◌∷◌, length, map, Bool, ◌==◌, eqb-true, eq-eqb, if◌then◌else◌, Option, Some, None, IsSome, option_and_then, Result}
-use Rattle.std.proofs.Common.{Ok, Err, refl, sym, ◌∙◌, ap, subst, arith, true, false, nat_le}
-use Rattle.std.{proofs.lemmas.Bool.Decides.nat_tests, specs.FinMap.len, specs.FinMap.entries, specs.FinMap.len-entries}
-use Rattle.pk_base.{specs.Entry.Entry, specs.Key.Key, specs.Map.Map, specs.Page.Flash, specs.Refusal.Refusal, specs.Refusal.not_formatted, specs.Refusal.damaged}
+use Rattle.std.proofs.Common.{◌≡◌, ◌≢◌, ◌⊎◌, inl, inr, ℕ, ◌<◌, ◌≤◌, List, [], map, Bool, ◌==◌, eqb-true, eq-eqb, if◌then◌else◌, Option, Some, None, IsSome, option_and_then, Result}
+use Rattle.std.proofs.Common.{Ok, Err, refl, sym, ◌∙◌, ap, subst, arith, true, false}
+use Rattle.std.{proofs.lemmas.List.length-map, specs.FinMap.len, specs.FinMap.entries, specs.FinMap.len-entries}
+use Rattle.pk_base.{specs.Entry.Entry, specs.Map.Map, specs.Page.Flash, specs.Refusal.Refusal, specs.Refusal.not_formatted, specs.Refusal.damaged}
 use Rattle.pk_base.specs.Shape.{Shape, IsShape}
-use Rattle.pk_nand.{specs.BoardState.BoardState, specs.BoardState.shape_or_none, specs.Calls.Rose, specs.Calls.Loaded, specs.Calls.IsReady, specs.Calls.longer, specs.Effects.OnlyReading}
-use Rattle.pk_nand.{specs.declared.types.LoadFault.LoadFault, proofs.Reaching.Reached-start, proofs.Reaching.Went-reached}
+use Rattle.pk_nand.{specs.BoardState.BoardState, specs.Calls.Rose, specs.Calls.Loaded, specs.Calls.IsReady, specs.Calls.longer, specs.Effects.OnlyReading}
+use Rattle.pk_nand.specs.declared.types.LoadFault.{LoadFault}
 use Rattle.pk_nand.specs.declared.types.LoadFault.TheVariants.{Fault, BadImage, Memory}
-use Rattle.pk_model.{specs.Spaces.terms_at, specs.Spaces.limits_at, specs.Spaces.in_space, specs.Growth.Goes, specs.Laws.MapHeld, specs.Reading.reading, specs.Reading.Holds, specs.Reading.Refuses}
-use Rattle.pk_model.specs.Wear.{root_number, roots, is_worn}
+use Rattle.pk_model.{specs.Spaces.terms_at, specs.Spaces.limits_at, specs.Spaces.in_space, specs.Laws.MapHeld, specs.Reading.reading, specs.Reading.Holds, specs.Reading.Refuses}
+use Rattle.pk_model.specs.Wear.{roots, is_worn}
 use Rattle.pk_call.{specs.Sight.Sight, specs.Sight.map_of, specs.Drive.HoldsMap}
 use Rattle.pk_serve.{specs.Complete.NoneRose, proofs.Limiting.limits_some, proofs.Limiting.first_most}
-use Rattle.pk_scan.{specs.Opening.NotOpened, proofs.ValuesHeld.limit_few, specs.declared.errors.OpenError.OpenError}
+use Rattle.pk_scan.{specs.Reads.opening_reads, specs.Opening.NotOpened, proofs.ValuesHeld.limit_few, specs.declared.errors.OpenError.OpenError}
 use Rattle.pk_scan.specs.declared.errors.OpenError.TheVariants.{NotFormatted, Damaged, Fault as ReadFault, Memory as NoMemory}
 use Rattle.pk_mirrorwords.proofs.Paging.{keys_few}
 use Rattle.pk_mirrorwords.specs.PairTasks.{PairTask, put, get, delete, list as list_all, resync, IsAllowed, map_left}
-use Rattle.pk_wordrun.{specs.declared.end.WordEnd.WordEnd, specs.Tasks.answer, specs.Tasks.list as list_keys, specs.Tasks.generate}
+use Rattle.pk_wordrun.{specs.declared.end.WordEnd.WordEnd, specs.Tasks.answer, specs.Tasks.list as list_keys}
 use Rattle.pk_wordrun.specs.declared.end.WordEnd.TheVariants.{Done, Output, Flash as FlashFailed, Worn}
-use Rattle.pk_words.specs.Question.{put as put_one, get as get_one, delete as delete_one, has as has_one, stat as stat_one}
-use Rattle.pk_top.{specs.Words.Word, specs.Words.make, specs.Words.serve, specs.Words.ask, specs.Words.assemble, specs.Words.show, specs.Words.word_of, proofs.Within.short_within}
+use Rattle.pk_words.specs.Question.{put as put_one, get as get_one, delete as delete_one}
+use Rattle.pk_top.{specs.Words.Word, specs.Words.ask, specs.Words.word_of, proofs.Within.short_within}
 use Rattle.pk_top.{specs.PairWords.for_pair, specs.PairWords.is_resync, specs.PairWords.pair_task_of, specs.declared.asking.TheConstants.WORD_FRAMES, specs.Asks.word_status, specs.Ends.open_status}
 use Rattle.pk_top.{specs.Loads.load_status, specs.Loads.HasReason, specs.Serves.NotServed, specs.Serves.behind_opening, specs.Statuses.Untouched, specs.Statuses.Tells}
-use Rattle.pk_top.proofs.Asked.{input_still}
-use Rattle.pk_top.specs.PairRuns.{NotFound, KeepsPair, AskedPair, AsksPair, PairRun, PairTells, LacksPair, PairRefused, PairWhole, no_speaker, first_unopened, second_unopened, limits_differ}
+use Rattle.pk_top.{proofs.Asked.input_still, proofs.Answering.worn_never, proofs.Opened.found_shape, proofs.Opened.found_pages, proofs.Opened.none_missing, proofs.Opened.same_roots}
+use Rattle.pk_top.{proofs.Opened.Goes-reading, proofs.Opened.Goes-behind}
+use Rattle.pk_top.specs.PairRuns.{NotFound, AskedPair, AsksPair, PairRun, PairTells, LacksPair, PairRefused, PairWhole, PairFlashFailed, HasNoPair, PairOutcome, no_speaker, first_unopened}
+use Rattle.pk_top.specs.PairRuns.{second_unopened, limits_differ}
 use Rattle.pk_top.specs.PairRuns.{pair_asked, no_pair_memory, first_missing, second_missing, shapes_differ, pair_found}
-use Rattle.pk_top.proofs.Telling.{tells_refused, tells_not, tells_no_drive, wants_untouched, wants_sound, untouched_same, load_untouched, refused_untouched}
+use Rattle.pk_top.proofs.Telling.{When, tells_refused, tells_not, tells_no_drive, reads_untouched, wants_untouched, wants_sound, untouched_same, load_untouched, refused_untouched}
 use Rattle.pk_mirrorrun.specs.PairTold.{EitherUnread, text_by, HoldsPart, first_limit, KeptFirst, KeptSecond, PairFinished, PairEnds, most_pair_roots, UsedRoots, PairTold}
-
-names_len : (es : List (Key × List ℕ)) → length (map (λ e. e.0) es) ≡ length es
-names_len [] = refl
-names_len (e ∷ es) = let h = names_len es in omega (arith, h)
 
 -- the first namespace of a map that a flash holds has no more keys than the limit of the shape has pages
 few_keys : (shape : Shape) (b : BoardState) (m : Map) → IsShape shape → MapHeld → IsReady b shape → Holds shape b.pages m → len (in_space 1 m) ≤ 1048576
@@ -40,7 +38,7 @@ few_keys shape b m is law ready held =
     let few = good.each_few 1 (omega arith) (limits_some shape b.pages [] m held) in
     let first = first_most shape b.pages [] m held in
     let size = len-entries (in_space 1 m) in
-    let names = names_len (entries (in_space 1 m)) in
+    let names = length-map (entries (in_space 1 m)) (λ e. e.0) in
     omega (arith, most, pages, few, first, size, names)
 
 -- ---- the limits of two drives
@@ -70,58 +68,34 @@ module _ (task : PairTask) (shape : Shape) (loaded new loaded' new' : BoardState
   abbrev SecondFrom : Flash → List ℕ → Type 0
   SecondFrom flash posted = (m : Map) → Holds shape loaded'.pages m → KeptSecond shape (limits_at shape loaded'.pages) flash posted
 
-  first-still : OnlyReading loaded new → Goes shape loaded new FirstFrom
-  first-still only = (
-    [],
-    Went-reached [] loaded new FirstFrom
-        (Reached-start loaded new FirstFrom (ap (λ (s : BoardState). s.shape) only)
-        (ap (λ (s : BoardState). s.pages) only) (ap (λ (s : BoardState). s.trail) only) (ap (λ (s : BoardState). s.posted) only)
-        (λ m holds. record { held = inl holds; same_limits = refl; said = inl refl })),
-    tt,
-  )
-
-  second-still : OnlyReading loaded' new' → Goes shape loaded' new' SecondFrom
-  second-still only = (
-    [],
-    Went-reached [] loaded' new' SecondFrom
-        (Reached-start loaded' new' SecondFrom (ap (λ (s : BoardState). s.shape) only)
-        (ap (λ (s : BoardState). s.pages) only) (ap (λ (s : BoardState). s.trail) only) (ap (λ (s : BoardState). s.posted) only)
-        (λ m holds. record { map = m; held = holds; same_limits = refl; silent = refl })),
-    tt,
-  )
-
-  still : OnlyReading loaded new → OnlyReading loaded' new' → KeepsPair task shape loaded new loaded' new'
-  still only also = record { first = first-still only; second = second-still also }
+  -- only reads were made of both
+  asks_still : (status : ℕ) → OnlyReading loaded new → OnlyReading loaded' new' → PairOutcome task shape loaded new loaded' new' status → AsksPair task shape loaded new loaded' new' status
+  asks_still status only also outcome = record {
+    kept = record {
+      first = Goes-reading shape loaded new FirstFrom only (λ m holds. record { held = inl holds; same_limits = refl; said = inl refl });
+      second = Goes-reading shape loaded' new' SecondFrom also (λ m holds. record { map = m; held = holds; same_limits = refl; silent = refl });
+    };
+    first_input = input_still loaded new only;
+    second_input = input_still loaded' new' also;
+    outcome = outcome;
+  }
 
   -- memory for the words was missing
   pub AsksPair-memory : (status : ℕ) → status ≡ 7 → new ≡ loaded → new' ≡ loaded' → OnlyReading loaded new → OnlyReading loaded' new' → AsksPair task shape loaded new loaded' new' status
-  AsksPair-memory status is same same' only also = record {
-    kept = still only also;
-    first_input = input_still loaded new only;
-    second_input = input_still loaded' new' also;
-    outcome = no_speaker is same same';
-  }
+  AsksPair-memory status is same same' only also = asks_still status only also (no_speaker is same same')
 
   -- the first drive was not opened
   pub AsksPair-first : (status : ℕ) (error : OpenError) → status ≡ open_status error → NotOpened shape loaded new error
       → OnlyReading loaded new → new' ≡ loaded' → OnlyReading loaded' new' → AsksPair task shape loaded new loaded' new' status
-  AsksPair-first status error tells reason only same' also = record {
-    kept = still only also;
-    first_input = input_still loaded new only;
-    second_input = input_still loaded' new' also;
-    outcome = first_unopened (record { error = error; tells = tells; reason = reason; only_reads = only }) same';
-  }
+  AsksPair-first status error tells reason only same' also =
+      asks_still status only also (first_unopened (record { error = error; tells = tells; reason = reason; only_reads = only }) same')
 
   -- or the second
   pub AsksPair-second : (status : ℕ) (error : OpenError) → status ≡ open_status error → new ≡ behind_opening shape WORD_FRAMES loaded
       → OnlyReading loaded new → NotOpened shape loaded' new' error → OnlyReading loaded' new'
       → AsksPair task shape loaded new loaded' new' status
-  AsksPair-second status error tells is only reason also = record {
-    kept = still only also;
-    first_input = input_still loaded new only;
-    second_input = input_still loaded' new' also;
-    outcome = second_unopened is (record { error = error; tells = tells; reason = reason; only_reads = also });
-  }
+  AsksPair-second status error tells is only reason also =
+      asks_still status only also (second_unopened is (record { error = error; tells = tells; reason = reason; only_reads = also }))
 
   -- both were opened
   module _ (drive : Sight) (start : Map) (stands : HoldsMap shape (terms_at shape loaded.pages WORD_FRAMES) (behind_opening shape WORD_FRAMES loaded) drive start) (none : drive.pending ≡ [])
@@ -143,28 +117,8 @@ module _ (task : PairTask) (shape : Shape) (loaded new loaded' new' : BoardState
         → most_pair_roots start other < 4611686018427387904 → first_limit shape loaded.pages ≡ first_limit shape loaded'.pages → AsksPair task shape loaded new loaded' new' status
     AsksPair-told status end tells told few one_limit = record {
       kept = record {
-        first = (
-          told.first_kept.0,
-          record {
-            trail = told.first_kept.1.trail;
-            posted = told.first_kept.1.posted;
-            same_shape = told.first_kept.1.same_shape;
-            cuts = λ flash posted cut. first-from flash posted (told.first_kept.1.cuts flash posted cut);
-            stands = told.first_kept.1.stands;
-          },
-          told.first_kept.2,
-        );
-        second = (
-          told.second_kept.0,
-          record {
-            trail = told.second_kept.1.trail;
-            posted = told.second_kept.1.posted;
-            same_shape = told.second_kept.1.same_shape;
-            cuts = λ flash posted cut m holds. told.second_kept.1.cuts flash posted cut;
-            stands = told.second_kept.1.stands;
-          },
-          told.second_kept.2,
-        );
+        first = Goes-behind shape WORD_FRAMES loaded new (KeptFirst task (EitherUnread loaded new loaded' new') shape (limits_at shape loaded.pages) start) FirstFrom first-from told.first_kept;
+        second = Goes-behind shape WORD_FRAMES loaded' new' (KeptSecond shape (limits_at shape loaded'.pages)) SecondFrom (λ flash posted kept m holds. kept) told.second_kept;
       };
       first_input = record { input = told.first_input.input; in_faults = told.first_input.in_faults };
       second_input = record { input = told.second_input.input; in_faults = told.second_input.in_faults };
@@ -185,22 +139,17 @@ module _ (task : PairTask) (shape : Shape) (loaded new loaded' new' : BoardState
     -- and their limits differ
     pub AsksPair-differ : (status : ℕ) → status ≡ 8 → new ≡ behind_opening shape WORD_FRAMES loaded → new' ≡ behind_opening shape WORD_FRAMES loaded' → OnlyReading loaded new → OnlyReading loaded' new'
         → first_limit shape loaded.pages ≢ first_limit shape loaded'.pages → AsksPair task shape loaded new loaded' new' status
-    AsksPair-differ status tells is is' only also differ = record {
-      kept = still only also;
-      first_input = input_still loaded new only;
-      second_input = input_still loaded' new' also;
-      outcome = limits_differ (
-          record {
-            tells = tells;
-            start = start;
-            holds = start-held;
-            other = other;
-            holds_other = other-held;
-            differ = differ;
-            first_opened = is;
-            second_opened = is';
-          });
-    }
+    AsksPair-differ status tells is is' only also differ = asks_still status only also (limits_differ (
+        record {
+          tells = tells;
+          start = start;
+          holds = start-held;
+          other = other;
+          holds_other = other-held;
+          differ = differ;
+          first_opened = is;
+          second_opened = is';
+        }))
 
 module _ (task : PairTask) (shape : Shape) (loaded new loaded' new' : BoardState) where
   pub AsksPair-limits : (d e : Sight) (status : ℕ) → status ≡ 8 → new ≡ behind_opening shape WORD_FRAMES loaded → new' ≡ behind_opening shape WORD_FRAMES loaded'
@@ -240,6 +189,24 @@ module _ (task : PairTask) (shape : Shape) (loaded new loaded' new' : BoardState
 -- ---- what the status says
 
 module _ (old new old' new' : BoardState) (status : ℕ) where
+  -- what a status says
+  abbrev PairMeans : ℕ → Type 0
+  PairMeans n =
+      When (n == 5) (Rose old.out_faults new.out_faults) × When (n == 6) (PairFlashFailed old new old' new') × When (n == 7) (Untouched old new × Untouched old' new')
+      × When (n == 8) (HasNoPair new new' × Untouched old new × Untouched old' new') × When (n == 10) ((is_worn new ≡ true) ⊎ (is_worn new' ≡ true))
+
+  tells_by : (n : ℕ) → status ≡ n → (status ≡ 0) ⊎ ((status ≡ 5) ⊎ ((status ≡ 6) ⊎ ((status ≡ 7) ⊎ ((status ≡ 8) ⊎ (status ≡ 10))))) → PairMeans n → PairTells old new old' new' status
+  tells_by n is one h =
+      let at : (k : ℕ) → status ≡ k → PairMeans k = λ k e. subst PairMeans (sym is ∙ e) h in
+      record {
+        is_one = one;
+        output = λ e. (at 5 e).0;
+        flash = λ e. (at 6 e).1;
+        memory = λ e. (at 7 e).2;
+        no_drive = λ e. (at 8 e).3;
+        worn = λ e. (at 10 e).4;
+      }
+
   -- the statuses of what was not found or not opened
   abbrev IsFault : Type 0
   IsFault = (status ≡ 6) ⊎ ((status ≡ 7) ⊎ (status ≡ 8))
@@ -249,47 +216,33 @@ module _ (old new old' new' : BoardState) (status : ℕ) where
   one_fault (inr (inl e)) = inr (inr (inr (inl e)))
   one_fault (inr (inr e)) = inr (inr (inr (inr (inl e))))
 
-  not_output : IsFault → status ≡ 5 → ⊥
-  not_output (inl f) e = omega (arith, e, f)
-  not_output (inr (inl f)) e = omega (arith, e, f)
-  not_output (inr (inr f)) e = omega (arith, e, f)
-
-  not_worn : IsFault → status ≡ 10 → ⊥
-  not_worn (inl f) e = omega (arith, e, f)
-  not_worn (inr (inl f)) e = omega (arith, e, f)
-  not_worn (inr (inr f)) e = omega (arith, e, f)
-
   -- the first failed
   by_first : IsFault → Tells old new status → (status ≡ 7 → Untouched old new) → Untouched old' new' → PairTells old new old' new' status
   by_first one tells wants other = record {
     is_one = one_fault one;
-    output = λ e. absurd (not_output one e);
+    output = λ e. absurd (omega (arith, one, e));
     flash = λ e. elim (tells.flash e) [
       | inl stop ↦ inl (inl stop)
       | inr (rose, gives) ↦ inr (inl rose, gives)
     ];
     memory = λ e. (wants e, other);
     no_drive = λ e. (inl (tells.no_drive e).0, (tells.no_drive e).1, other);
-    worn = λ e. absurd (not_worn one e);
+    worn = λ e. absurd (omega (arith, one, e));
   }
 
   -- or the second
   by_second : IsFault → Tells old' new' status → (status ≡ 7 → Untouched old' new') → Untouched old new → PairTells old new old' new' status
   by_second one tells wants first = record {
     is_one = one_fault one;
-    output = λ e. absurd (not_output one e);
+    output = λ e. absurd (omega (arith, one, e));
     flash = λ e. elim (tells.flash e) [
       | inl stop ↦ inl (inr stop)
       | inr (rose, gives) ↦ inr (inr rose, first.gives)
     ];
     memory = λ e. (first, wants e);
     no_drive = λ e. (inr (inl (tells.no_drive e).0), first, (tells.no_drive e).1);
-    worn = λ e. absurd (not_worn one e);
+    worn = λ e. absurd (omega (arith, one, e));
   }
-
-no_some : (x : Option Shape) → x ≡ None → IsSome x → ⊥
-no_some None e some = let clash : false ≡ true = some in cc
-no_some (Some s) e some = let clash : ◌≡◌ {A = Option Shape} (Some s) None = e in cc
 
 -- the statuses of a load and of an opening
 load_one : (status : ℕ) (fault : LoadFault) → status ≡ load_status fault → (status ≡ 6) ⊎ ((status ≡ 7) ⊎ (status ≡ 8))
@@ -317,15 +270,7 @@ not_found_wants old new status (inr (is, found)) e = load_untouched old new None
 
 -- a drive that was opened is as it was found
 opened_untouched : (shape : Shape) (old loaded new : BoardState) → Loaded old loaded (Some shape) → new ≡ behind_opening shape WORD_FRAMES loaded → Untouched old new
-opened_untouched shape old loaded new found is = record {
-  gives = record {
-    input = ap (λ (s : BoardState). s.input) is ∙ ap (λ (s : BoardState). s.input) found.rest;
-    posted = ap (λ (s : BoardState). s.posted) is ∙ ap (λ (s : BoardState). s.posted) found.rest;
-  };
-  trail = ap (λ (s : BoardState). s.trail) is ∙ ap (λ (s : BoardState). s.trail) found.rest;
-  sound = ap (λ (s : BoardState). s.flash_faults) is ∙ ap (λ (s : BoardState). s.flash_faults) found.rest;
-  held = λ some. (ap (λ (s : BoardState). s.pages) is ∙ (found.held some).0, ap (λ (s : BoardState). s.shape) is ∙ (found.held some).1);
-}
+opened_untouched shape old loaded new found is = reads_untouched shape old loaded new found (opening_reads shape loaded.pages WORD_FRAMES, is)
 
 still_untouched : (shape : Shape) (old loaded new : BoardState) → Loaded old loaded (Some shape) → new ≡ loaded → Untouched old new
 still_untouched shape old loaded new found is = subst (λ (s : BoardState). Untouched old s) (sym is) (load_untouched old loaded (Some shape) found)
@@ -333,115 +278,80 @@ still_untouched shape old loaded new found is = subst (λ (s : BoardState). Unto
 module _ (task : PairTask) (shape : Shape) (old loaded new old' loaded' new' : BoardState) (found : Loaded old loaded (Some shape)) (found' : Loaded old' loaded' (Some shape)) where
   end_tells : (start other : Map) (end : WordEnd) (status : ℕ) → status ≡ word_status end
       → PairEnds task shape start (behind_opening shape WORD_FRAMES loaded) new (behind_opening shape WORD_FRAMES loaded') new' end → PairTells old new old' new' status
-  end_tells start other Done status is ends = record {
-    is_one = inl is;
-    output = λ e. absurd (omega (arith, e, is));
-    flash = λ e. absurd (omega (arith, e, is));
-    memory = λ e. absurd (omega (arith, e, is));
-    no_drive = λ e. absurd (omega (arith, e, is));
-    worn = λ e. absurd (omega (arith, e, is));
-  }
-  end_tells start other Output status is ends = record {
-    is_one = inr (inl is);
-    output = λ e. subst (λ (n : ℕ). Rose n new.out_faults) (ap (λ (s : BoardState). s.out_faults) found.rest) ends;
-    flash = λ e. absurd (omega (arith, e, is));
-    memory = λ e. absurd (omega (arith, e, is));
-    no_drive = λ e. absurd (omega (arith, e, is));
-    worn = λ e. absurd (omega (arith, e, is));
-  }
-  end_tells start other FlashFailed status is ends = record {
-    is_one = inr (inr (inl is));
-    output = λ e. absurd (omega (arith, e, is));
-    flash = λ e. inl (elim ends [
-      | inl stop ↦ inl (subst (λ (n : ℕ). Rose n new.stop_faults) (ap (λ (s : BoardState). s.stop_faults) found.rest) stop)
-      | inr stop ↦ inr (subst (λ (n : ℕ). Rose n new'.stop_faults) (ap (λ (s : BoardState). s.stop_faults) found'.rest) stop)
-    ]);
-    memory = λ e. absurd (omega (arith, e, is));
-    no_drive = λ e. absurd (omega (arith, e, is));
-    worn = λ e. absurd (omega (arith, e, is));
-  }
-  end_tells start other Worn status is ends = record {
-    is_one = inr (inr (inr (inr (inr is))));
-    output = λ e. absurd (omega (arith, e, is));
-    flash = λ e. absurd (omega (arith, e, is));
-    memory = λ e. absurd (omega (arith, e, is));
-    no_drive = λ e. absurd (omega (arith, e, is));
-    worn = λ e. ends;
-  }
+  end_tells start other Done status is ends = tells_by old new old' new' status 0 is (inl is) (tt, tt, tt, tt, tt)
+  end_tells start other Output status is ends =
+      tells_by old new old' new' status 5 is (inr (inl is)) (subst (λ (n : ℕ). Rose n new.out_faults) (ap (λ (s : BoardState). s.out_faults) found.rest) ends, tt, tt, tt, tt)
+  end_tells start other FlashFailed status is ends =
+      tells_by old new old' new' status 6 is (inr (inr (inl is))) (
+        tt,
+        inl (elim ends [
+          | inl stop ↦ inl (subst (λ (n : ℕ). Rose n new.stop_faults) (ap (λ (s : BoardState). s.stop_faults) found.rest) stop)
+          | inr stop ↦ inr (subst (λ (n : ℕ). Rose n new'.stop_faults) (ap (λ (s : BoardState). s.stop_faults) found'.rest) stop)
+        ]),
+        tt,
+        tt,
+        tt,
+      )
+  end_tells start other Worn status is ends = tells_by old new old' new' status 10 is (inr (inr (inr (inr (inr is))))) (tt, tt, tt, tt, ends)
 
   asks_tells : (status : ℕ) → AsksPair task shape loaded new loaded' new' status → PairTells old new old' new' status
   asks_tells status asks = elim asks.outcome [
-    | no_speaker is same same' ↦ record {
-      is_one = inr (inr (inr (inl is)));
-      output = λ e. absurd (omega (arith, e, is));
-      flash = λ e. absurd (omega (arith, e, is));
-      memory = λ e. (still_untouched shape old loaded new found same, still_untouched shape old' loaded' new' found' same');
-      no_drive = λ e. absurd (omega (arith, e, is));
-      worn = λ e. absurd (omega (arith, e, is));
-    }
+    | no_speaker is same same' ↦
+        tells_by old new old' new' status 7 is (inr (inr (inr (inl is)))) (tt, tt, (still_untouched shape old loaded new found same, still_untouched shape old' loaded' new' found' same'), tt, tt)
     | first_unopened n same' ↦
         by_first old new old' new' status (open_one status n.error n.tells) (tells_not shape old loaded new found status n.error n.tells n.reason n.only_reads)
         (λ e. wants_untouched shape old loaded new found n.error (sym n.tells ∙ e) n.reason) (still_untouched shape old' loaded' new' found' same')
     | second_unopened is n ↦
         by_second old new old' new' status (open_one status n.error n.tells) (tells_not shape old' loaded' new' found' status n.error n.tells n.reason n.only_reads)
         (λ e. wants_untouched shape old' loaded' new' found' n.error (sym n.tells ∙ e) n.reason) (opened_untouched shape old loaded new found is)
-    | limits_differ l ↦ record {
-      is_one = inr (inr (inr (inr (inl l.tells))));
-      output = λ e. absurd (let is = l.tells in omega (arith, e, is));
-      flash = λ e. absurd (let is = l.tells in omega (arith, e, is));
-      memory = λ e. absurd (let is = l.tells in omega (arith, e, is));
-      no_drive = λ e. (
-        inr (inr (inr (
-          shape,
+    | limits_differ l ↦
+        tells_by old new old' new' status 8 l.tells (inr (inr (inr (inr (inl l.tells))))) (
+          tt,
+          tt,
+          tt,
           (
-            ap (λ (s : BoardState). s.shape) l.first_opened ∙ found.shape_is,
-            ap (λ (s : BoardState). s.shape) l.second_opened ∙ found'.shape_is,
-            λ same. l.differ (ap (first_limit shape) (sym (ap (λ (s : BoardState). s.pages) l.first_opened)) ∙ same
-                ∙ ap (first_limit shape) (ap (λ (s : BoardState). s.pages) l.second_opened)),
+            inr (inr (inr (
+              shape,
+              (
+                ap (λ (s : BoardState). s.shape) l.first_opened ∙ found.shape_is,
+                ap (λ (s : BoardState). s.shape) l.second_opened ∙ found'.shape_is,
+                λ same. l.differ (ap (first_limit shape) (sym (ap (λ (s : BoardState). s.pages) l.first_opened)) ∙ same
+                    ∙ ap (first_limit shape) (ap (λ (s : BoardState). s.pages) l.second_opened)),
+              ),
+            ))),
+            opened_untouched shape old loaded new found l.first_opened,
+            opened_untouched shape old' loaded' new' found' l.second_opened,
           ),
-        ))),
-        opened_untouched shape old loaded new found l.first_opened,
-        opened_untouched shape old' loaded' new' found' l.second_opened,
-      );
-      worn = λ e. absurd (let is = l.tells in omega (arith, e, is));
-    }
+          tt,
+        )
     | pair_asked end is asked ↦ end_tells asked.start asked.other end status is asked.ends
   ]
 
 pub pair_tells : (task : PairTask) (old new old' new' : BoardState) (status : ℕ) → PairRun task old new old' new' status → PairTells old new old' new' status
-pair_tells task old new old' new' status (no_pair_memory is same same') = record {
-  is_one = inr (inr (inr (inl is)));
-  output = λ e. absurd (omega (arith, e, is));
-  flash = λ e. absurd (omega (arith, e, is));
-  memory = λ e. (untouched_same old new same, untouched_same old' new' same');
-  no_drive = λ e. absurd (omega (arith, e, is));
-  worn = λ e. absurd (omega (arith, e, is));
-}
+pair_tells task old new old' new' status (no_pair_memory is same same') =
+    tells_by old new old' new' status 7 is (inr (inr (inr (inl is)))) (tt, tt, (untouched_same old new same, untouched_same old' new' same'), tt, tt)
 pair_tells task old new old' new' status (first_missing missing same') =
     by_first old new old' new' status (not_found_one old new status missing) (not_found_tells old new status missing) (not_found_wants old new status missing) (untouched_same old' new' same')
 pair_tells task old new old' new' status (second_missing shape found missing) =
     by_second old new old' new' status (not_found_one old' new' status missing) (not_found_tells old' new' status missing)
     (not_found_wants old' new' status missing) (load_untouched old new (Some shape) found)
-pair_tells task old new old' new' status (shapes_differ o) = record {
-  is_one = inr (inr (inr (inr (inl o.tells))));
-  output = λ e. absurd (let is = o.tells in omega (arith, e, is));
-  flash = λ e. absurd (let is = o.tells in omega (arith, e, is));
-  memory = λ e. absurd (let is = o.tells in omega (arith, e, is));
-  no_drive = λ e. (inr (inr (inl (o.shape, o.other, o.found.shape_is, o.found'.shape_is, o.differ))), load_untouched old new (Some o.shape) o.found, load_untouched old' new' (Some o.other) o.found');
-  worn = λ e. absurd (let is = o.tells in omega (arith, e, is));
-}
+pair_tells task old new old' new' status (shapes_differ o) = tells_by old new old' new' status 8 o.tells (inr (inr (inr (inr (inl o.tells))))) (
+  tt,
+  tt,
+  tt,
+  (
+    inr (inr (inl (o.shape, o.other, o.found.shape_is, o.found'.shape_is, o.differ))),
+    load_untouched old new (Some o.shape) o.found,
+    load_untouched old' new' (Some o.other) o.found',
+  ),
+  tt,
+)
 pair_tells task old new old' new' status (pair_found f) = asks_tells task f.shape old f.loaded new old' f.loaded' new' f.found f.found' status f.asks
 
 -- ---- boards that hold no pair
 
 no_map : (shape : Shape) (pages : Flash) (m : Map) (refusal : Refusal) → Holds shape pages m → reading shape pages [] ≡ Err refusal → ⊥
 no_map shape pages m refusal held refuses = let clash : ◌≡◌ {A = Result Map Refusal} (Ok m) (Err refusal) = sym held ∙ refuses in cc
-
-found_shape : (o l : BoardState) (s shape : Shape) → o.shape ≡ Some shape → Loaded o l (Some s) → s ≡ shape
-found_shape o l s shape is found = let told : ◌≡◌ {A = Option Shape} (Some s) (Some shape) = sym found.shape_is ∙ (found.held (subst IsSome (sym is) refl)).1 ∙ is in cc
-
-found_pages : (o l : BoardState) (s shape : Shape) → o.shape ≡ Some shape → Loaded o l (Some s) → l.pages ≡ o.pages
-found_pages o l s shape is found = (found.held (subst IsSome (sym is) refl)).0
 
 refused_one : (status : ℕ) → (status ≡ 6) ⊎ ((status ≡ 7) ⊎ (status ≡ 8)) → (status ≡ 8) ⊎ ((status ≡ 7) ⊎ (status ≡ 6))
 refused_one status (inl e) = inr (inr e)
@@ -474,14 +384,18 @@ pair_refused task old new old' new' status (pair_found f) shape other has has' l
   | limits_differ l ↦ inl l.tells
   | pair_asked end is asked ↦ absurd (no_lack f.shape shape other old old' f.loaded f.loaded' asked.start asked.other
       (found_shape old f.loaded f.shape shape has f.found) (found_shape old' f.loaded' f.shape other has' f.found')
-      (found_pages old f.loaded f.shape shape has f.found) (found_pages old' f.loaded' f.shape other has' f.found')
+      (found_pages old f.loaded (Some f.shape) shape has f.found) (found_pages old' f.loaded' (Some f.shape) other has' f.found')
       asked.holds asked.holds_other asked.one_limit lacks)
 ]
 
 -- ---- where no call fails
 
-worn_never : (before behind more : ℕ) → nat_le 9223372036854775808 behind ≡ true → behind ≤ before + more → before < 4611686018427387904 → more < 4611686018427387904 → ⊥
-worn_never before behind more worn used far few = grind (arith, nat_tests, worn, used, far, few)
+-- a drive that was far from worn is not worn, if no call fails
+worn_not : (old loaded new : BoardState) (shape : Shape) (m other : Map) → old.shape ≡ Some shape → Loaded old loaded (Some shape) → roots old < 4611686018427387904 → NoneRose old new
+    → most_pair_roots m other < 4611686018427387904 → UsedRoots m other loaded new → is_worn new ≡ true → ⊥
+worn_not old loaded new shape m other has found far none few (inl stop) worn = none.stops (subst (λ (n : ℕ). Rose n new.stop_faults) (ap (λ (s : BoardState). s.stop_faults) found.rest) stop)
+worn_not old loaded new shape m other has found far none few (inr used) worn =
+    worn_never (roots loaded) (roots new) (most_pair_roots m other) worn used (subst (λ (n : ℕ). n < 4611686018427387904) (same_roots old loaded (Some shape) shape has found) far) few
 
 module _ (task : PairTask) (old new old' new' : BoardState) (status : ℕ) (shape : Shape) (m other : Map) (has : old.shape ≡ Some shape)
     (has' : old'.shape ≡ Some shape) (held : Holds shape old.pages m) (held' : Holds shape old'.pages other)
@@ -495,31 +409,22 @@ module _ (task : PairTask) (old new old' new' : BoardState) (status : ℕ) (shap
       (status ≡ 0) × (new.posted ≡ longer old.posted (text_by shape limits task m)) × Holds shape new.pages (map_left shape limits task m)
       × HoldsPart shape new'.pages (in_space 1 (map_left shape limits task m))
 
-  there : IsSome old.shape
-  there = subst IsSome (sym has) refl
-
-  there' : IsSome old'.shape
-  there' = subst IsSome (sym has') refl
-
-  -- the images are there, with these shapes and pages
-  none_missing : (o o' : BoardState) (s : ℕ) → IsSome o.shape → NotFound o o' s → s ≡ 8 → ⊥
-  none_missing o o' s some (inl r) e = by r.fault r.tells r.reason
+  -- the image is there
+  none_lost : (o o' : BoardState) (s : ℕ) → o.shape ≡ Some shape → NotFound o o' s → s ≡ 8 → ⊥
+  none_lost o o' s is (inl r) e = by r.fault r.tells r.reason
     where
       by : (fault : LoadFault) → s ≡ load_status fault → HasReason o o' fault → ⊥
-      by Fault is reason = omega (arith, e, is)
-      by (BadImage at) is reason = reason.2 some
-      by Memory is reason = omega (arith, e, is)
-  none_missing o o' s some (inr (is, found)) e = no_some o.shape (sym (found.held some).1 ∙ found.shape_is) some
-
-  shape_of_found : (o l : BoardState) (s : Shape) → IsSome o.shape → o.shape ≡ Some shape → Loaded o l (Some s) → s ≡ shape
-  shape_of_found o l s some is found = let told : ◌≡◌ {A = Option Shape} (Some s) (Some shape) = sym found.shape_is ∙ (found.held some).1 ∙ is in cc
+      by (BadImage at) tells reason = reason.2 (subst IsSome (sym is) refl)
+      by Fault tells reason = omega (arith, e, tells)
+      by Memory tells reason = omega (arith, e, tells)
+  none_lost o o' s is (inr (tells, found)) e = none_missing o o' shape is found
 
   module _ (loaded loaded' : BoardState) (found : Loaded old loaded (Some shape)) (found' : Loaded old' loaded' (Some shape)) where
     pages_same : loaded.pages ≡ old.pages
-    pages_same = (found.held there).0
+    pages_same = found_pages old loaded (Some shape) shape has found
 
     pages_same' : loaded'.pages ≡ old'.pages
-    pages_same' = (found'.held there').0
+    pages_same' = found_pages old' loaded' (Some shape) shape has' found'
 
     limits_same : limits_at shape loaded.pages ≡ limits
     limits_same = ap (limits_at shape) pages_same
@@ -539,24 +444,8 @@ module _ (task : PairTask) (old new old' new' : BoardState) (status : ℕ) (shap
         by ReadFault is reason = omega (arith, e, is)
         by NoMemory is reason = omega (arith, e, is)
 
-    roots_loaded : roots old ≡ roots loaded
-    roots_loaded = λ k. root_number (shape_or_none (sym (found.held there).1 k)) (sym pages_same k)
-
-    roots_loaded' : roots old' ≡ roots loaded'
-    roots_loaded' = λ k. root_number (shape_or_none (sym (found'.held there').1 k)) (sym pages_same' k)
-
     same_start : (asked : Map) → Holds shape loaded.pages asked → asked ≡ m
     same_start asked holds = let h : ◌≡◌ {A = Result Map Refusal} (Ok asked) (Ok m) = sym holds ∙ holds_loaded in cc
-
-    not_worn_now : (asked_m asked_other : Map) → most_pair_roots asked_m asked_other < 4611686018427387904 → UsedRoots asked_m asked_other loaded new → is_worn new ≡ true → ⊥
-    not_worn_now asked_m asked_other few (inl stop) worn = none.stops (subst (λ (n : ℕ). Rose n new.stop_faults) (ap (λ (s : BoardState). s.stop_faults) found.rest) stop)
-    not_worn_now asked_m asked_other few (inr used) worn =
-        worn_never (roots loaded) (roots new) (most_pair_roots asked_m asked_other) worn used (subst (λ (n : ℕ). n < 4611686018427387904) roots_loaded far) few
-
-    not_worn_now' : (asked_m asked_other : Map) → most_pair_roots asked_m asked_other < 4611686018427387904 → UsedRoots asked_m asked_other loaded' new' → is_worn new' ≡ true → ⊥
-    not_worn_now' asked_m asked_other few (inl stop) worn = none'.stops (subst (λ (n : ℕ). Rose n new'.stop_faults) (ap (λ (s : BoardState). s.stop_faults) found'.rest) stop)
-    not_worn_now' asked_m asked_other few (inr used) worn =
-        worn_never (roots loaded') (roots new') (most_pair_roots asked_m asked_other) worn used (subst (λ (n : ℕ). n < 4611686018427387904) roots_loaded' far') few
 
     done_by : (start : Map) → start ≡ m → status ≡ 0 → PairFinished task shape start (behind_opening shape WORD_FRAMES loaded) new (behind_opening shape WORD_FRAMES loaded') new' → IsDone
     done_by start same is f = elim f.says [
@@ -577,59 +466,29 @@ module _ (task : PairTask) (old new old' new' : BoardState) (status : ℕ) (shap
     -- the word is done, where its status is none of a fault
     asked_done : AsksPair task shape loaded new loaded' new' status → (status ≡ 0) ⊎ ((status ≡ 8) ⊎ (status ≡ 10)) → IsDone
     asked_done asks one = elim asks.outcome [
-      | no_speaker is same same' ↦ absurd (elim one [ inl e ↦ omega (arith, e, is) | inr rest ↦ elim rest [ inl e ↦ omega (arith, e, is) | inr e ↦ omega (arith, e, is) ] ])
-      | first_unopened n same' ↦ absurd (elim one [
-        | inl e ↦ not_zero n.error n.tells e
-        | inr rest ↦ elim rest [ inl e ↦ not_no_drive loaded new m holds_loaded n e | inr e ↦ not_ten n.error n.tells e ]
-      ])
-      | second_unopened is n ↦ absurd (elim one [
-        | inl e ↦ not_zero n.error n.tells e
-        | inr rest ↦ elim rest [ inl e ↦ not_no_drive loaded' new' other holds_loaded' n e | inr e ↦ not_ten n.error n.tells e ]
-      ])
+      | no_speaker is same same' ↦ absurd (omega (arith, one, is))
+      | first_unopened n same' ↦ absurd (not_no_drive loaded new m holds_loaded n (let fault = open_one status n.error n.tells in omega (arith, one, fault)))
+      | second_unopened is n ↦ absurd (not_no_drive loaded' new' other holds_loaded' n (let fault = open_one status n.error n.tells in omega (arith, one, fault)))
       | limits_differ l ↦ absurd (l.differ (ap (first_limit shape) pages_same ∙ one_limit ∙ sym (ap (first_limit shape) pages_same')))
-      | pair_asked end is asked ↦ by end is asked one
+      | pair_asked end is asked ↦ by end is asked
     ]
       where
-        not_zero : (error : OpenError) → status ≡ open_status error → status ≡ 0 → ⊥
-        not_zero NotFormatted is e = omega (arith, e, is)
-        not_zero (Damaged page) is e = omega (arith, e, is)
-        not_zero ReadFault is e = omega (arith, e, is)
-        not_zero NoMemory is e = omega (arith, e, is)
-
-        not_ten : (error : OpenError) → status ≡ open_status error → status ≡ 10 → ⊥
-        not_ten NotFormatted is e = omega (arith, e, is)
-        not_ten (Damaged page) is e = omega (arith, e, is)
-        not_ten ReadFault is e = omega (arith, e, is)
-        not_ten NoMemory is e = omega (arith, e, is)
-
-        by : (end : WordEnd) → status ≡ word_status end → AskedPair task shape loaded new loaded' new' end → (status ≡ 0) ⊎ ((status ≡ 8) ⊎ (status ≡ 10)) → IsDone
-        by Done is asked one = done_by asked.start (same_start asked.start asked.holds) is asked.ends
-        by Output is asked one = absurd (elim one [ inl e ↦ omega (arith, e, is) | inr rest ↦ elim rest [ inl e ↦ omega (arith, e, is) | inr e ↦ omega (arith, e, is) ] ])
-        by FlashFailed is asked one = absurd (elim one [ inl e ↦ omega (arith, e, is) | inr rest ↦ elim rest [ inl e ↦ omega (arith, e, is) | inr e ↦ omega (arith, e, is) ] ])
-        by Worn is asked one = absurd (elim asked.ends [
-          | inl worn ↦ not_worn_now asked.start asked.other asked.few asked.first_used worn
-          | inr worn ↦ not_worn_now' asked.start asked.other asked.few asked.second_used worn
+        by : (end : WordEnd) → status ≡ word_status end → AskedPair task shape loaded new loaded' new' end → IsDone
+        by Done is asked = done_by asked.start (same_start asked.start asked.holds) is asked.ends
+        by Worn is asked = absurd (elim asked.ends [
+          | inl worn ↦ worn_not old loaded new shape asked.start asked.other has found far none asked.few asked.first_used worn
+          | inr worn ↦ worn_not old' loaded' new' shape asked.start asked.other has' found' far' none' asked.few asked.second_used worn
         ])
+        by Output is asked = absurd (omega (arith, one, is))
+        by FlashFailed is asked = absurd (omega (arith, one, is))
 
   run_done : PairRun task old new old' new' status → (status ≡ 0) ⊎ ((status ≡ 8) ⊎ (status ≡ 10)) → IsDone
-  run_done (no_pair_memory is same same') one = absurd (elim one [ inl e ↦ omega (arith, e, is) | inr rest ↦ elim rest [ inl e ↦ omega (arith, e, is) | inr e ↦ omega (arith, e, is) ] ])
-  run_done (first_missing missing same') one = absurd (elim one [
-    | inl e ↦ elim (not_found_one old new status missing) [ inl f ↦ omega (arith, e, f) | inr rest ↦ elim rest [ inl f ↦ omega (arith, e, f) | inr f ↦ omega (arith, e, f) ] ]
-    | inr rest ↦ elim rest [
-      | inl e ↦ none_missing old new status there missing e
-      | inr e ↦ elim (not_found_one old new status missing) [ inl f ↦ omega (arith, e, f) | inr rest ↦ elim rest [ inl f ↦ omega (arith, e, f) | inr f ↦ omega (arith, e, f) ] ]
-    ]
-  ])
-  run_done (second_missing s found missing) one = absurd (elim one [
-    | inl e ↦ elim (not_found_one old' new' status missing) [ inl f ↦ omega (arith, e, f) | inr rest ↦ elim rest [ inl f ↦ omega (arith, e, f) | inr f ↦ omega (arith, e, f) ] ]
-    | inr rest ↦ elim rest [
-      | inl e ↦ none_missing old' new' status there' missing e
-      | inr e ↦ elim (not_found_one old' new' status missing) [ inl f ↦ omega (arith, e, f) | inr rest ↦ elim rest [ inl f ↦ omega (arith, e, f) | inr f ↦ omega (arith, e, f) ] ]
-    ]
-  ])
-  run_done (shapes_differ o) one = absurd (o.differ (shape_of_found old new o.shape there has o.found ∙ sym (shape_of_found old' new' o.other there' has' o.found')))
+  run_done (no_pair_memory is same same') one = absurd (omega (arith, one, is))
+  run_done (first_missing missing same') one = absurd (none_lost old new status has missing (let fault = not_found_one old new status missing in omega (arith, one, fault)))
+  run_done (second_missing s found missing) one = absurd (none_lost old' new' status has' missing (let fault = not_found_one old' new' status missing in omega (arith, one, fault)))
+  run_done (shapes_differ o) one = absurd (o.differ (found_shape old new o.shape shape has o.found ∙ sym (found_shape old' new' o.other shape has' o.found')))
   run_done (pair_found f) one =
-      let same = shape_of_found old f.loaded f.shape there has f.found in
+      let same = found_shape old f.loaded f.shape shape has f.found in
       let A : Shape → Type 0 = λ s. AsksPair task s f.loaded new f.loaded' new' status in
       asked_done f.loaded f.loaded' (subst (λ (s : Shape). Loaded old f.loaded (Some s)) same f.found) (subst (λ (s : Shape). Loaded old' f.loaded' (Some s)) same f.found') (subst A same f.asks) one
 
@@ -653,36 +512,19 @@ pair_whole task old new old' new' status run shape m other has has' held held' o
 -- ---- the words
 
 -- a key that the words name is of the first namespace, and a value is short
+allowed_same : (t task : PairTask) → Some t ≡ Some task → IsAllowed t → IsAllowed task
+allowed_same t task e allowed = let same : t ≡ task = cc in subst IsAllowed same allowed
+
 short_by : (words : List (List ℕ)) (task : PairTask) (w : Word) → Some w ≡ word_of words → for_pair w ≡ Some task → IsAllowed task
-short_by words task (ask (answer (put_one k v))) is e =
-    let allowed = short_within words (ask (answer (put_one k v))) is (answer (put_one k v)) refl in
-    let same : put k v ≡ task = cc in
-    subst IsAllowed same allowed
-short_by words task (ask (answer (get_one k))) is e =
-    let allowed = short_within words (ask (answer (get_one k))) is (answer (get_one k)) refl in
-    let same : get k ≡ task = cc in
-    subst IsAllowed same allowed
-short_by words task (ask (answer (delete_one k))) is e =
-    let allowed = short_within words (ask (answer (delete_one k))) is (answer (delete_one k)) refl in
-    let same : delete k ≡ task = cc in
-    subst IsAllowed same allowed
-short_by words task (ask (answer (has_one k))) is e = absurd (cc)
-short_by words task (ask (answer stat_one)) is e = absurd (cc)
-short_by words task (ask (list_keys None)) is e =
-    let same : list_all ≡ task = cc in
-    subst IsAllowed same tt
-short_by words task (ask (list_keys (Some k))) is e = absurd (cc)
-short_by words task (ask (generate begin count)) is e = absurd (cc)
-short_by words task (make shape limits) is e = absurd (cc)
-short_by words task (serve frames) is e = absurd (cc)
-short_by words task assemble is e = absurd (cc)
-short_by words task show is e = absurd (cc)
+short_by words task (ask (answer (put_one k v))) is e = allowed_same (put k v) task e (short_within words (ask (answer (put_one k v))) is (answer (put_one k v)) refl)
+short_by words task (ask (answer (get_one k))) is e = allowed_same (get k) task e (short_within words (ask (answer (get_one k))) is (answer (get_one k)) refl)
+short_by words task (ask (answer (delete_one k))) is e = allowed_same (delete k) task e (short_within words (ask (answer (delete_one k))) is (answer (delete_one k)) refl)
+short_by words task (ask (list_keys None)) is e = allowed_same list_all task e tt
+short_by words task w is e = absurd (cc)
 
 short_of : (words : List (List ℕ)) (task : PairTask) (o : Option Word) (b : Bool) → o ≡ word_of words
     → (if b then Some resync else option_and_then for_pair o) ≡ Some task → IsAllowed task
-short_of words task o true is e =
-    let same : resync ≡ task = cc in
-    subst IsAllowed same tt
+short_of words task o true is e = allowed_same resync task e tt
 short_of words task None false is e = absurd (cc)
 short_of words task (Some w) false is e = short_by words task w is e
 

@@ -1,19 +1,18 @@
 -- Which runs do not change the flash.
-use Rattle.std.proofs.Common.{◌≡◌, inl, inr, ℕ, List, Option, Some, None, IsSome, sym, ◌∙◌, ap, true}
+use Rattle.std.proofs.Common.{◌≡◌, inl, inr, ℕ, List, Option, Some, None, IsSome, sym, ◌∙◌, ap, true, false}
 use Rattle.pk_base.specs.Shape.{Shape}
 use Rattle.pk_nand.{specs.BoardState.BoardState, specs.Calls.Loaded, specs.Calls.LoadFailed, specs.Resting.RestsFlash, proofs.Resting.Rests-same, proofs.Resting.Rests-start, proofs.Resting.Rests-then}
 use Rattle.pk_text.specs.Written.{Written}
 use Rattle.pk_wordrun.specs.Tasks.{Task, only_asks}
 use Rattle.pk_top.{specs.Loads.no_memory, specs.Loads.not_loaded, specs.Loads.no_image, specs.Loads.has_image, specs.Asks.AskRun, specs.Makes.MakeRun, specs.TextRuns.TextRun}
-use Rattle.pk_top.{specs.Resting.RestsIn, specs.Resting.Rests, specs.Words.Word, specs.Words.make, specs.Words.serve, specs.Words.ask, specs.Words.assemble, specs.Words.show}
+use Rattle.pk_top.{specs.Resting.RestsIn, specs.Resting.Rests, specs.Words.Word, specs.Words.make, specs.Words.serve, specs.Words.ask}
 
 -- nothing was done
 pub rests-same_word : (word : Word) (old new : BoardState) → new ≡ old → RestsIn word old new
 rests-same_word (make shape limits) old new same = λ some. Rests-same old new same
 rests-same_word (serve frames) old new same = tt
 rests-same_word (ask task) old new same = λ only some. Rests-same old new same
-rests-same_word assemble old new same = Rests-same old new same
-rests-same_word show old new same = Rests-same old new same
+rests-same_word word old new same = Rests-same old new same
 
 pub rests-same : (word : Option Word) (old new : BoardState) → new ≡ old → Rests word old new
 rests-same None old new same = Rests-same old new same
@@ -50,8 +49,4 @@ rests-make shape limits old new status (not_loaded refused) some = rests-refused
 rests-make shape limits old new status (has_image there) some = rests-loaded old new (Some there.shape) some there.found
 rests-make shape limits old new status (no_image run) some =
     let none : old.shape ≡ None = sym (run.none.held some).1 ∙ run.none.shape_is in
-    absurd (never old.shape none some)
-  where
-    never : (o : Option Shape) → o ≡ None → IsSome o → ⊥
-    never None e h = cc
-    never (Some s) e h = cc
+    absurd (let never : false ≡ true = rw none at some in cc)

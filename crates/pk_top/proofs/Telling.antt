@@ -1,5 +1,5 @@
 -- What the status of a run says.
-use Rattle.std.proofs.Common.{◌≡◌, ◌⊎◌, inl, inr, ℕ, List, Option, Some, None, IsSome, refl, sym, ◌∙◌, ap, subst, arith}
+use Rattle.std.proofs.Common.{◌≡◌, ◌⊎◌, ◌==◌, inl, inr, ℕ, Bool, true, false, List, Option, Some, None, IsSome, refl, sym, ◌∙◌, ap, subst, arith}
 use Rattle.pk_base.{specs.Shape.Shape, specs.Page.Page, specs.Refusal.Refusal, specs.Refusal.not_formatted, specs.Refusal.damaged}
 use Rattle.pk_nand.{specs.BoardState.BoardState, specs.Calls.Rose, specs.Calls.Loaded, specs.Calls.LoadFailed, specs.declared.types.LoadFault.LoadFault, specs.Effects.OnlyReading}
 use Rattle.pk_nand.specs.declared.types.LoadFault.TheVariants.{Fault, BadImage, Memory}
@@ -9,76 +9,55 @@ use Rattle.pk_serve.specs.declared.end.End.TheVariants.{Done, Truncated, Input, 
 use Rattle.pk_scan.{specs.Opening.NotOpened, specs.Opening.OnlyReads, specs.declared.errors.OpenError.OpenError}
 use Rattle.pk_scan.specs.declared.errors.OpenError.TheVariants.{NotFormatted, Damaged, Fault as ReadFault, Memory as NoMemory}
 use Rattle.pk_top.{specs.Ends.end_status, specs.Ends.open_status, specs.Serves.ServeRun, specs.Serves.RunServes, specs.Serves.behind_opening}
-use Rattle.pk_top.specs.Loads.{load_status, HasReason, LoadRefused, no_memory, not_loaded, no_image, has_image}
+use Rattle.pk_top.specs.Loads.{load_status, HasReason, LoadRefused, NoImage, WordRun, no_memory, not_loaded, no_image, has_image}
+use Rattle.pk_top.proofs.Opened.{none_missing}
 use Rattle.pk_top.specs.Statuses.{GivesNothing, Untouched, FlashFailed, HasNoDrive, Tells}
 
 -- ---- one status each
 
+-- what holds if it does
+abbrev pub When : Bool → Type 0 → Type 0
+When true A = A
+When false A = Unit {0}
+
+-- what a status says
+abbrev Means : BoardState → BoardState → ℕ → Type 0
+Means old new n =
+    When (n == 2) ⊥ × When (n == 4) (Rose old.in_faults new.in_faults) × When (n == 5) (Rose old.out_faults new.out_faults) × When (n == 6) (FlashFailed old new)
+    × When (n == 7) ((new.flash_faults ≡ old.flash_faults) × GivesNothing old new) × When (n == 8) (HasNoDrive new × Untouched old new) × When (n == 9) (IsSome new.shape × Untouched old new)
+
+tells_by : (old new : BoardState) (status n : ℕ) → status ≡ n → Means old new n → Tells old new status
+tells_by old new status n is h =
+    let at : (k : ℕ) → status ≡ k → Means old new k = λ k e. subst (Means old new) (sym is ∙ e) h in
+    record {
+      no_words = λ e. (at 2 e).0;
+      input = λ e. (at 4 e).1;
+      output = λ e. (at 5 e).2;
+      flash = λ e. (at 6 e).3;
+      memory = λ e. (at 7 e).4;
+      no_drive = λ e. (at 8 e).5;
+      made = λ e. (at 9 e).6;
+    }
+
 pub tells_good : (old new : BoardState) (status : ℕ) → (status ≡ 0) ⊎ ((status ≡ 3) ⊎ (status ≡ 10)) → Tells old new status
-tells_good old new status good = record {
-  no_words = λ e. absurd (omega arith);
-  input = λ e. absurd (omega arith);
-  output = λ e. absurd (omega arith);
-  flash = λ e. absurd (omega arith);
-  memory = λ e. absurd (omega arith);
-  no_drive = λ e. absurd (omega arith);
-  made = λ e. absurd (omega arith);
-}
+tells_good old new status (inl e) = tells_by old new status 0 e (tt, tt, tt, tt, tt, tt, tt)
+tells_good old new status (inr (inl e)) = tells_by old new status 3 e (tt, tt, tt, tt, tt, tt, tt)
+tells_good old new status (inr (inr e)) = tells_by old new status 10 e (tt, tt, tt, tt, tt, tt, tt)
 
 tells_input : (old new : BoardState) → Rose old.in_faults new.in_faults → Tells old new 4
-tells_input old new rose = record {
-  no_words = λ e. absurd (omega arith);
-  input = λ e. rose;
-  output = λ e. absurd (omega arith);
-  flash = λ e. absurd (omega arith);
-  memory = λ e. absurd (omega arith);
-  no_drive = λ e. absurd (omega arith);
-  made = λ e. absurd (omega arith);
-}
+tells_input old new rose = tells_by old new 4 4 refl (tt, rose, tt, tt, tt, tt, tt)
 
 pub tells_output : (old new : BoardState) → Rose old.out_faults new.out_faults → Tells old new 5
-tells_output old new rose = record {
-  no_words = λ e. absurd (omega arith);
-  input = λ e. absurd (omega arith);
-  output = λ e. rose;
-  flash = λ e. absurd (omega arith);
-  memory = λ e. absurd (omega arith);
-  no_drive = λ e. absurd (omega arith);
-  made = λ e. absurd (omega arith);
-}
+tells_output old new rose = tells_by old new 5 5 refl (tt, tt, rose, tt, tt, tt, tt)
 
 pub tells_flash : (old new : BoardState) (status : ℕ) → status ≡ 6 → FlashFailed old new → Tells old new status
-tells_flash old new status is failed = record {
-  no_words = λ e. absurd (omega arith);
-  input = λ e. absurd (omega arith);
-  output = λ e. absurd (omega arith);
-  flash = λ e. failed;
-  memory = λ e. absurd (omega arith);
-  no_drive = λ e. absurd (omega arith);
-  made = λ e. absurd (omega arith);
-}
+tells_flash old new status is failed = tells_by old new status 6 is (tt, tt, tt, failed, tt, tt, tt)
 
 pub tells_memory : (old new : BoardState) (status : ℕ) → status ≡ 7 → new.flash_faults ≡ old.flash_faults → GivesNothing old new → Tells old new status
-tells_memory old new status is sound gives = record {
-  no_words = λ e. absurd (omega arith);
-  input = λ e. absurd (omega arith);
-  output = λ e. absurd (omega arith);
-  flash = λ e. absurd (omega arith);
-  memory = λ e. (sound, gives);
-  no_drive = λ e. absurd (omega arith);
-  made = λ e. absurd (omega arith);
-}
+tells_memory old new status is sound gives = tells_by old new status 7 is (tt, tt, tt, tt, (sound, gives), tt, tt)
 
 pub tells_no_drive : (old new : BoardState) (status : ℕ) → status ≡ 8 → HasNoDrive new → Untouched old new → Tells old new status
-tells_no_drive old new status is none untouched = record {
-  no_words = λ e. absurd (omega arith);
-  input = λ e. absurd (omega arith);
-  output = λ e. absurd (omega arith);
-  flash = λ e. absurd (omega arith);
-  memory = λ e. absurd (omega arith);
-  no_drive = λ e. (none, untouched);
-  made = λ e. absurd (omega arith);
-}
+tells_no_drive old new status is none untouched = tells_by old new status 8 is (tt, tt, tt, tt, tt, (none, untouched), tt)
 
 -- if nothing was done
 pub gives_same : (old new : BoardState) → new ≡ old → GivesNothing old new
@@ -90,6 +69,26 @@ untouched_same old new same = record {
   trail = ap (λ (s : BoardState). s.trail) same;
   sound = ap (λ (s : BoardState). s.flash_faults) same;
   held = λ some. (ap (λ (s : BoardState). s.pages) same, ap (λ (s : BoardState). s.shape) same);
+}
+
+-- first one call, then another
+pub Untouched-then : (a b c : BoardState) → Untouched a b → Untouched b c → Untouched a c
+Untouched-then a b c p q = record {
+  gives = record { input = q.gives.input ∙ p.gives.input; posted = q.gives.posted ∙ p.gives.posted };
+  trail = q.trail ∙ p.trail;
+  sound = q.sound ∙ p.sound;
+  held = λ some.
+      let one = p.held some in
+      let two = q.held (subst IsSome (sym one.1) some) in (two.0 ∙ one.0, two.1 ∙ one.1);
+}
+
+-- only reads were made, and none failed
+pub reads_leave : (loaded new : BoardState) → OnlyReads loaded new → Untouched loaded new
+reads_leave loaded new (n, only) = record {
+  gives = record { input = ap (λ (s : BoardState). s.input) only; posted = ap (λ (s : BoardState). s.posted) only };
+  trail = ap (λ (s : BoardState). s.trail) only;
+  sound = ap (λ (s : BoardState). s.flash_faults) only;
+  held = λ some. (ap (λ (s : BoardState). s.pages) only, ap (λ (s : BoardState). s.shape) only);
 }
 
 -- ---- a load
@@ -108,9 +107,8 @@ refused_untouched old new sound l = record { gives = refused_gives old new l; tr
 
 -- a load that lacks memory
 pub wants_sound : (old new : BoardState) (fault : LoadFault) → load_status fault ≡ 7 → HasReason old new fault → new.flash_faults ≡ old.flash_faults
-wants_sound old new Fault wants reason = absurd (omega arith)
-wants_sound old new (BadImage at) wants reason = absurd (omega arith)
 wants_sound old new Memory wants reason = reason
+wants_sound old new other wants reason = absurd (omega arith)
 
 some_bad : (at : ℕ) (bad : Option ℕ) → bad ≡ Some at → IsSome bad
 some_bad at bad e = let T : Option ℕ → Type 0 = IsSome in subst T (sym e) refl
@@ -132,16 +130,8 @@ module _ (shape : Shape) (old loaded new : BoardState) (found : Loaded old loade
     posted = ap (λ (s : BoardState). s.posted) only ∙ ap (λ (s : BoardState). s.posted) found.rest;
   }
 
-  reads_untouched : OnlyReads loaded new → Untouched old new
-  reads_untouched (n, only) = record {
-    gives = record {
-      input = ap (λ (s : BoardState). s.input) only ∙ ap (λ (s : BoardState). s.input) found.rest;
-      posted = ap (λ (s : BoardState). s.posted) only ∙ ap (λ (s : BoardState). s.posted) found.rest;
-    };
-    trail = ap (λ (s : BoardState). s.trail) only ∙ ap (λ (s : BoardState). s.trail) found.rest;
-    sound = ap (λ (s : BoardState). s.flash_faults) only ∙ ap (λ (s : BoardState). s.flash_faults) found.rest;
-    held = λ some. (ap (λ (s : BoardState). s.pages) only ∙ (found.held some).0, ap (λ (s : BoardState). s.shape) only ∙ (found.held some).1);
-  }
+  pub reads_untouched : OnlyReads loaded new → Untouched old new
+  reads_untouched reads = Untouched-then old loaded new (load_untouched old loaded (Some shape) found) (reads_leave loaded new reads)
 
   holds_none : (refusal : Refusal) → OnlyReading loaded new → Refuses shape loaded.pages refusal → HasNoDrive new
   holds_none refusal only refuses =
@@ -157,10 +147,8 @@ module _ (shape : Shape) (old loaded new : BoardState) (found : Loaded old loade
   tells_not status NoMemory is reason only = tells_memory old new status is (reads_untouched reason).sound (reads_gives only)
 
   pub wants_untouched : (error : OpenError) → open_status error ≡ 7 → NotOpened shape loaded new error → Untouched old new
-  wants_untouched NotFormatted wants reason = absurd (omega arith)
-  wants_untouched (Damaged page) wants reason = absurd (omega arith)
-  wants_untouched ReadFault wants reason = absurd (omega arith)
   wants_untouched NoMemory wants reason = reads_untouched reason
+  wants_untouched error wants reason = absurd (omega arith)
 
   -- ---- a drive that was opened
 
@@ -179,6 +167,19 @@ module _ (shape : Shape) (old loaded new : BoardState) (found : Loaded old loade
   ]
 
 -- ---- the word
+
+-- If no flash operation failed, on a board that holds its pages from the start: an image was found, or memory was missing, and nothing was done.
+pub found_or_none : {Found : Type 0} (old new : BoardState) (status : ℕ) → WordRun (NoImage old new status) Found old new status → (shape : Shape) → old.shape ≡ Some shape
+    → (Rose old.flash_faults new.flash_faults → ⊥) → Found ⊎ ((status ≡ 7) × Untouched old new)
+found_or_none old new status (no_memory is same) shape has sound = inr (is, untouched_same old new same)
+found_or_none {Found} old new status (not_loaded refused) shape has sound = by refused.fault refused.tells refused.reason
+  where
+    by : (fault : LoadFault) → status ≡ load_status fault → HasReason old new fault → Found ⊎ ((status ≡ 7) × Untouched old new)
+    by Fault is reason = absurd (sound reason)
+    by (BadImage at) is reason = absurd (reason.2 (subst IsSome (sym has) refl))
+    by Memory is reason = inr (is, refused_untouched old new reason refused.failed)
+found_or_none old new status (no_image missing) shape has sound = absurd (none_missing old new shape has missing.found)
+found_or_none old new status (has_image found) shape has sound = inl found
 
 pub tells_serve : (frames : ℕ) (old new : BoardState) (status : ℕ) → ServeRun frames old new status → Tells old new status
 tells_serve frames old new status (no_memory is same) = tells_memory old new status is (ap (λ (s : BoardState). s.flash_faults) same) (gives_same old new same)

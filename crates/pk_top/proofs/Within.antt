@@ -1,7 +1,7 @@
 -- The frames that words may ask for.
 use Rattle.std.proofs.Common.{IfSome, ◌≡◌, ◌≤◌, ◌<◌, ◌^◌, ◌&&◌, ℕ, List, [], ◌∷◌, Option, None, Some, option_map, option_and_then, Bool, true, false, if◌then◌else◌, nat_le, nat_lt, length, bytes_eq}
 use Rattle.std.proofs.Common.{codes, subst, sym, ap, ◌∙◌, refl, arith}
-use Rattle.std.{proofs.lemmas.Bool.Decides.nat_tests, specs.Str.Parse.digits_value}
+use Rattle.std.{proofs.lemmas.Bool.Decides.nat_tests, proofs.lemmas.Bool.and_parts, proofs.lemmas.Bool.ltb-true, specs.Str.Parse.digits_value}
 use Rattle.pk_nvme.specs.Text.{number_of, is_number, bytes_of, some_bytes_of}
 use Rattle.pk_base.specs.Key.{Key}
 use Rattle.pk_asm.specs.Words.{key_of}
@@ -13,11 +13,9 @@ use Rattle.pk_top.specs.Words.{plain_of, word_of}
 
 -- the frames of a word are not too many
 abbrev WordWithin : Word → Type 0
-WordWithin (make shape limits) = Unit {0}
 WordWithin (serve frames) = frames ≤ 16384
 WordWithin (ask task) = IsAllowedTask task
-WordWithin assemble = Unit {0}
-WordWithin show = Unit {0}
+WordWithin word = Unit {0}
 
 abbrev Within : Option Word → Type 0
 Within None = Unit {0}
@@ -37,8 +35,7 @@ key_own word = by (nat_le (length word) 32) (some_bytes_of word)
   where
     by : (b : Bool) (o : Option (List ℕ)) → IfSome (if b then option_map (λ bytes. 1 ∷ bytes) o else None) IsOwnKey
     by true (Some bytes) = refl
-    by true None = tt
-    by false o = tt
+    by b o = tt
 
 within_key : (o : Option Key) (f : Key → Option Word) → IfSome o IsOwnKey → ((key : Key) → IsOwnKey key → Within (f key)) → Within (option_and_then f o)
 within_key None f own all = tt
@@ -52,24 +49,19 @@ within_own (Some key) f own all = all key own
 
 make_if-within : (words : List (List ℕ)) (p n m : Option ℕ) → Within (make_if words p n m)
 make_if-within words (Some p) (Some n) (Some m) = within_bind _ _ (λ shape. within_bind (limits_in_words shape words) _ (λ limits. tt))
-make_if-within words (Some p) (Some n) None = tt
-make_if-within words (Some p) None m = tt
-make_if-within words None n m = tt
+make_if-within words p n m = tt
 
 make-within : (operands : List (List ℕ)) → Within (make_of operands)
-make-within [] = tt
-make-within (p ∷ []) = tt
-make-within (p ∷ n ∷ []) = tt
 make-within (p ∷ n ∷ m ∷ words) = make_if-within words (number_of p) (number_of n) (number_of m)
+make-within operands = tt
 
 serve_if-within : (frames : ℕ) (b : Bool) → nat_le frames 16384 ≡ b → Within (if b then Some (serve frames) else None)
 serve_if-within frames true few = grind (arith, nat_tests, few)
 serve_if-within frames false few = tt
 
 serve-within : (operands : List (List ℕ)) → Within (serve_of operands)
-serve-within [] = tt
 serve-within (n ∷ []) = within_bind (number_of n) serve_with (λ frames. serve_if-within frames (nat_le frames 16384) refl)
-serve-within (n ∷ x ∷ more) = tt
+serve-within operands = tt
 
 put_with-within : (key bytes : List ℕ) → IsOwnKey key → Within (put_with key bytes)
 put_with-within key bytes own = by (nat_lt (length bytes) 4294967296) refl
@@ -79,42 +71,32 @@ put_with-within key bytes own = by (nat_lt (length bytes) 4294967296) refl
     by false few = tt
 
 put-within : (operands : List (List ℕ)) → Within (put_of operands)
-put-within [] = tt
-put-within (k ∷ []) = tt
 put-within (k ∷ b ∷ []) = within_key (key_of k) _ (key_own k) (λ key own. within_bind (bytes_of b) _ (λ bytes. put_with-within key bytes own))
-put-within (k ∷ b ∷ x ∷ more) = tt
+put-within operands = tt
 
 list-within : (operands : List (List ℕ)) → Within (list_word operands)
-list-within [] = tt
 list-within (k ∷ []) = within_own (key_of k) (λ key. ask (list (Some key))) (key_own k) (λ key own. own)
-list-within (k ∷ x ∷ more) = tt
+list-within operands = tt
 
 key-within : (operands : List (List ℕ)) (f : Key → Word) → ((key : Key) → IsOwnKey key → WordWithin (f key)) → Within (option_map f (only_key operands))
-key-within [] f all = tt
 key-within (k ∷ []) f all = within_own (key_of k) f (key_own k) all
-key-within (k ∷ x ∷ more) f all = tt
+key-within operands f all = tt
 
 alone-within : (word : Word) (operands : List (List ℕ)) → WordWithin word → Within (alone word operands)
 alone-within word [] h = h
 alone-within word (x ∷ more) h = tt
-
-and_right : (a b : Bool) → (a && b) ≡ true → b ≡ true
-and_right true b e = e
-and_right false b e = absurd (let never : false ≡ true = e in cc)
 
 -- a number that a text is, is below 2^32
 within_number : (text : List ℕ) (f : ℕ → Option Word) → ((n : ℕ) → n < 2 ^ 32 → Within (f n)) → Within (option_and_then f (number_of text))
 within_number text f all = by (is_number text && nat_lt (digits_value 10 text) (2 ^ 32)) refl
   where
     by : (b : Bool) → (is_number text && nat_lt (digits_value 10 text) (2 ^ 32)) ≡ b → Within (option_and_then f (if b then Some (digits_value 10 text) else None))
-    by true e = (let small = and_right (is_number text) (nat_lt (digits_value 10 text) (2 ^ 32)) e in all (digits_value 10 text) (grind (arith, nat_tests, small)))
+    by true e = all (digits_value 10 text) (ltb-true (digits_value 10 text) (2 ^ 32) (and_parts (is_number text) _ e).1)
     by false e = tt
 
 generate-within : (operands : List (List ℕ)) → Within (generate_of operands)
-generate-within [] = tt
-generate-within (s ∷ []) = tt
 generate-within (s ∷ c ∷ []) = within_bind (number_of s) _ (λ start. within_number c _ (λ count few. few))
-generate-within (s ∷ c ∷ x ∷ more) = tt
+generate-within operands = tt
 
 plain-within : (name : List ℕ) (operands : List (List ℕ)) → Within (plain_of name operands)
 unfolding plain_of

@@ -1,5 +1,6 @@
 -- The counters of a workload, one command after another.
-use Rattle.std.proofs.Common.{◌≡◌, ℕ, ◌+◌, ◌<◌, ◌≤◌, ◌==◌, max, if◌then◌else◌, List, [], ◌∷◌, ◌++◌, length, Bool, true, false, refl, sym, ◌∙◌, ap, arith}
+use Rattle.std.proofs.Common.{◌≡◌, ℕ, ◌+◌, ◌<◌, ◌≤◌, ◌==◌, max, if◌then◌else◌, List, [], ◌∷◌, ◌++◌, length, Bool, true, false, sym, ◌∙◌, ap, arith}
+use Rattle.std.proofs.lemmas.List.{length_push}
 use Rattle.pk_nvme.{specs.declared.request.Request.Request, specs.declared.opcode.TheConstants.RETRIEVE}
 use Rattle.pk_nvme.specs.declared.status.TheConstants.{SUCCESSFUL_COMPLETION, KEY_DOES_NOT_EXIST, INVALID_VALUE_SIZE, CAPACITY_EXCEEDED, UNRECOVERED_ERROR}
 use Rattle.pk_call.specs.declared.types.Outcome.{Outcome}
@@ -25,10 +26,6 @@ most-push : (all : List Exchange) (x : Exchange) → most_read (all ++ x ∷ [])
 most-push [] x = omega arith
 most-push (y ∷ ys) x = let e = most-push ys x in omega (arith, e)
 
-length-push : (all : List Exchange) (x : Exchange) → length (all ++ x ∷ []) ≡ length all + 1
-length-push [] x = refl
-length-push (y ∷ ys) x = let e = length-push ys x in omega (arith, e)
-
 module _ (s : Summary) (all : List Exchange) (x : Exchange) (few : length all < 4294967295) (sums : Sums s all) where
   count-more : (status before after : ℕ) (b : Bool) → before ≡ answered status all → b ≡ (x.reply.status == status)
       → (before < 4294967295 → after ≡ before + one b) → after ≡ answered status (all ++ x ∷ [])
@@ -48,7 +45,7 @@ module _ (s : Summary) (all : List Exchange) (x : Exchange) (few : length all < 
       → next.most ≡ max s.most (if r.opcode == RETRIEVE then o.reads else 0)
       → Sums next (all ++ x ∷ [])
   sums-more r o is next commands ok missing large full failed most = record {
-    commands = (let has = sums.commands in let e = commands (omega (arith, has, few)) in e ∙ (ap (λ n. n + 1) has ∙ sym (length-push all x)));
+    commands = (let has = sums.commands in let e = commands (omega (arith, has, few)) in e ∙ (ap (λ n. n + 1) has ∙ sym (length_push all x)));
     ok = count-more SUCCESSFUL_COMPLETION s.ok next.ok _ sums.ok (ap (λ n. n == SUCCESSFUL_COMPLETION) (sym is.status)) ok;
     missing = count-more KEY_DOES_NOT_EXIST s.missing next.missing _ sums.missing (ap (λ n. n == KEY_DOES_NOT_EXIST) (sym is.status)) missing;
     large = count-more INVALID_VALUE_SIZE s.large next.large _ sums.large (ap (λ n. n == INVALID_VALUE_SIZE) (sym is.status)) large;

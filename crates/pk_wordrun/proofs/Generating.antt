@@ -1,23 +1,24 @@
 -- A workload, one command after another, and its summary.
 use Rattle.std.proofs.Common.{◌≡◌, ℕ, zero, suc, ◌+◌, ◌*◌, ◌%◌, ◌<◌, ◌≤◌, ◌==◌, nat_le, nat_lt, if◌then◌else◌, List, [], ◌∷◌, ◌++◌, length, Option, Some, Ok, Bool, true, false, not, refl, sym, ◌∙◌}
 use Rattle.std.proofs.Common.{ap, subst, arith, append-nil, append_assoc, length-append}
-use Rattle.std.{specs.FinMap.entries, specs.FinMap.len, proofs.lemmas.List.length-map, proofs.lemmas.Bool.Decides.nat_tests}
+use Rattle.std.{specs.FinMap.len, proofs.lemmas.List.length-map, proofs.lemmas.Bool.Decides.nat_tests}
 use Rattle.pk_base.{specs.Shape.Shape, specs.Page.Flash as Pages, specs.Entry.Entry, specs.Map.Map, specs.Map.live}
 use Rattle.pk_nvme.{specs.Command.Command, specs.Seen.command_of, specs.declared.request.Request.Request}
 use Rattle.pk_nvme.specs.declared.opcode.TheConstants.{STORE, RETRIEVE, LIST, DELETE, EXIST}
-use Rattle.pk_nand.{specs.BoardState.BoardState, specs.Calls.Rose, specs.Calls.longer, specs.Operations.after_post, specs.Operations.PostFailed}
+use Rattle.pk_nand.{specs.BoardState.BoardState, specs.Operations.after_post, specs.Operations.PostFailed}
 use Rattle.pk_gen.specs.Workload.{Generator, workload, generator, request_of, value_of, a_of, b_of, c_of, is_store, value_len, request, tick}
-use Rattle.pk_call.{specs.Drive.CountsMap, specs.Exec.most_installs, specs.Meter.Meter, specs.Meter.meter, specs.Meter.MeteredAll, specs.Seen.in_space_of, specs.declared.types.Counts.Counts}
+use Rattle.pk_call.{specs.Drive.CountsMap, specs.Exec.most_installs, specs.Meter.meter, specs.Meter.MeteredAll, specs.Seen.in_space_of, specs.declared.types.Counts.Counts}
 use Rattle.pk_call.{specs.Sight.InSpace, specs.Sight.Sight, specs.Sight.in_space_at, specs.Sight.map_of, specs.Running.DriveRuns}
 use Rattle.pk_model.{specs.Growth.Goes, specs.Kept.rise, specs.Wear.is_worn, specs.Wear.roots, specs.Reading.reading, specs.Reading.Holds, specs.Run.Exchange, specs.Run.commands}
-use Rattle.pk_model.{proofs.Growing.Goes-reaches, proofs.Growing.weaken_went, specs.Spaces.Terms, specs.Spaces.in_space, specs.Spaces.terms_at}
+use Rattle.pk_model.{proofs.Growing.Goes-reaches, specs.Spaces.Terms, specs.Spaces.in_space, specs.Spaces.terms_at}
 use Rattle.pk_serve.{specs.Answered.installs, proofs.Counting.metered-roots, proofs.Counting.metered-unworn, proofs.Counting.few_unworn, proofs.Counting.commands-push}
 use Rattle.pk_port.{specs.Asking.KeptSilently, specs.declared.halt.Halt.TheVariants.Stopped, specs.declared.halt.Halt.TheVariants.Worn as UsedUp, specs.Steps.mount}
-use Rattle.pk_port.{proofs.Growing.asked-posts, proofs.Growing.asked-post_failed, proofs.Serving.mounted_limits}
+use Rattle.pk_port.proofs.Serving.{mounted_limits}
 use Rattle.pk_wordrun.{specs.Generated.Generating, specs.Generated.Generated, specs.Generated.Unfinished, specs.Summary.summary_lines, specs.Sums.Sums, proofs.Resting.never_both}
-use Rattle.pk_wordrun.{specs.Grouped.StoppedIn, specs.Grouped.KeepsGroup, specs.Grouped.AddsToGroup, specs.Grouped.StopsGroup, specs.Tasks.generate, specs.Tasks.SaysTask, specs.Tasks.KeptTask}
+use Rattle.pk_wordrun.{specs.Grouped.StoppedIn, specs.Grouped.KeepsGroup, specs.Grouped.AddsToGroup, specs.Grouped.StopsGroup, specs.Tasks.generate, specs.Tasks.SaysTask}
 use Rattle.pk_wordrun.{specs.Told.Told, specs.Told.turn_roots, specs.declared.end.WordEnd.TheVariants.Done, specs.declared.end.WordEnd.TheVariants.Output, specs.declared.summary.Summary.Summary}
-use Rattle.pk_wordrun.{proofs.Grouping.grouped_none, proofs.Grouping.grouped_asked, proofs.Telling.keeps-flash, proofs.Telling.done_unworn, proofs.Telling.output_unworn, proofs.Telling.flash_unworn}
+use Rattle.pk_wordrun.{proofs.Grouping.grouped_none, proofs.Grouping.grouped_asked, proofs.Grouping.goes_more, proofs.Grouping.stopped_weaker, proofs.Telling.keeps-flash, proofs.Telling.flash_unworn}
+use Rattle.pk_wordrun.{proofs.Telling.word-posted, proofs.Telling.word-unposted}
 
 -- ---- the commands of a workload
 
@@ -42,12 +43,8 @@ picked s r d e t cid b c =
     else request LIST cid b 1024
 
 few_of : (s r d e t : Bool) (cid b c : ℕ) → most_installs (picked s r d e t cid b c).opcode (picked s r d e t cid b c).size ≤ turn_roots
-few_of true r d e t cid b c = omega arith
-few_of false true d e t cid b c = omega arith
-few_of false false true e t cid b c = omega arith
-few_of false false false true t cid b c = omega arith
-few_of false false false false true cid b c = omega arith
 few_of false false false false false cid b c = omega arith
+few_of s r d e t cid b c = omega arith
 
 few_at : (begin turn : ℕ) → most_installs (command_at begin turn).opcode (command_at begin turn).size ≤ turn_roots
 few_at begin turn =
@@ -79,28 +76,6 @@ front begin turn (suc n) few = by (nat_le turn n) refl (λ small. front begin tu
     by false e before =
         let is : turn ≡ suc n = grind (arith, nat_tests, e, few) in
         ([], subst (λ t. workload begin (suc n) ≡ workload begin t ++ []) (sym is) (sym (append-nil (workload begin (suc n)))))
-
--- what is kept of some commands is kept of all
-module _ (shape : Shape) (terms : Terms) (start : Map) (cs more all : List Command) (is : all ≡ cs ++ more) (n : Option ℕ) where
-  silent_all : (f : Pages) (q : List ℕ) → KeptSilently shape terms start cs n f q → KeptSilently shape terms start all n f q
-  silent_all f q (none, k) = (
-    none,
-    record {
-      served = k.served;
-      unserved = k.unserved ++ more;
-      from_front = sym (append_assoc (commands k.served) k.unserved more) ∙ (ap (λ l. l ++ more) k.from_front ∙ sym is);
-      map_left = k.map_left;
-      ran = k.ran;
-      held = k.held;
-      same_limits = k.same_limits;
-      unposted = k.unposted;
-      begins = k.begins;
-      few_faults = k.few_faults;
-    },
-  )
-
-  goes_all : (a b : BoardState) → Goes shape a b (KeptSilently shape terms start cs n) → Goes shape a b (KeptSilently shape terms start all n)
-  goes_all a b went = (went.0, weaken_went went.0 a b (KeptSilently shape terms start cs n) (KeptSilently shape terms start all n) silent_all went.1, went.2)
 
 -- ---- turns
 
@@ -142,12 +117,9 @@ module _ (begin turn : ℕ) (shape : Shape) (terms : Terms) (start : Map) (a b :
   -- the drive was stopped in or before these commands
   unfinished_in : (count : ℕ) (cs more : List Command) (c : BoardState) → workload begin count ≡ cs ++ more
       → StoppedIn shape terms start a c cs → Unfinished begin count shape terms start a c Stopped
-  unfinished_in count cs more c is s = record {
-    kept = goes_all shape terms start cs more (workload begin count) is (rise a.read_faults c.read_faults) a c s.kept;
-    ends = s.stop;
-    used = λ e. absurd (flash_unworn e);
-    input = keeps-flash a c s.rest;
-  }
+  unfinished_in count cs more c is s =
+      let all = stopped_weaker shape terms start a c cs more (workload begin count) (sym is) s in
+      record { kept = all.kept; ends = all.stop; used = λ e. absurd (flash_unworn e); input = keeps-flash a c s.rest }
 
   -- in the command of this turn or before it
   pub unfinished_turn : (count : ℕ) (c : BoardState) → turn < count → (g : Generator) → g ≡ generator begin turn → StopsGroup b c d (command_of (request_of g) (value_of g) ∷ [])
@@ -183,7 +155,7 @@ module _ (begin turn : ℕ) (shape : Shape) (terms : Terms) (start : Map) (a b :
       let more = front begin turn count (omega (arith, small)) in
       let R : List Command → Type 0 = λ l. Goes shape a c (KeptSilently shape terms start l (rise a.read_faults c.read_faults)) in
       record {
-        kept = goes_all shape terms start (workload begin turn) more.0 (workload begin count) more.1 (rise a.read_faults c.read_faults) a c
+        kept = goes_more shape terms start a c (workload begin turn) more.0 (workload begin count) (rise a.read_faults c.read_faults) (sym more.1)
             (subst R w.are (Goes-reaches shape a c (KeptSilently shape terms start (commands w.all) (rise a.read_faults c.read_faults)) g.reached));
         ends = (
           ap (λ n. nat_le 9223372036854775808 n) same ∙ worn,
@@ -235,43 +207,10 @@ module _ (begin count : ℕ) (shape : Shape) (terms : Terms) (start : Map) (a b 
       never_both (subst T is some) in
       few_unworn a (metered-unworn all (meter a) (meter b) none w.asked.answered.metered)
 
-  told_posted : Told (generate begin count) shape terms start a (after_post b text) Done
-  told_posted = record {
-    kept = Goes-reaches shape a (after_post b text) (KeptTask (generate begin count) (meter a) (meter b) shape terms start)
-        (asked-posts Says shape terms start (workload begin count) a b w.asked text says_left);
-    rests = λ e. never_both e;
-    ends = record {
-      left = w.asked.left;
-      asked = workload begin count;
-      are = refl;
-      answered = w.asked.answered;
-      text = text;
-      says = says_left;
-      posted = ap (λ p. longer p text) (ap (λ (x : BoardState). x.posted) w.asked.rest);
-      holds = w.asked.held;
-      sound = record { output = ap (λ (x : BoardState). x.out_faults) w.asked.rest; stop = w.asked.no_stop };
-      unworn = unworn_before;
-    };
-    used = λ e. absurd (done_unworn e);
-    input = record { input = ap (λ (x : BoardState). x.input) w.asked.rest; in_faults = ap (λ (x : BoardState). x.in_faults) w.asked.rest };
-  }
+  module _ (last : BoardState) where
+    pub told_summary : last ≡ after_post b text → Told (generate begin count) shape terms start a last Done
+    told_summary = word-posted (generate begin count) shape terms start (workload begin count) a b w.asked refl text says_left unworn_before (λ e. never_both e) (λ f q k. k) last
 
-  pub told_summary : (last : BoardState) → last ≡ after_post b text → Told (generate begin count) shape terms start a last Done
-  told_summary last is = let T : BoardState → Type 0 = λ x. Told (generate begin count) shape terms start a x Done in subst T (sym is) told_posted
-
-  -- the output failed
-  pub told_unposted : (last : BoardState) → PostFailed b last text → Told (generate begin count) shape terms start a last Output
-  told_unposted last failed =
-      let same : meter last ≡ meter b = ap meter failed.rest in
-      let G : Meter → Type 0 = λ t. Goes shape a last (KeptTask (generate begin count) (meter a) t shape terms start) in
-      let R : ℕ → Type 0 = λ n. Rose n last.out_faults in
-      record {
-        kept = subst G (sym same) (asked-post_failed Says shape terms start (workload begin count) a b w.asked text says_left last failed);
-        rests = λ e. never_both e;
-        ends = subst R (ap (λ (x : BoardState). x.out_faults) w.asked.rest) failed.faults;
-        used = λ e. absurd (output_unworn e);
-        input = record {
-          input = ap (λ (x : BoardState). x.input) failed.rest ∙ ap (λ (x : BoardState). x.input) w.asked.rest;
-          in_faults = ap (λ (x : BoardState). x.in_faults) failed.rest ∙ ap (λ (x : BoardState). x.in_faults) w.asked.rest;
-        };
-      }
+    -- the output failed
+    pub told_unposted : PostFailed b last text → Told (generate begin count) shape terms start a last Output
+    told_unposted = word-unposted (generate begin count) shape terms start (workload begin count) a b w.asked refl text says_left unworn_before (λ e. never_both e) (λ f q k. k) last

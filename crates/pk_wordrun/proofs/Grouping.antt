@@ -5,14 +5,15 @@ use Rattle.pk_base.{specs.Shape.Shape, specs.Page.Flash, specs.Entry.Entry, spec
 use Rattle.pk_nvme.{specs.Command.Command, specs.Reply.Reply}
 use Rattle.pk_nand.{specs.BoardState.BoardState, specs.Calls.Rose, specs.Effects.OnlyFlash, proofs.Effects.only_then}
 use Rattle.pk_model.{specs.Answer.reply, specs.Answer.map_after, specs.Crashes.CrashFinds, specs.Crashes.commit, specs.Crashes.command, specs.Growth.Reaches, specs.Growth.Goes, specs.Wear.roots}
-use Rattle.pk_model.{specs.Kept.Kept, specs.Kept.AtMost, specs.Kept.rise, specs.Reading.reading, specs.Reading.Holds, specs.Run.Exchange, specs.Run.commands, specs.Run.faults, specs.Run.records}
-use Rattle.pk_model.proofs.Growing.{weaken, weaken_went, at_end, Reaches-then, Goes-then, Limited, Reaches-limited, Goes-limited}
+use Rattle.pk_model.{specs.Kept.Kept, specs.Kept.AtMost, specs.Kept.rise, specs.Reading.reading, specs.Reading.Holds, specs.Run.Exchange, specs.Run.commands, specs.Run.faults}
+use Rattle.pk_model.proofs.Growing.{weaken, at_end, Reaches-then, Goes-then, Limited, Reaches-limited, Goes-limited}
 use Rattle.pk_model.specs.Spaces.{Terms, limits_at}
 use Rattle.pk_call.{specs.Sight.Sight, specs.Call.KeepsMap, specs.Call.CallReaches, specs.Call.CallGoes, specs.Drive.HoldsMap, specs.Exec.Executed, specs.Exec.ExecStands, specs.Exec.most_installs}
 use Rattle.pk_call.specs.Meter.{Meter, Metered, MeteredAll, meter, reads_after}
 use Rattle.pk_serve.{specs.Serving.StepWithin, proofs.Answering.reply_other, proofs.Answering.answers, proofs.Limiting.limits_on, proofs.Limiting.limits_held}
 use Rattle.pk_serve.proofs.Counting.{at_most-zero, at_most-more, at_most-one, commands-push, faults-one}
 use Rattle.pk_port.{specs.Asking.KeptSilently, specs.Asking.Asked, proofs.Growing.few_more, proofs.Growing.few_same, proofs.Growing.silent-more, proofs.Growing.asked-none}
+use Rattle.pk_wordrun.proofs.Keeping.{Kept-front, Goes-weaken}
 use Rattle.pk_wordrun.specs.Grouped.{exchange, Grouped, StoppedIn, KeepsGroup, AddsToGroup, StopsGroup}
 
 module _ (shape : Shape) (terms : Terms) (start : Map) (a b : BoardState) (drive : Sight) (all : List Exchange) (w : Grouped shape terms start a b drive all) where
@@ -25,33 +26,9 @@ module _ (shape : Shape) (terms : Terms) (start : Map) (a b : BoardState) (drive
 
   -- a flash that holds what this one holds, within the same limits
   kept_same : (f : Flash) → reading shape f [] ≡ reading shape b.pages [] → limits_at shape f ≡ limits_at shape b.pages → Kept shape terms start (commands all) now [] f
-  kept_same f e limited = let k = present.1 in record {
-    served = k.served;
-    unserved = k.unserved;
-    from_front = k.from_front;
-    map_left = k.map_left;
-    ran = k.ran;
-    held = e ∙ k.held;
-    same_limits = limited ∙ k.same_limits;
-    unposted = k.unposted;
-    begins = k.begins;
-    few_faults = k.few_faults;
-  }
-
-  -- a flash that holds all that was served
-  kept_all : (f : Flash) → reading shape f [] ≡ Ok w.left → limits_at shape f ≡ limits_at shape b.pages → Kept shape terms start (commands all) now [] f
-  kept_all f e limited = record {
-    served = all;
-    unserved = [];
-    from_front = append-nil (commands all);
-    map_left = w.left;
-    ran = w.ran;
-    held = e;
-    same_limits = limited ∙ w.stands.limits_is;
-    unposted = records 0 all;
-    begins = refl;
-    few_faults = w.few;
-  }
+  kept_same f e limited =
+      let k = present.1 in
+      Kept-front shape terms start (commands all) now f k.served k.unserved k.map_left k.from_front k.ran (e ∙ k.held) (limited ∙ k.same_limits) k.few_faults
 
   module _ (later : ℕ) (up : b.read_faults ≤ later) where
     abbrev bound : Option ℕ
@@ -64,24 +41,19 @@ module _ (shape : Shape) (terms : Terms) (start : Map) (a b : BoardState) (drive
     with_more : (more : List Command) (f : Flash) → Kept shape terms start (commands all) now [] f → Kept shape terms start (commands all ++ more) bound [] f
     with_more more f k = (silent-more shape terms start (commands all) more now bound (λ n h. at_most-more a.read_faults b.read_faults later n up h) f [] (refl, k)).1
 
+    -- a flash that holds all that was served
+    kept_all : (more : List Command) (f : Flash) → reading shape f [] ≡ Ok w.left → limits_at shape f ≡ limits_at shape b.pages → Kept shape terms start (commands all ++ more) bound [] f
+    kept_all more f e limited = Kept-front shape terms start (commands all ++ more) bound f all more w.left refl w.ran e (limited ∙ w.stands.limits_is) few_later
+
     -- a flash that holds the map after one more command
     kept_next : (c : Command) (f : Flash) → reading shape f [] ≡ Ok (map_after shape terms.limits w.left c) → limits_at shape f ≡ limits_at shape b.pages
         → Kept shape terms start (commands all ++ c ∷ []) bound [] f
     kept_next c f e limited =
         let x : Exchange = exchange c (reply shape terms w.left (replicate 11 0) c) 0 in
         let other : faults (x ∷ []) ≡ 0 = elim (faults-one x) [ inl good ↦ good.1 | inr bad ↦ absurd (reply_other shape terms w.left (replicate 11 0) c bad.0) ] in
-        record {
-          served = all ++ x ∷ [];
-          unserved = [];
-          from_front = append-nil (commands (all ++ x ∷ [])) ∙ commands-push all x;
-          map_left = map_after shape terms.limits w.left c;
-          ran = FoldsTo-push (StepWithin shape terms) start all w.left x (map_after shape terms.limits w.left c) w.ran (inl (answers shape terms w.left c), λ _. omega arith);
-          held = e;
-          same_limits = limited ∙ w.stands.limits_is;
-          unposted = records 0 (all ++ x ∷ []);
-          begins = refl;
-          few_faults = few_more bound all x 0 other (few_same bound all few_later);
-        }
+        Kept-front shape terms start (commands all ++ c ∷ []) bound f (all ++ x ∷ []) [] (map_after shape terms.limits w.left c) (append-nil (commands (all ++ x ∷ [])) ∙ commands-push all x)
+        (FoldsTo-push (StepWithin shape terms) start all w.left x (map_after shape terms.limits w.left c) w.ran (inl (answers shape terms w.left c), λ _. omega arith)) e
+        (limited ∙ w.stands.limits_is) (few_more bound all x 0 other (few_same bound all few_later))
 
     -- every cut of one more command
     command_cut : (c : Command) (f : Flash) (q : List ℕ) → Limited shape b (CrashFinds shape (command terms.limits c) b.pages w.left) f q
@@ -90,7 +62,7 @@ module _ (shape : Shape) (terms : Terms) (start : Map) (a b : BoardState) (drive
       ap (λ t. t ++ q) present.0 ∙ cut.0.0,
       elim cut.0.1 [
         | inl same ↦ with_more (c ∷ []) f (kept_same f same cut.1)
-        | inr more ↦ elim more [ inl held ↦ with_more (c ∷ []) f (kept_all f held cut.1) | inr next ↦ kept_next c f next cut.1 ]
+        | inr more ↦ elim more [ inl held ↦ kept_all (c ∷ []) f held cut.1 | inr next ↦ kept_next c f next cut.1 ]
       ],
     )
 
@@ -98,7 +70,7 @@ module _ (shape : Shape) (terms : Terms) (start : Map) (a b : BoardState) (drive
     commit_cut : (f : Flash) (q : List ℕ) → Limited shape b (CrashFinds shape commit b.pages w.left) f q → KeptSilently shape terms start (commands all ++ []) bound f (all_posted w.reached.0 ++ q)
     commit_cut f q cut = (
       ap (λ t. t ++ q) present.0 ∙ cut.0.0,
-      elim cut.0.1 [ inl same ↦ with_more [] f (kept_same f same cut.1) | inr held ↦ with_more [] f (kept_all f held cut.1) ],
+      elim cut.0.1 [ inl same ↦ with_more [] f (kept_same f same cut.1) | inr held ↦ kept_all [] f held cut.1 ],
     )
 
     -- what was kept so far, with more commands
@@ -251,21 +223,15 @@ module _ (b c : BoardState) (d : Sight) (rest : OnlyFlash b c) where
 -- ---- one command between two commits
 
 -- more commands were not served
+pub goes_more : (shape : Shape) (terms : Terms) (start : Map) (a c : BoardState) (cs more all : List Command) (n : Option ℕ) → cs ++ more ≡ all
+    → Goes shape a c (KeptSilently shape terms start cs n) → Goes shape a c (KeptSilently shape terms start all n)
+goes_more shape terms start a c cs more all n is went =
+    let G : List Command → Type 0 = λ l. Goes shape a c (KeptSilently shape terms start l n) in
+    subst G is (Goes-weaken shape a c (KeptSilently shape terms start cs n) (KeptSilently shape terms start (cs ++ more) n) (silent-more shape terms start cs more n n (λ k h. h)) went)
+
 pub stopped_weaker : (shape : Shape) (terms : Terms) (start : Map) (a c : BoardState) (cs more all : List Command)
     → cs ++ more ≡ all → StoppedIn shape terms start a c cs → StoppedIn shape terms start a c all
-stopped_weaker shape terms start a c cs more all is s =
-    let n = rise a.read_faults c.read_faults in
-    let S : List Command → Type 0 = λ l. StoppedIn shape terms start a c l in
-    subst S is (record {
-      kept = (
-        s.kept.0,
-        weaken_went s.kept.0 a c (KeptSilently shape terms start cs n)
-            (KeptSilently shape terms start (cs ++ more) n) (silent-more shape terms start cs more n n (λ k h. h)) s.kept.1,
-        s.kept.2,
-      );
-      stop = s.stop;
-      rest = s.rest;
-    })
+stopped_weaker shape terms start a c cs more all is s = record { kept = goes_more shape terms start a c cs more all (rise a.read_faults c.read_faults) is s.kept; stop = s.stop; rest = s.rest }
 
 -- it stopped before the command
 pub stops_before : (b c : BoardState) (d : Sight) (cmd : Command) → StopsGroup b c d [] → StopsGroup b c d (cmd ∷ [])

@@ -1,4 +1,5 @@
 mod Resting
+pub mod Keeping
 pub mod Telling
 mod Posting
 mod Piecing

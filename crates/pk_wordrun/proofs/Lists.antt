@@ -180,44 +180,45 @@ module _ (from : Option Key) (shape : Shape) (terms : Terms) (start : Map) (a b 
       ap key_lines (so_far.split ∙ ap (λ (ks : List Key). so_far.front ++ ks) e)
       ∙ (flat_map-append key_line so_far.front (page ++ left) ∙ ap (λ t. key_lines so_far.front ++ t) (flat_map-append key_line page left))
 
+  -- a prefix of the lines of the next keys
+  fronts_next : (next : ListPosition) (asked : BoardState) (text : List ℕ) → PieceAsked shape terms b asked place (Some next) text
+      → (out rest : List ℕ) → out ++ rest ≡ text → (f : Flash) → HeldHere shape terms.limits start f → FrontOf shape terms.limits start lines f (key_lines so_far.front ++ out)
+  fronts_next next asked text is out rest e f h =
+      let (page, split, spelled) = is.piece.lines (in_space 1 start) told in
+      let left : List ℕ = key_lines (keys_left next (in_space 1 start)) in (
+        h,
+        (
+          rest ++ left,
+          append_assoc (key_lines so_far.front) out (rest ++ left)
+              ∙ (ap (λ t. key_lines so_far.front ++ t) (sym (append_assoc out rest left) ∙ ap (λ t. t ++ left) (e ∙ spelled)) ∙ sym (pieces page (keys_left next (in_space 1 start)) split)),
+        ),
+      )
+
   pub saying_more : (asked : BoardState) (next : ListPosition) (text : List ℕ) → PieceAsked shape terms b asked place (Some next) text
       → (c : BoardState) → c ≡ after_post asked text → IsSaying from shape terms start a c next
-  saying_more asked next text is c posted = let T : BoardState → Type 0 = λ x. IsSaying from shape terms start a x next in subst T (sym posted) (goes_on (is.piece.lines (in_space 1 start) told))
-    where
-      goes_on : (page : List Key) × (keys_left place (in_space 1 start) ≡ page ++ keys_left next (in_space 1 start))
-          × (text ≡ key_lines page) → IsSaying from shape terms start a (after_post asked text) next
-      goes_on (page, split, spelled) =
-          let begins : (out rest : List ℕ) → out ++ rest ≡ text → (f : Flash) → HeldHere shape terms.limits start f → FrontOf shape terms.limits start lines f (key_lines so_far.front ++ out) =
-          λ out rest e f h. (
-            h,
-            (
-              rest ++ key_lines (keys_left next (in_space 1 start)),
-              append_assoc (key_lines so_far.front) out (rest ++ key_lines (keys_left next (in_space 1 start)))
-                  ∙ (ap (λ t. key_lines so_far.front ++ t)
-                  (sym (append_assoc out rest (key_lines (keys_left next (in_space 1 start)))) ∙ ap (λ t. t ++ key_lines (keys_left next (in_space 1 start))) (e ∙ spelled))
-                  ∙ sym (pieces page (keys_left next (in_space 1 start)) split)),
-            ),
-          ) in
-          record {
-            has = so_far.has;
-            holds = so_far.holds;
-            within = so_far.within;
-            reached = posts_more asked is.reads text (FrontOf shape terms.limits start lines) (λ f q h. h) begins;
-            front = so_far.front ++ page;
-            said = posted-append marks (post text ∷ []) ∙ (ap (λ t. t ++ (text ++ [])) so_far.said
-                ∙ (ap (λ t. key_lines so_far.front ++ t) (append-nil text ∙ spelled) ∙ sym (flat_map-append key_line so_far.front page)));
-            split = so_far.split ∙ (ap (λ (ks : List Key). so_far.front ++ ks) split ∙ sym (append_assoc so_far.front page (keys_left next (in_space 1 start))));
-            pages = ap (λ (s : BoardState). s.pages) is.reads ∙ so_far.pages;
-            rests = rests_on (after_post asked text) (rests-posted b asked (after_post asked text) text is.reads refl);
-            up = (let first = so_far.up in let second = is.up in omega (arith, first, second));
-            output = ap (λ (s : BoardState). s.out_faults) is.reads ∙ so_far.output;
-            stop = ap (λ (s : BoardState). s.stop_faults) is.reads ∙ so_far.stop;
-            input = ap (λ (s : BoardState). s.input) is.reads ∙ so_far.input;
-            in_faults = ap (λ (s : BoardState). s.in_faults) is.reads ∙ so_far.in_faults;
-            done = so_far.done ++ asked_at place ∷ [];
-            answered = answered_next asked (Some next) text is;
-            begun = inr are_next;
-          }
+  saying_more asked next text is c posted =
+      let T : BoardState → Type 0 = λ x. IsSaying from shape terms start a x next in
+      let (page, split, spelled) = is.piece.lines (in_space 1 start) told in
+      subst T (sym posted) (record {
+        has = so_far.has;
+        holds = so_far.holds;
+        within = so_far.within;
+        reached = posts_more asked is.reads text (FrontOf shape terms.limits start lines) (λ f q h. h) (fronts_next next asked text is);
+        front = so_far.front ++ page;
+        said = posted-append marks (post text ∷ []) ∙ (ap (λ t. t ++ (text ++ [])) so_far.said
+            ∙ (ap (λ t. key_lines so_far.front ++ t) (append-nil text ∙ spelled) ∙ sym (flat_map-append key_line so_far.front page)));
+        split = so_far.split ∙ (ap (λ (ks : List Key). so_far.front ++ ks) split ∙ sym (append_assoc so_far.front page (keys_left next (in_space 1 start))));
+        pages = ap (λ (s : BoardState). s.pages) is.reads ∙ so_far.pages;
+        rests = rests_on (after_post asked text) (rests-posted b asked (after_post asked text) text is.reads refl);
+        up = (let first = so_far.up in let second = is.up in omega (arith, first, second));
+        output = ap (λ (s : BoardState). s.out_faults) is.reads ∙ so_far.output;
+        stop = ap (λ (s : BoardState). s.stop_faults) is.reads ∙ so_far.stop;
+        input = ap (λ (s : BoardState). s.input) is.reads ∙ so_far.input;
+        in_faults = ap (λ (s : BoardState). s.in_faults) is.reads ∙ so_far.in_faults;
+        done = so_far.done ++ asked_at place ∷ [];
+        answered = answered_next asked (Some next) text is;
+        begun = inr are_next;
+      })
 
   -- ---- the end
 
@@ -308,25 +309,10 @@ module _ (from : Option Key) (shape : Shape) (terms : Terms) (start : Map) (a b 
         };
       }
 
-  -- a prefix of the lines of the next keys
-  begins_lines : (next : ListPosition) (asked : BoardState) (text : List ℕ) → PieceAsked shape terms b asked place (Some next) text → (x y : ℕ)
-      → (out rest : List ℕ) → out ++ rest ≡ text → (f : Flash) → HeldHere shape terms.limits start f → KeptList from x y shape terms start f (key_lines so_far.front ++ out)
-  begins_lines next asked text is x y out rest e f h =
-      let p = is.piece.lines (in_space 1 start) told in
-      all_lines x y f (key_lines so_far.front ++ out) (
-        h,
-        (
-          rest ++ key_lines (keys_left next (in_space 1 start)),
-          append_assoc (key_lines so_far.front) out (rest ++ key_lines (keys_left next (in_space 1 start)))
-              ∙ (ap (λ t. key_lines so_far.front ++ t)
-              (sym (append_assoc out rest (key_lines (keys_left next (in_space 1 start)))) ∙ ap (λ t. t ++ key_lines (keys_left next (in_space 1 start))) (e ∙ p.2))
-              ∙ sym (pieces p.0 (keys_left next (in_space 1 start)) p.1)),
-        ),
-      )
-
   ends_output : (c : BoardState) (asked : BoardState) (text : List ℕ) (next : Option ListPosition) → PieceAsked shape terms b asked place next text
       → PostFailed asked c text → Told (list from) shape terms start a c Output
-  ends_output c asked text (Some next) is failed = unposted asked text is.reads c failed (begins_lines next asked text is a.read_faults c.read_faults)
+  ends_output c asked text (Some next) is failed = unposted asked text is.reads c failed
+      (λ out rest e f h. all_lines a.read_faults c.read_faults f (key_lines so_far.front ++ out) (fronts_next next asked text is out rest e f h))
   ends_output c asked text None is failed =
       let same : c.read_faults ≡ asked.read_faults = ap (λ (s : BoardState). s.read_faults) failed.rest in
       unposted asked text is.reads c failed (begins_ending text a.read_faults c.read_faults (last_piece asked text is c.read_faults (omega (arith, same))))

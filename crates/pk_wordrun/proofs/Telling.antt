@@ -1,10 +1,10 @@
 -- A question that was answered, and what its answer makes of a board.
 use Rattle.std.proofs.Common.{◌≡◌, inl, inr, ℕ, List, [], ◌∷◌, Option, Some, refl, sym, ◌∙◌, ap, subst, true, false, arith}
-use Rattle.pk_base.{specs.Shape.Shape, specs.Map.Map}
+use Rattle.pk_base.{specs.Shape.Shape, specs.Map.Map, specs.Page.Flash}
 use Rattle.pk_nvme.specs.Command.{Command}
-use Rattle.pk_nand.{specs.BoardState.BoardState, specs.Calls.Rose, specs.Calls.longer, specs.Operations.after_post, specs.Operations.PostFailed, specs.Effects.OnlyFlash, proofs.Resting.Rests-same}
-use Rattle.pk_nand.proofs.Reaching.{Reached-start, Went-reached}
-use Rattle.pk_model.{specs.Growth.Goes, specs.Kept.rise, specs.Reading.Holds, specs.Run.Exchange, proofs.Growing.Goes-reaches}
+use Rattle.pk_nand.{specs.BoardState.BoardState, specs.Calls.Rose, specs.Calls.longer, specs.Operations.after_post, specs.Operations.PostFailed, specs.Effects.OnlyFlash, specs.Effects.OnlyReading}
+use Rattle.pk_nand.proofs.Resting.{Rests-same}
+use Rattle.pk_model.{specs.Growth.Goes, specs.Kept.rise, specs.Reading.Holds, specs.Run.Exchange, specs.Wear.is_worn, proofs.Growing.Goes-reaches}
 use Rattle.pk_model.specs.Spaces.{Terms, limits_at, limit_of, in_space}
 use Rattle.pk_call.specs.Meter.{Meter, meter}
 use Rattle.pk_serve.proofs.Counting.{at_most-zero}
@@ -13,8 +13,10 @@ use Rattle.pk_port.{specs.declared.halt.Halt.Halt, specs.declared.halt.Halt.TheV
 use Rattle.pk_port.proofs.Growing.{asked-none, asked-next, asked-stops, asked-posts, asked-post_failed, went-silent}
 use Rattle.pk_words.{specs.Question.Question, specs.Question.command_of, specs.Question.QuestionAnswers, specs.Said.Said, specs.Said.SaidOn}
 use Rattle.pk_host.specs.Port.{PortState}
-use Rattle.pk_wordrun.{specs.Ends.end_of, specs.Tasks.answer, specs.Tasks.SaysTask, specs.Tasks.KeptTask, specs.Told.Told, specs.Told.KeepsInput, specs.declared.end.WordEnd.WordEnd}
+use Rattle.pk_wordrun.{specs.Ends.end_of, specs.Tasks.Task, specs.Tasks.only_asks, specs.Tasks.answer, specs.Tasks.SaysTask, specs.Tasks.KeptTask, specs.Told.Told, specs.Told.AreOf}
+use Rattle.pk_wordrun.{specs.Told.has_command, specs.Told.KeepsInput, specs.declared.end.WordEnd.WordEnd}
 use Rattle.pk_wordrun.specs.declared.end.WordEnd.TheVariants.{Done, Output, Flash as FlashFailed, Worn}
+use Rattle.pk_wordrun.proofs.Keeping.{Kept-front, Goes-weaken, Goes-reading}
 use Rattle.pk_wordrun.proofs.Resting.{asked_looks, rests-reading, rests-posted, rests-unposted}
 
 pub some_same : (x y : Map) → ◌≡◌ {A = Option Map} (Some x) (Some y) → x ≡ y
@@ -38,25 +40,64 @@ keeps-flash a b only = record { input = ap (λ (s : BoardState). s.input) only; 
 -- no command was made
 pub kept-none : (Says : List Exchange → List ℕ → Map → Type 0) (shape : Shape) (terms : Terms) (start : Map) (cs : List Command) (from to : Meter) (a : BoardState)
     → Holds shape a.pages start → limits_at shape a.pages ≡ terms.limits → Goes shape a a (KeptWord Says shape terms start cs from to)
-kept-none Says shape terms start cs from to a holds within = (
-  [],
-  Went-reached [] a a (KeptWord Says shape terms start cs from to) (Reached-start a a (KeptWord Says shape terms start cs from to) refl refl refl refl (
-    record {
-      served = [];
-      unserved = cs;
-      from_front = refl;
-      map_left = start;
-      ran = refl;
-      held = holds;
-      same_limits = within;
-      unposted = [];
-      begins = refl;
-      few_faults = at_most-zero (rise from.read_faults to.read_faults);
-    },
-    inl refl,
-  )),
-  tt,
-)
+kept-none Says shape terms start cs from to a holds within = Goes-reading shape a a (KeptWord Says shape terms start cs from to) refl
+    (Kept-front shape terms start cs (rise from.read_faults to.read_faults) a.pages [] cs start refl refl holds within (at_most-zero (rise from.read_faults to.read_faults)), inl refl)
+
+-- ---- commands that were answered, and a text that is said of their answers
+
+module _ (task : Task) (shape : Shape) (terms : Terms) (start : Map) (cs : List Command) (a b : BoardState) (w : Asked shape terms start a b cs) (are : AreOf task shape cs) (text : List ℕ)
+    (says : SaysTask task a.read_faults b.read_faults shape terms start w.answered.all text w.left) (unworn : has_command task ≡ true → is_worn a ≡ false)
+    (looks : only_asks task ≡ true → OnlyReading a b)
+    (keeps : (f : Flash) (q : List ℕ) → KeptWord (SaysTask task a.read_faults b.read_faults shape terms start) shape terms start cs (meter a) (meter b) f q
+    → KeptTask task (meter a) (meter b) shape terms start f q) where
+  abbrev SaysOf : List Exchange → List ℕ → Map → Type 0
+  SaysOf = SaysTask task a.read_faults b.read_faults shape terms start
+
+  goes_on : (c : BoardState) → Goes shape a c (KeptWord SaysOf shape terms start cs (meter a) (meter b)) → Goes shape a c (KeptTask task (meter a) (meter b) shape terms start)
+  goes_on c went = Goes-weaken shape a c (KeptWord SaysOf shape terms start cs (meter a) (meter b)) (KeptTask task (meter a) (meter b) shape terms start) keeps went
+
+  -- the text went out
+  pub word-posted : (last : BoardState) → last ≡ after_post b text → Told task shape terms start a last Done
+  word-posted last is =
+      let T : BoardState → Type 0 = λ x. Told task shape terms start a x Done in
+      let posts = asked-posts SaysOf shape terms start cs a b w text says in
+      subst T (sym is) (record {
+        kept = goes_on (after_post b text) (Goes-reaches shape a (after_post b text) (KeptWord SaysOf shape terms start cs (meter a) (meter b)) posts);
+        rests = λ only. rests-posted a b (after_post b text) text (looks only) refl;
+        ends = record {
+          left = w.left;
+          asked = cs;
+          are = are;
+          answered = w.answered;
+          text = text;
+          says = says;
+          posted = ap (λ p. longer p text) (ap (λ (x : BoardState). x.posted) w.rest);
+          holds = w.held;
+          sound = record { output = ap (λ (x : BoardState). x.out_faults) w.rest; stop = w.no_stop };
+          unworn = unworn;
+        };
+        used = λ e. absurd (done_unworn e);
+        input = record { input = ap (λ (x : BoardState). x.input) w.rest; in_faults = ap (λ (x : BoardState). x.in_faults) w.rest };
+      })
+
+  -- the output failed
+  pub word-unposted : (last : BoardState) → PostFailed b last text → Told task shape terms start a last Output
+  word-unposted last failed =
+      let same : meter last ≡ meter b = ap meter failed.rest in
+      let G : Meter → Type 0 = λ t. Goes shape a last (KeptTask task (meter a) t shape terms start) in
+      let R : ℕ → Type 0 = λ n. Rose n last.out_faults in
+      record {
+        kept = subst G (sym same) (goes_on last (asked-post_failed SaysOf shape terms start cs a b w text says last failed));
+        rests = λ only. rests-unposted a b last text (looks only) failed;
+        ends = subst R (ap (λ (x : BoardState). x.out_faults) w.rest) failed.faults;
+        used = λ e. absurd (output_unworn e);
+        input = record {
+          input = ap (λ (x : BoardState). x.input) failed.rest ∙ ap (λ (x : BoardState). x.input) w.rest;
+          in_faults = ap (λ (x : BoardState). x.in_faults) failed.rest ∙ ap (λ (x : BoardState). x.in_faults) w.rest;
+        };
+      }
+
+-- ---- a question
 
 -- what was said over a port that keeps its shape, of the drive and the board when they are given back
 pub said_back : (q : Question) (shape one : Shape) (a b : Mounted) (last : PortState) (f g : ℕ) (text : List ℕ) → one ≡ shape → last ≡ seen shape b 0
@@ -91,53 +132,16 @@ module _ (q : Question) (shape : Shape) (start : Map) (old new : Mounted) (has :
       λ m. QuestionAnswers q (Rose old.board.read_faults new.board.read_faults) shape (limit_of old.terms.limits 1) old.terms.frames (in_space 1 start) text m in
       subst T same (subst F s.frames_is s.says)
 
-  module _ (x : Exchange) (s : Serves shape old new (command_of shape q) x) (text : List ℕ) (said : Said (QuestionAnswers q) (seen shape old 0) (seen shape new 0) text) where
+  module _ (x : Exchange) (s : Serves shape old new (command_of shape q) x) (text : List ℕ) (said : Said (QuestionAnswers q) (seen shape old 0) (seen shape new 0) text) (last : BoardState) where
     -- the text went out
-    told-posted : Told (answer q) shape old.terms start old.board (after_post new.board text) Done
-    told-posted =
-        let w = asked x s in
-        let says = says-left w text said in
-        record {
-          kept = Goes-reaches shape old.board (after_post new.board text) (KeptTask (answer q) (meter old.board) (meter new.board) shape old.terms start)
-              (asked-posts says_now shape old.terms start cs old.board new.board w text says);
-          rests = λ only. rests-posted old.board new.board (after_post new.board text) text (s.looks (asked_looks shape q only)) refl;
-          ends = record {
-            left = w.left;
-            asked = cs;
-            are = refl;
-            answered = w.answered;
-            text = text;
-            says = says;
-            posted = ap (λ p. longer p text) (ap (λ (b : BoardState). b.posted) s.rest);
-            holds = w.held;
-            sound = record { output = ap (λ (b : BoardState). b.out_faults) s.rest; stop = s.no_stop };
-            unworn = λ _. s.runs.unworn;
-          };
-          used = λ e. absurd (done_unworn e);
-          input = record { input = ap (λ (b : BoardState). b.input) s.rest; in_faults = ap (λ (b : BoardState). b.in_faults) s.rest };
-        }
-
-    pub told-done : (last : BoardState) → last ≡ after_post new.board text → Told (answer q) shape old.terms start old.board last Done
-    told-done last is = let T : BoardState → Type 0 = λ b. Told (answer q) shape old.terms start old.board b Done in subst T (sym is) told-posted
+    pub told-done : last ≡ after_post new.board text → Told (answer q) shape old.terms start old.board last Done
+    told-done = word-posted (answer q) shape old.terms start cs old.board new.board (asked x s) refl text (says-left (asked x s) text said)
+        (λ _. s.runs.unworn) (λ only. s.looks (asked_looks shape q only)) (λ f q k. k) last
 
     -- the output failed
-    pub told-output : (last : BoardState) → PostFailed new.board last text → Told (answer q) shape old.terms start old.board last Output
-    told-output last failed =
-        let w = asked x s in
-        let says = says-left w text said in
-        let same : meter last ≡ meter new.board = ap meter failed.rest in
-        let G : Meter → Type 0 = λ t. Goes shape old.board last (KeptTask (answer q) (meter old.board) t shape old.terms start) in
-        let R : ℕ → Type 0 = λ n. Rose n last.out_faults in
-        record {
-          kept = subst G (sym same) (asked-post_failed says_now shape old.terms start cs old.board new.board w text says last failed);
-          rests = λ only. rests-unposted old.board new.board last text (s.looks (asked_looks shape q only)) failed;
-          ends = subst R (ap (λ (b : BoardState). b.out_faults) s.rest) failed.faults;
-          used = λ e. absurd (output_unworn e);
-          input = record {
-            input = ap (λ (b : BoardState). b.input) failed.rest ∙ ap (λ (b : BoardState). b.input) s.rest;
-            in_faults = ap (λ (b : BoardState). b.in_faults) failed.rest ∙ ap (λ (b : BoardState). b.in_faults) s.rest;
-          };
-        }
+    pub told-output : PostFailed new.board last text → Told (answer q) shape old.terms start old.board last Output
+    told-output = word-unposted (answer q) shape old.terms start cs old.board new.board (asked x s) refl text (says-left (asked x s) text said)
+        (λ _. s.runs.unworn) (λ only. s.looks (asked_looks shape q only)) (λ f q k. k) last
 
   -- the command stopped the drive
   told-stopped : Stops shape old new (command_of shape q) → Told (answer q) shape old.terms start old.board new.board (end_of Stopped)

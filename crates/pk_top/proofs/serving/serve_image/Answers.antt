@@ -14,7 +14,7 @@ returns-in-Ok-open g c =
     RunServes-opened c.args.shape c.args.frames (g.B.Nand.state c.args.board.now) (g.B.Nand.state c.open.new.board) (g.B.Nand.state c.serve.new.board)
     (sight_of c.in-Ok-open.drive) c.of_end.result.0 c.serve.result
     c.in-Ok-open.ensures.reads c.in-Ok-open.ensures.stands c.in-Ok-open.ensures.none c.of_end.ensures
-    c.serve.ensures.blames c.serve.ensures.says c.serve.ensures.kept c.serve.ensures.kept_untold c.serve.ensures.served c.serve.ensures.causes c.serve.ensures.complete
+    (c.serve.ensures.blames, c.serve.ensures.says, c.serve.ensures.kept, c.serve.ensures.kept_untold, c.serve.ensures.served, c.serve.ensures.causes, c.serve.ensures.complete)
 
 pub returns : goal.returns
 returns g c =

@@ -1,8 +1,6 @@
-use Rattle.std.proofs.Common.{ℕ, Option, Some, None, refl, sym, subst, ◌∙◌}
+use Rattle.std.proofs.Common.{refl, sym, subst, ◌∙◌}
 use Rattle.pk_words.{specs.declared.listing.ListPosition.ListPosition, specs.Listing.IsOwnPlace}
-use Rattle.pk_wordrun.specs.Pieces.{PieceTold, PieceEnds}
 use Rattle.pk_wordrun.proofs.Lists.{own_start, own_next, IsSaying, saying_none, saying_more, saying_done, saying_ends}
-use Rattle.pk_model.specs.Spaces.{Terms}
 use Rattle.pk_port.{specs.Steps.mount, proofs.Serving.mounted_limits}
 use Rattle.pk_wordrun.proofs.list.tell_keys.Goals as goal
 
@@ -27,34 +25,17 @@ loop-next-preserved g c =
       c.in-Ok-Some.ensures.runs,
       c.in-Ok-Some.ensures.terms ∙ v.2,
       λ start holds.
-          let b = g.B.Nand.state c.loop-next.board in
-          let next = g.B.Nand.state c.tell_piece.new.board in
-          let T : Option ListPosition → Type 0 = λ o. PieceTold c.args.shape (mount (g.B.Nand.state c.loop-next.board) (g.D.Engine.sight c.loop-next.drive)).terms b next c.loop-next.place o in
-          let F : Terms → Type 0 = λ n. PieceTold c.args.shape n b next c.loop-next.place (Some c.in-Ok-Some.next) in
-          let t = subst F v.2 (subst T c.in-Ok-Some.field-0-is c.in-Ok-Some.ensures.told) in
-          saying_more c.args.from c.args.shape (mount (g.B.Nand.state c.args.board.now) (g.D.Engine.sight c.args.drive.now)).terms start
-          (g.B.Nand.state c.args.board.now) b c.loop-next.place (v.3 start holds)
-          t.asked c.in-Ok-Some.next t.text t.is next t.posted,
+          let t = rw v.2 at (rw c.in-Ok-Some.field-0-is at c.in-Ok-Some.ensures.told) in
+          saying_more _ _ _ _ _ _ _ (v.3 start holds) t.asked c.in-Ok-Some.next t.text t.is (g.B.Nand.state c.tell_piece.new.board) t.posted,
       own_next c.in-Ok-Some.field-0 c.in-Ok-Some.next c.in-Ok-Some.field-0-is c.in-Ok-Some.ensures.own,
     )
 
 pub returns-in-Ok-None : goal.returns-in-Ok-None
 returns-in-Ok-None g c = λ start holds.
     let v = c.loop-next.invariant in
-    let b = g.B.Nand.state c.loop-next.board in
-    let last = g.B.Nand.state c.tell_piece.new.board in
-    let T : Option ListPosition → Type 0 = λ o. PieceTold c.args.shape (mount (g.B.Nand.state c.loop-next.board) (g.D.Engine.sight c.loop-next.drive)).terms b last c.loop-next.place o in
-    let F : Terms → Type 0 = λ n. PieceTold c.args.shape n b last c.loop-next.place None in
-    saying_done c.args.from c.args.shape (mount (g.B.Nand.state c.args.board.now) (g.D.Engine.sight c.args.drive.now)).terms start
-    (g.B.Nand.state c.args.board.now) b c.loop-next.place (v.3 start holds)
-    last (subst F v.2 (subst T c.in-Ok-None.field-0-is c.in-Ok-None.ensures.told))
+    saying_done _ _ _ _ _ _ _ (v.3 start holds) (g.B.Nand.state c.tell_piece.new.board) (rw v.2 at (rw c.in-Ok-None.field-0-is at c.in-Ok-None.ensures.told))
 
 pub returns-in-Err : goal.returns-in-Err
 returns-in-Err g c = λ start holds.
     let v = c.loop-next.invariant in
-    let b = g.B.Nand.state c.loop-next.board in
-    let last = g.B.Nand.state c.tell_piece.new.board in
-    let F : Terms → Type 0 = λ n. PieceEnds c.args.shape n b last c.loop-next.place c.in-Err.end in
-    saying_ends c.args.from c.args.shape (mount (g.B.Nand.state c.args.board.now) (g.D.Engine.sight c.args.drive.now)).terms start
-    (g.B.Nand.state c.args.board.now) b c.loop-next.place (v.3 start holds)
-    last c.in-Err.end (subst F v.2 c.in-Err.ensures.ends)
+    saying_ends _ _ _ _ _ _ _ (v.3 start holds) (g.B.Nand.state c.tell_piece.new.board) c.in-Err.end (rw v.2 at c.in-Err.ensures.ends)

@@ -1,20 +1,15 @@
 use Rattle.std.proofs.Common.{arith}
 use Rattle.pk_wordrun.proofs.Generating.{unfinished_commit, generated_all}
-use Rattle.pk_port.specs.Steps.{mount}
 use Rattle.pk_wordrun.proofs.workload.serve_workload.Goals as goal
 
 pub returns-in-Ok-commit_group-clause-served : goal.returns-in-Ok-commit_group-clause-served
 returns-in-Ok-commit_group-clause-served g c = λ m holds.
     let k = c.in-Ok-commit_group.ensures in
-    generated_all c.args.start c.args.count c.args.shape.now (mount (g.B.Nand.state c.args.board.now) (g.D.Engine.sight c.args.drive.now)).terms m (g.B.Nand.state c.args.board.now)
-    (g.B.Nand.state c.serve_turns.new.board) (g.D.Engine.sight c.serve_turns.new.drive) c.in-Ok.summary (c.in-Ok.ensures.served m holds)
-    (g.B.Nand.state c.commit_group.new.board) (g.D.Engine.sight c.commit_group.new.drive) k.keeps k.none
+    generated_all _ _ _ _ _ _ _ _ _ (c.in-Ok.ensures.served m holds) (g.B.Nand.state c.commit_group.new.board) (g.D.Engine.sight c.commit_group.new.drive) k.keeps k.none
 
 pub returns-in-Err-commit_group-clause-fails : goal.returns-in-Err-commit_group-clause-fails
 returns-in-Err-commit_group-clause-fails g c = λ m holds.
-    unfinished_commit c.args.start c.args.count c.args.shape.now (mount (g.B.Nand.state c.args.board.now) (g.D.Engine.sight c.args.drive.now)).terms m (g.B.Nand.state c.args.board.now)
-    (g.B.Nand.state c.serve_turns.new.board) (g.D.Engine.sight c.serve_turns.new.drive) c.in-Ok.summary (c.in-Ok.ensures.served m holds)
-    c.args.count (g.B.Nand.state c.commit_group.new.board) (omega arith) c.in-Err-commit_group.ensures.stops
+    unfinished_commit _ _ _ _ _ _ _ _ _ (c.in-Ok.ensures.served m holds) c.args.count (g.B.Nand.state c.commit_group.new.board) (omega arith) c.in-Err-commit_group.ensures.stops
 
 pub serve_turns-requires-clause-running : goal.serve_turns-requires-clause-running
 serve_turns-requires-clause-running g c = record { agrees = (c.requires.fits.ready c.requires.runs).agreed; runs = c.requires.runs }
