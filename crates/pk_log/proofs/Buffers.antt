@@ -22,13 +22,7 @@ none_of_firsts (e ∷ es) none = let some = firsts_some e es in absurd (omega (a
 -- a buffer is empty exactly if its epoch is
 pub tells_some : (es : List Entry) (n : ℕ) → n ≡ length (firsts es) → (length es == 0) ≡ not (nat_lt 0 n)
 tells_some [] n is = rw is refl
-tells_some (e ∷ es) n is = both_some (length (e ∷ es)) n (omega arith) (let some = firsts_some e es in omega (arith, is, some))
-  where
-    both_some : (k n : ℕ) → 0 < k → 0 < n → (k == 0) ≡ not (nat_lt 0 n)
-    both_some k n more less =
-        let one : (k == 0) ≡ false = grind (arith, nat_tests) in
-        let two : nat_lt 0 n ≡ true = grind (arith, nat_tests) in
-        rw (one, two) refl
+tells_some (e ∷ es) n is = search (arith, firsts_some, nat_tests)
 
 -- ---- erased blocks
 

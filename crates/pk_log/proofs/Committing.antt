@@ -173,11 +173,7 @@ module _ (log : LogState) (board : BoardState) (top : ℕ × Root) (found : Foun
 
   -- the keys of the epoch with the pending entries
   have_room : length log.active.entries ≤ log.active.capacity → length (firsts (found.newest ++ log.pending)) ≤ buffer e.shape
-  have_room bound =
-      let capacity : log.active.capacity ≡ buffer log.shape = ap (λ (t : Table). t.capacity) logs.active_is in
-      let same : length log.active.entries ≡ length (firsts (found.newest ++ log.pending)) = ap (λ (t : Table). length t.entries) logs.active_is ∙ firsts-reverse (found.newest ++ log.pending) in
-      let fits : length (firsts (found.newest ++ log.pending)) ≤ buffer log.shape = omega (arith, bound, capacity, same) in
-      subst (λ (s : Shape). length (firsts (found.newest ++ log.pending)) ≤ buffer s) (sym logs.epoch_shape) fits
+  have_room bound = search (arith, firsts-reverse)
 
   -- they may follow those of the epoch
   may_commit : length log.active.entries ≤ log.active.capacity → may_follow e.shape (root_spaces shape top.1) found.newest log.pending ≡ true

@@ -27,9 +27,8 @@ behind_root : (k : ℕ) → 16 ≤ k → k < 1024 → page_at made k ≡ erased
 behind_root k low high = page_at-slice_set (replicate 1024 erased) 0 k (whole (root_bytes small first)) (λ is. omega (arith, low, is)) ∙ erased_at 1024 k high
 
 epoch_erased : AreErased small made (2 ∷ 3 ∷ [])
-epoch_erased zero small_n k low high = behind_root k (omega (arith, low)) (omega (arith, high))
-epoch_erased (suc zero) small_n k low high = behind_root k (omega (arith, low)) (omega (arith, high))
 epoch_erased (suc (suc n)) small_n k low high = absurd (omega (arith, small_n))
+epoch_erased _ small_n k low high = behind_root k (omega (arith, low)) (omega (arith, high))
 
 abbrev first_epoch : JournalEpoch
 first_epoch = started small 1 (2 ∷ 3 ∷ [])
@@ -37,16 +36,7 @@ first_epoch = started small 1 (2 ∷ 3 ∷ [])
 -- what `Log::new` and the calls after it require exists
 pub made_opens : ((flash : Flash) → AreErased small flash (2 ∷ 3 ∷ []) → EpochOnFlash first_epoch flash)
     → Opens (record { shape = small; root = first }) 0 first_epoch (no_entries small) (no_entries small) made nothing
-made_opens fits = record {
-  is_top = made_newest;
-  is_found = nothing_found;
-  epoch_shape = refl;
-  epoch_number = refl;
-  epoch_blocks = refl;
-  epoch_fits = fits made epoch_erased;
-  active_is = refl;
-  frozen_is = refl;
-}
+made_opens fits = search (made_newest, nothing_found, fits made epoch_erased)
 
 pub made_logs : IsShape small → ((flash : Flash) → AreErased small flash (2 ∷ 3 ∷ []) → EpochOnFlash first_epoch flash)
     → LogOnFlash (opened (record { shape = small; root = first }) 0 first_epoch (no_entries small) (no_entries small)) made (0, first) nothing

@@ -76,23 +76,7 @@ module _ (log : LogState) (pool : Blocks) (job : FreezeJob) (old : BoardState) (
   is_freezing =
       let logs = can.logs in
       let named_none : top.1.older ≡ [] = none_named log.shape (page_at old.pages) top.1 found logs.is_found none_older in
-      record {
-        pool_shape = can.pool_shape;
-        pool_fits = can.pool_fits;
-        installs = logs.installs;
-        whole = can.whole;
-        top_is = sym logs.root_is;
-        under = can.under;
-        none_older = none_older;
-        none_named = ap (λ (r : Root). r.older) logs.root_is ∙ named_none;
-        told = told;
-        number = can.number;
-        room = can.room;
-        owned = can.owned;
-        apart = can.apart;
-        taken = can.taken;
-        different = can.different;
-      }
+      search (sym logs.root_is, none_older, ap (λ (r : Root). r.older) logs.root_is ∙ named_none, told)
 
   -- ---- the freeze goes on
 
@@ -124,21 +108,21 @@ module _ (log : LogState) (pool : Blocks) (job : FreezeJob) (old : BoardState) (
 
     goes_on : LogGoesOn log pool job old top found m (record log { next = next' }) pool' job' new
     goes_on = record {
-      still = record {
-        logs = still_logs;
-        whole = by_held.whole;
-        none_pending = can.none_pending;
-        none_frozen = can.none_frozen;
-        under = by_held.under;
-        pool_shape = by_held.pool_shape;
-        pool_fits = by_held.pool_fits;
-        number = can.number;
-        room = by_held.room;
-        owned = by_held.owned;
-        apart = by_held.apart;
-        taken = by_held.taken;
-        different = by_held.different;
-      };
+      still = search (
+        still_logs,
+        by_held.whole,
+        can.none_pending,
+        can.none_frozen,
+        by_held.under,
+        by_held.pool_shape,
+        by_held.pool_fits,
+        can.number,
+        by_held.room,
+        by_held.owned,
+        by_held.apart,
+        by_held.taken,
+        by_held.different,
+      );
       same_log = refl;
       lowers = on.lowers;
       takes = on.takes;
@@ -158,9 +142,7 @@ module _ (log : LogState) (pool : Blocks) (job : FreezeJob) (old : BoardState) (
   module _ (middle : Blocks) (root' : Root) (next' : Next) (job' : FreezeJob) (new : BoardState)
       (done : FreezeInstalled pool held log.next job old has_entries top found m middle root' next' job' new) where
     newest_two : length log.root.newest ≡ 2
-    newest_two =
-        let blocks = blocks_of_root log.shape top.1 (valid_root log.shape (page_at old.pages) top can.logs.is_top) in
-        ap (λ (r : Root). length r.newest) can.logs.root_is ∙ blocks.two
+    newest_two = search (blocks_of_root, valid_root)
 
     -- what `retire_epoch` asks for
     pub former_owned : (former : List ℕ) → former ≡ two_of log.root.newest → AreOwned middle former
@@ -173,10 +155,7 @@ module _ (log : LogState) (pool : Blocks) (job : FreezeJob) (old : BoardState) (
         (given : pool' ≡ left_by Journal middle (if has_entries then [] else slice_index former 0 ∷ slice_index former 1 ∷ []))
         (fits : PoolOnFlash middle new.pages → PoolOnFlash pool' new.pages) where
       given_two : pool' ≡ left_by Journal pool (if has_entries then [] else slice_index (two_of log.root.newest) 0 ∷ slice_index (two_of log.root.newest) 1 ∷ [])
-      given_two =
-          let P : List ℕ → Type 0 = λ xs. pool' ≡ left_by Journal middle (if has_entries then [] else slice_index xs 0 ∷ slice_index xs 1 ∷ []) in
-          let Q : Blocks → Type 0 = λ p. pool' ≡ left_by Journal p (if has_entries then [] else slice_index (two_of log.root.newest) 0 ∷ slice_index (two_of log.root.newest) 1 ∷ []) in
-          subst Q done.same_pool (subst P told_by given)
+      given_two = search
 
       two_newest : slice_index (two_of log.root.newest) 0 ∷ slice_index (two_of log.root.newest) 1 ∷ [] ≡ log.root.newest
       two_newest = ap (λ xs. slice_index xs 0 ∷ slice_index xs 1 ∷ []) (two_same log.root.newest newest_two) ∙ two_are log.root.newest newest_two
@@ -222,24 +201,16 @@ module _ (log : LogState) (pool : Blocks) (job : FreezeJob) (old : BoardState) (
             let same : unready pool'.states ≡ unready pool.states = ap (λ (p : Blocks). unready p.states) given_two ∙ same_unready has_entries pool (two_of log.root.newest) done.former in
             let middle_same : unready middle.states ≡ unready pool.states = ap (λ (p : Blocks). unready p.states) done.same_pool in
             let L : ℕ → Type 0 = λ u. Lowers (freeze_left job log.next) (unready pool.states) 1 u in
-            record {
-              page = done.page;
-              first = done.first;
-              second = done.second;
-              begun_is = ap (λ (r : Root). freeze_begun log r next' blocks) done.root_is ∙ ap (λ bs. freeze_begun log (frozen_root top.1 found done.first done.second) next' bs) these;
-              logs = stands_begun;
-              under = done.under;
-              half = done.half;
-              taken_are = ap taken_by done.was;
-              idle = done.done;
-              pool_fits = fits done.pool_fits;
-              pool_is = pool_is;
-              apart = subst W bs_are done.apart;
-              lowers = subst L (middle_same ∙ sym same) done.lowers;
-              number = done.number;
-              behind = done.behind;
-              cuts = done.cuts;
-            }
+            search (
+              ap (λ (r : Root). freeze_begun log r next' blocks) done.root_is ∙ ap (λ bs. freeze_begun log (frozen_root top.1 found done.first done.second) next' bs) these,
+              stands_begun,
+              ap taken_by done.was,
+              done.done,
+              fits done.pool_fits,
+              pool_is,
+              subst W bs_are done.apart,
+              subst L (middle_same ∙ sym same) done.lowers,
+            )
 
         pub log_frozen : (log' : LogState) → log' ≡ freeze_begun log root' next' blocks → LogFrozen log pool job old top found m log' pool' job' new
         log_frozen log' is = let P : LogState → Type 0 = λ l. LogFrozen log pool job old top found m l pool' job' new in subst P (sym is) made

@@ -28,16 +28,7 @@ can_prepare log flash top found m may = record { installs = may.logs.installs; u
 pub log_prepared : (log : LogState) (old new : BoardState) (top : ℕ × Root) (found : Found) (m : Map) (next' : Next)
     → MayPrepare log old.pages top found m → IsPrepared log.shape old top found m next' new
     → LogPrepared log old top found m (record log { next = next' }) new
-log_prepared log old new top found m next' may is =
-    let logs = may.logs in
-    record {
-      same_log = refl;
-      programs = is.programs;
-      logs = stands_on log next' old.pages new.pages top found logs is.under.is_top is.under.is_found is.installs (epoch_behind log old.pages new.pages top found logs is.behind);
-      under = is.under;
-      behind = is.behind;
-      cuts = is.cuts;
-    }
+log_prepared log old new top found m next' may is = search (stands_on, epoch_behind, may.logs, old.pages, new.pages, is.under.is_top, is.under.is_found, is.installs)
 
 -- ---- the first program
 
@@ -47,14 +38,7 @@ spaced_alike shape old new es same all = ap (λ (limits : List ℕ). in_spaces (
 
 pub can_merge : (log : LogState) (flash : Flash) (top : ℕ × Root) (found : Found) (m : Map) (level count : ℕ) (taken : List ℕ) → MayMerge log flash top found m level count taken
     → CanMerge (record { shape = log.shape; root = log.root }) log.next flash top found m level count taken
-can_merge log flash top found m level count taken may = record {
-  installs = may.logs.installs;
-  top_is = sym may.logs.root_is;
-  under = may.under;
-  merged = may.merged;
-  few = may.few;
-  number = may.number;
-}
+can_merge log flash top found m level count taken may = search
 
 -- the frozen buffer holds what remains of the older epoch
 emptied : (one : Bool) (shape : Shape) (frozen : Table) (older : List Entry) → frozen ≡ buffer_of shape older
@@ -70,24 +54,13 @@ log_merged log old new top found m level count taken root' next' frozen' log' ma
     let there : LogMerged log old top found m level count taken (record log { root = root'; next = next'; frozen = frozen' }) new = record {
       page = is.page;
       merged_is = (λ i. record log { root = is.root_is i; next = next'; frozen = emptied_is i });
-      logs = record {
-        is_shape = logs.is_shape;
-        is_top = is.under.is_top;
-        root_is = refl;
-        is_found = is.under.is_found;
-        installs = is.installs;
-        epoch_shape = logs.epoch_shape;
-        epoch_number = logs.epoch_number ∙ sym (ap (λ (r : Root). r.epoch) is.root_is);
-        epoch_blocks = logs.epoch_blocks ∙ sym (ap (λ (r : Root). r.newest) is.root_is);
-        epoch_fits = epoch_behind log old.pages new.pages top found logs is.behind;
-        active_is = logs.active_is;
-        frozen_is = emptied_is ∙ emptied (level == 1) log.shape log.frozen found.older logs.frozen_is;
-        pending_are = logs.pending_are;
-        spaced = spaced_alike log.shape top.1 root' log.pending (ap (λ (r : Root). r.limits) is.root_is) logs.spaced;
-        pending_few = logs.pending_few;
-        pending_room = logs.pending_room;
-        pending_whole = logs.pending_whole;
-      };
+      logs = search (
+        logs.epoch_number ∙ sym (ap (λ (r : Root). r.epoch) is.root_is),
+        logs.epoch_blocks ∙ sym (ap (λ (r : Root). r.newest) is.root_is),
+        epoch_behind log old.pages new.pages top found logs is.behind,
+        emptied_is ∙ emptied (level == 1) log.shape log.frozen found.older logs.frozen_is,
+        spaced_alike log.shape top.1 root' log.pending (ap (λ (r : Root). r.limits) is.root_is) logs.spaced,
+      );
       under = is.under;
       half = is.half;
       number = is.number;
@@ -105,14 +78,4 @@ can_repeat log flash top found m may = record { installs = may.logs.installs; to
 pub log_finished : (log : LogState) (old new : BoardState) (top : ℕ × Root) (found : Found) (m : Map) (next' : Next)
     → MayFinish log old.pages top found m → IsRepeated log.shape old top found m next' new
     → LogFinished log old top found m (record log { next = next' }) new
-log_finished log old new top found m next' may is =
-    let logs = may.logs in
-    record {
-      same_log = refl;
-      whole = is.whole;
-      logs = stands_on log next' old.pages new.pages top found logs is.under.is_top is.under.is_found is.installs (epoch_behind log old.pages new.pages top found logs is.behind);
-      under = is.under;
-      number = is.number;
-      behind = is.behind;
-      cuts = is.cuts;
-    }
+log_finished log old new top found m next' may is = search (stands_on, epoch_behind, may.logs, old.pages, new.pages, is.under.is_top, is.under.is_found, is.installs)

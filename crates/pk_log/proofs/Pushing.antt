@@ -56,11 +56,7 @@ module _ (log : LogState) (e : Entry) (flash : Flash) (top : ℕ × Root) (found
 
   -- the keys of the epoch with the entry
   pub keys_fit : length (put key_cmp (key_of e) e.1 log.active.entries) ≤ log.active.capacity → length (firsts (found.newest ++ (log.pending ++ e ∷ []))) ≤ buffer log.shape
-  keys_fit bound =
-      let capacity : log.active.capacity ≡ buffer log.shape = ap (λ (t : Table). t.capacity) logs.active_is in
-      let same : length (put key_cmp (key_of e) e.1 log.active.entries) ≡ length (firsts (found.newest ++ (log.pending ++ e ∷ []))) = ap length entries_are
-      ∙ firsts-reverse (found.newest ++ (log.pending ++ e ∷ [])) in
-      omega (arith, bound, capacity, same)
+  keys_fit bound = search (arith, entries_are, firsts-reverse)
 
   -- the namespaces of the pending entries with it
   spaced_push : space_of (key_of e) ≤ root_spaces log.shape log.root → in_spaces (root_spaces log.shape top.1) (log.pending ++ e ∷ []) ≡ true
@@ -70,21 +66,4 @@ module _ (log : LogState) (e : Entry) (flash : Flash) (top : ℕ × Root) (found
 
   pub stands_pushed : needs_freeze log (key_of e) ≡ false → length log.pending < page_entries log.shape → log.epoch.half ≡ false → IsStorable log.shape e
       → space_of (key_of e) ≤ root_spaces log.shape log.root → LogOnFlash (pushed log e) flash top found
-  stands_pushed no_freeze few whole storable own = record {
-    is_shape = logs.is_shape;
-    is_top = logs.is_top;
-    root_is = logs.root_is;
-    is_found = logs.is_found;
-    installs = logs.installs;
-    epoch_shape = logs.epoch_shape;
-    epoch_number = logs.epoch_number;
-    epoch_blocks = logs.epoch_blocks;
-    epoch_fits = logs.epoch_fits;
-    active_is = λ i. record { capacity = (logs.active_is i).capacity; entries = entries_are i };
-    frozen_is = logs.frozen_is;
-    pending_are = all_push (IsStorable log.shape) log.pending e logs.pending_are storable;
-    spaced = spaced_push own;
-    pending_few = let more = length-push log.pending e in omega (arith, few, more);
-    pending_room = λ some. left_for_first log.pending (left_of log.epoch) (is_full_for log.active (key_of e)) no_freeze logs.pending_room;
-    pending_whole = λ some. whole;
-  }
+  stands_pushed no_freeze few whole storable own = search (arith, entries_are, all_push, spaced_push, length-push, left_for_first)

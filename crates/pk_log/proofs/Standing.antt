@@ -36,24 +36,7 @@ epoch_stays log old new top found logs same =
 pub stands_on : (log : LogState) (next' : Next) (old new : Flash) (top : ℕ × Root) (found : Found) → LogOnFlash log old top found
     → newest_root log.shape (page_at new) ≡ Some top → found_under log.shape (page_at new) top.1 ≡ Ok found → InstallerOnFlash log.shape next' top new
     → EpochOnFlash log.epoch new → LogOnFlash (record log { next = next' }) new top found
-stands_on log next' old new top found logs is_top is_found installs epoch_fits = record {
-  is_shape = logs.is_shape;
-  is_top = is_top;
-  root_is = logs.root_is;
-  is_found = is_found;
-  installs = installs;
-  epoch_shape = logs.epoch_shape;
-  epoch_number = logs.epoch_number;
-  epoch_blocks = logs.epoch_blocks;
-  epoch_fits = epoch_fits;
-  active_is = logs.active_is;
-  frozen_is = logs.frozen_is;
-  pending_are = logs.pending_are;
-  spaced = logs.spaced;
-  pending_few = logs.pending_few;
-  pending_room = logs.pending_room;
-  pending_whole = logs.pending_whole;
-}
+stands_on log next' old new top found logs is_top is_found installs epoch_fits = search
 
 -- ---- at opening
 
