@@ -95,12 +95,7 @@ goes_page shape key place (m ∷ moves) k (inr there) is = inr (goes_page shape 
 
 -- the pages of a value are in the block in which it begins
 one_block : (shape : Shape) (place : Place) (k : ℕ) → IsShape shape → IsPlace shape place → IsPageOf shape k place → k / shape.block_pages ≡ place.page / shape.block_pages
-one_block shape place k is_shape is here =
-    let n : ℕ = shape.block_pages in
-    let whole = div-add-mod' place.page n in
-    let inside = is.inside in
-    let k_is : place.page / n * n + (k - place.page / n * n) ≡ k = omega (arith, whole, here.0) in
-    ap (λ x. x / n) (sym k_is) ∙ div-mul-add (place.page / n) n (k - place.page / n * n) (omega (arith, whole, here.0, here.1, inside))
+one_block shape place k is_shape is here = search (arith, div-add-mod', div-mul-add, shape.block_pages, place.page, is.inside)
 
 -- ---- where the values lie
 
@@ -192,7 +187,4 @@ pub fit_one_page : FitOnePage
 fit_one_page shape moves is_shape few = let pages = no_fewer_pages shape moves is_shape in let fits = is_shape.moves_fit in omega (arith, pages, few, fits)
 
 pub leaves_room : LeavesRoom
-leaves_room shape is_shape =
-    let a = mul-div-le (3 * shape.block_pages) 4 in
-    let b = mul-div-le shape.block_pages 4 in
-    omega (arith, a, b)
+leaves_room shape is_shape = search (arith, mul-div-le, shape.block_pages)

@@ -183,18 +183,7 @@ moves_committed shape flash now top found m moves blocks index bytes is_shape un
 
 -- the pair of a page is in its block
 pair_in_block : (shape : Shape) (at k : ℕ) → IsShape shape → first_of_pair shape at ≤ k → k < first_of_pair shape at + 2 → k / shape.block_pages ≡ at / shape.block_pages
-pair_in_block shape at k is low high =
-    let n : ℕ = shape.block_pages in
-    let least : 8 ≤ n = is.block_least in
-    let eights : n % 8 ≡ 0 = is.eights in
-    let less : at % n < n = mod-lt at (omega (arith, least)) in
-    let whole : at / n * n + at % n ≡ at = div-add-mod' at n in
-    let d : ℕ = k - at / n * n in
-    let e : at / n * n + d ≡ k = omega (arith, low, whole) in
-    let small : d < n = omega (arith, low, high, whole, less, eights) in
-    ap (λ (q : ℕ). q / n) (sym e) ∙ div-mul-add (at / n) n d small
+pair_in_block shape at k is low high = search (arith, div-mul-add, shape.block_pages, is.block_least, is.eights)
 
 pub copies : Copies
-copies shape flash cut extra top found m at is_shape under behind unnamed no_value outside =
-    erases shape flash cut extra top found m (at / shape.block_pages) is_shape under behind unnamed no_value
-    (λ k other. outside_pair (first_of_pair shape at) flash cut outside k (λ low high. other (pair_in_block shape at k is_shape low high)))
+copies shape flash cut extra top found m at is_shape under behind unnamed no_value outside = search (erases, outside_pair, pair_in_block)
