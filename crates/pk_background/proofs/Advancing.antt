@@ -3,7 +3,8 @@ use Rattle.std.proofs.Common.{◌≡◌, inl, inr, ℕ, refl, sym, ap, subst, �
 use Rattle.std.{specs.Prelude.◌&&◌, specs.Prelude.◌==◌, specs.Prelude.not, specs.Prelude.map, specs.Prelude.slice_get, proofs.lemmas.Bool.eq-eqb, proofs.lemmas.Bool.eqb-true}
 use Rattle.pk_base.{specs.Shape.Shape, specs.Firsts.firsts, specs.Page.Flash, specs.Merge.next_merge, proofs.Logic.not_both}
 use Rattle.pk_rootfmt.specs.Root.{Root}
-use Rattle.pk_nand.{specs.BoardState.BoardState, specs.Calls.IsReady, specs.Effects.AtMostOneCall, specs.Effects.made_no_call, specs.Effects.made_erase, proofs.Effects.works_erase, proofs.Effects.stops_erase}
+use Rattle.pk_nand.{specs.BoardState.BoardState, specs.Calls.IsReady, specs.Effects.AtMostOneCall, specs.Effects.made_no_call, specs.Effects.made_erase, proofs.Effects.works_erase}
+use Rattle.pk_nand.{proofs.Effects.stops_erase}
 use Rattle.pk_law_work.proofs.Targets.{next_told}
 use Rattle.pk_pool.{specs.Blocks.PoolOnFlash, specs.Blocks.IsShared, specs.Blocks.IsOwned, specs.Taking.ErasesOne, specs.Taking.ErasesNone, specs.Taking.FailsToErase}
 use Rattle.pk_compact.specs.FreezeSteps.{taken_by}

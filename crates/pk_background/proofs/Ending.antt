@@ -17,7 +17,8 @@ use Rattle.pk_reclaim.specs.Steps.{MakesWhole, PairIn, RoomIn, RoomBehind, Repea
 use Rattle.pk_reclaim.specs.Steps as steps
 use Rattle.pk_parts.{specs.Parts.Parts, specs.Parts.commits_in, specs.Parts.block_if_open, specs.Parts.sight_of, specs.Moves.StandsBetween, specs.Moves.MayCommit}
 use Rattle.pk_parts.{specs.Agreeing.DriveOnFlashWith, specs.Agreeing.IsHalfCommit, specs.Staying.Stays, proofs.Halves.commit_of, proofs.Halves.with_whole, proofs.Standing.found_between}
-use Rattle.pk_background.{specs.Pairing.Finished, specs.Pairing.FinishesCommit, specs.Pairing.FinishesCommitOr, specs.Reclaiming.RunsOn, specs.Reclaiming.space_of, proofs.Finishing.HalfHere, proofs.Finishing.half_here, proofs.Finishing.on_own_shape}
+use Rattle.pk_background.{specs.Pairing.Finished, specs.Pairing.FinishesCommit, specs.Pairing.FinishesCommitOr, specs.Reclaiming.RunsOn, specs.Reclaiming.space_of, proofs.Finishing.HalfHere}
+use Rattle.pk_background.{proofs.Finishing.half_here, proofs.Finishing.on_own_shape}
 use Rattle.pk_background.proofs.Reclaimed.{over_space, space_stands, drive_moved, settles_then, leaves_index}
 use Rattle.pk_background.proofs.ReclaimWork.{worked_less}
 

@@ -38,7 +38,8 @@ pub record HalfHere (d : Parts) (flash : Flash) (m : Map) (Half : ℕ × Root �
   pub with : DriveOnFlashWith (settled_parts d) d.log.shape flash top found m m
   pub half : Half top found m
 
-pub half_here : (d : Parts) (flash : Flash) (m : Map) (Half : ℕ × Root → Found → Map → Type 0) (s : StandsBetween d d.log.shape flash m) → d.log.pending ≡ [] → Half s.top s.found s.without → HalfHere d flash m Half
+pub half_here : (d : Parts) (flash : Flash) (m : Map) (Half : ℕ × Root → Found → Map → Type 0) (s : StandsBetween d d.log.shape flash m)
+    → d.log.pending ≡ [] → Half s.top s.found s.without → HalfHere d flash m Half
 half_here d flash m Half s none half =
     let same = maps_same d d.log.shape flash m s none in
     record {
@@ -49,7 +50,8 @@ half_here d flash m Half s none half =
     }
 
 -- what holds on the drive's own shape holds on each one that it has
-pub on_own_shape : (d : Parts) (flash : Flash) (P : Shape → Map → Type 0) → ((m : Map) → StandsBetween d d.log.shape flash m → P d.log.shape m) → (shape : Shape) (m : Map) → StandsBetween d shape flash m → P shape m
+pub on_own_shape : (d : Parts) (flash : Flash) (P : Shape → Map → Type 0) → ((m : Map) → StandsBetween d d.log.shape flash m → P d.log.shape m)
+    → (shape : Shape) (m : Map) → StandsBetween d shape flash m → P shape m
 on_own_shape d flash P holds shape m stands = let Q : Shape → Type 0 = λ s. StandsBetween d s flash m → P s m in subst Q stands.with.shape_is (holds m) stands
 
 -- the pair of the root

@@ -1,5 +1,6 @@
 -- The second program of a pair, by what its step answered.
-use Rattle.std.{proofs.Common.◌≡◌, proofs.Common.refl, proofs.Common.sym, proofs.Common.subst, proofs.Common.Bool, proofs.Common.true, proofs.Common.false, proofs.Common.Result, proofs.Common.Ok, proofs.Common.Err, specs.Prelude.IsOk}
+use Rattle.std.{proofs.Common.◌≡◌, proofs.Common.refl, proofs.Common.sym, proofs.Common.subst, proofs.Common.Bool, proofs.Common.true, proofs.Common.false, proofs.Common.Result, proofs.Common.Ok}
+use Rattle.std.{proofs.Common.Err, specs.Prelude.IsOk}
 use Rattle.pk_nand.{specs.declared.types.Fault.Fault, specs.BoardState.BoardState}
 use Rattle.pk_root.specs.Installing.{repeats_next}
 use Rattle.pk_parts.{specs.Parts.Parts, specs.Parts.commits_in, proofs.Halves.not_made}

@@ -13,7 +13,8 @@ use Rattle.pk_schedule.{specs.declared.phase.Phase.Phase as MergePhase, specs.In
 use Rattle.pk_schedule.specs.declared.phase.Phase.TheVariants.{Idle as NoMerge}
 use Rattle.pk_parts.specs.Parts.{Parts, index_of, sight_of, counts_of, backlog_of, is_reclaim_due, reclaim_left, has_moves, may_freeze}
 use Rattle.pk_reclaim.{specs.Space.HasRoom as HasSpace, specs.Steps.RoomBehind}
-use Rattle.pk_background.{specs.Reclaiming.LeavesIndex, specs.Reclaiming.RunsOn, specs.Reclaiming.is_tight_for, specs.Reclaiming.space_of, proofs.Spacing.FallsTo, proofs.Spacing.and_true, proofs.Spacing.tight_same}
+use Rattle.pk_background.{specs.Reclaiming.LeavesIndex, specs.Reclaiming.RunsOn, specs.Reclaiming.is_tight_for, specs.Reclaiming.space_of, proofs.Spacing.FallsTo, proofs.Spacing.and_true}
+use Rattle.pk_background.{proofs.Spacing.tight_same}
 
 -- ---- whether a further reclaim is due
 

@@ -1,5 +1,6 @@
 -- What is said of an answer, from what else is said of it.
-use Rattle.std.{proofs.Common.◌≡◌, proofs.Common.◌⊎◌, proofs.Common.inl, proofs.Common.inr, proofs.Common.refl, proofs.Common.Bool, proofs.Common.true, proofs.Common.false, proofs.Common.Result, proofs.Common.Ok, proofs.Common.Err, specs.Prelude.◌||◌, specs.Prelude.IfOk, specs.Prelude.OnOk}
+use Rattle.std.{proofs.Common.◌≡◌, proofs.Common.◌⊎◌, proofs.Common.inl, proofs.Common.inr, proofs.Common.refl, proofs.Common.Bool, proofs.Common.true, proofs.Common.false, proofs.Common.Result}
+use Rattle.std.{proofs.Common.Ok, proofs.Common.Err, specs.Prelude.◌||◌, specs.Prelude.IfOk, specs.Prelude.OnOk}
 use Rattle.pk_base.proofs.Logic.{not_both}
 
 pub on_ok : {X Y : Type 0} (A : X → Type 0) (B : Type 0) (r : Result X Y) → ((x : X) → A x → B) → IfOk r A → OnOk r B

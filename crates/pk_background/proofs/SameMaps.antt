@@ -6,7 +6,8 @@ use Rattle.pk_model.{specs.Reading.reading, specs.Found.Found, specs.Growth.Reac
 use Rattle.pk_model.proofs.Growing.{Reaches-then, Goes-then, at_end, weaken, weaken_went}
 use Rattle.pk_law_steps.specs.Under.{places}
 use Rattle.pk_log.specs.State.{LogState}
-use Rattle.pk_parts.{specs.Parts.Parts, specs.Parts.is_half, specs.Moves.StandsFor, specs.Moves.MayStep, specs.Moves.Keeps, specs.Moves.KeepsAll, specs.Moves.KeepsAllBetween, specs.Moves.BreaksAll, specs.Moves.StandsBetween}
+use Rattle.pk_parts.{specs.Parts.Parts, specs.Parts.is_half, specs.Moves.StandsFor, specs.Moves.MayStep, specs.Moves.Keeps, specs.Moves.KeepsAll, specs.Moves.KeepsAllBetween, specs.Moves.BreaksAll}
+use Rattle.pk_parts.{specs.Moves.StandsBetween}
 use Rattle.pk_parts.{proofs.Keeping.cut_of_both, proofs.Keeping.board_has, proofs.Halves.stands as whole_stands, proofs.Standing.reads_as, proofs.Standing.reads_between, proofs.Staying.fresh_then}
 use Rattle.pk_background.{specs.Emptying.StepOrRead, specs.Emptying.KeepsOrReads, specs.Reclaiming.HoldsAll, specs.Reclaiming.FailsAll, specs.Reclaiming.CannotRead}
 use Rattle.pk_background.{specs.Pairing.FinishesHalf, specs.Pairing.FailsToFinish, specs.Spacing.SameMap, specs.Spacing.SameMapAll, specs.Spacing.MovesOrReads, specs.Spacing.StaysSame}
@@ -98,7 +99,8 @@ module _ (a b : Parts) (shape : Shape) (m : Map) (s0 s1 : BoardState) (ready : I
 
   pub then_broken : (s2 : BoardState) → FailsToFinish b s1 s2 → Goes shape s0 s2 (CrashFinds shape commit s0.pages m)
   then_broken s2 fails =
-      Goes-then shape cuts.0 s0 s1 (CrashFinds shape commit s0.pages m) (board_has a s0 shape m ready was) cuts.1 cuts.2 s2 (CrashFinds shape background s1.pages m) seen_half (fails.fails shape m stands)
+      Goes-then shape cuts.0 s0 s1 (CrashFinds shape commit s0.pages m) (board_has a s0 shape m ready was) cuts.1 cuts.2 s2 (CrashFinds shape background s1.pages m) seen_half
+      (fails.fails shape m stands)
 
 -- one of the background
 module _ (a b : Parts) (s0 s1 s2 : BoardState) (ready : IsReady s0 a.log.shape) (none : b.log.pending ≡ []) (holds : HoldsAll a b s0 s1) where

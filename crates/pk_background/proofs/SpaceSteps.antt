@@ -9,17 +9,16 @@ use Rattle.pk_nand.{specs.Calls.IsReady, specs.Calls.last_count, specs.Effects.A
 use Rattle.pk_model.specs.Wear.{roots}
 use Rattle.pk_law_work.{specs.Rest.whole_freeze, specs.Rest.whole_reclaim, specs.Work.emptying, specs.Calls.room_calls, specs.Calls.room_roots}
 use Rattle.pk_gc.{specs.declared.course.Phase.Phase, specs.declared.course.Course.Course, specs.State.steps_left, specs.Standing.held_blocks}
-use Rattle.pk_gc.specs.declared.course.Phase.TheVariants.{Idle, Copies}
+use Rattle.pk_gc.{specs.declared.course.Phase.TheVariants.Idle, specs.declared.course.Phase.TheVariants.Copies, specs.Stepping.runs_in}
 use Rattle.pk_gc.specs.declared.reclaimed.Reclaimed.TheVariants.{Worked, Ended}
-use Rattle.pk_gc.specs.Stepping.{runs_in}
 use Rattle.pk_background.{specs.Costs.Spends, specs.Pairing.FailsToFinish, specs.Pairing.FinishesCommit, specs.Pairing.FinishesCommitOr, specs.Pairing.CommitsOr, proofs.Inside.one_call}
-use Rattle.pk_background.{specs.Emptying.Came, specs.Emptying.KeepsOrReads, specs.Emptying.OnRunning, specs.Emptying.HasRoom, specs.Emptying.ReadsUpTo, proofs.Pairs.by_half, proofs.Results.either, proofs.Results.neither}
+use Rattle.pk_background.{specs.Emptying.Came, specs.Emptying.KeepsOrReads, specs.Emptying.OnRunning, specs.Emptying.HasRoom, specs.Emptying.ReadsUpTo, proofs.Pairs.by_half, proofs.Results.either}
+use Rattle.pk_background.{proofs.Results.neither}
 use Rattle.pk_background.specs.Reclaiming.{MayReclaim, Lessens, LeavesIndex, RunsOn, DoesReclaim, Waits, CannotRead, FailsReclaim, is_tight_for}
 use Rattle.pk_background.proofs.ReadSteps.{no_fault_then, halts_behind, reading_within, running_says, running_both, running_ends}
 use Rattle.pk_background.specs.Spacing.{MovesOrReads, SameMapAll, StaysSame, where_so, needs, has_moves, space_left, space_roots, Awaits, MaySpace, SpacesOnce}
 use Rattle.pk_background.proofs.Callings.{few_none, few_one, few_program, few_within, few_then, spends_still, spends_within}
-use Rattle.pk_background.proofs.SameMaps.{same_held, same_finished, breaks_finished, same_unread, breaks_failed, moves_kept, moves_later, moves_none, may_moved, passes_moved, stays_none}
-use Rattle.pk_background.proofs.SameMaps.{stays_both}
+use Rattle.pk_background.proofs.SameMaps.{same_held, same_finished, breaks_finished, same_unread, breaks_failed, moves_kept, moves_later, moves_none, may_moved, passes_moved, stays_none, stays_both}
 use Rattle.pk_background.proofs.Spacing.{left_at, roots_at, AwaitsAt, works_less, works_roots, ends_less, ends_roots}
 use Rattle.pk_root.specs.Installing.{repeats_next}
 use Rattle.pk_log.specs.State.{LogState}
@@ -176,7 +175,10 @@ module _ {count : ℕ} {b : Parts} {s0 : BoardState} (may : MaySpace count b s0)
               made = 2;
               some = omega arith;
               step = record {
-                came = (breaks_finished b c s0 s1 s2 may.may.ready none made.0.holds fails, halts_behind s0 s1 s2 sound (record { flash = fails.stops.flash; stop = fails.stops.stop; read = fails.stops.read }));
+                came = (
+                  breaks_finished b c s0 s1 s2 may.may.ready none made.0.holds fails,
+                  halts_behind s0 s1 s2 sound (record { flash = fails.stops.flash; stop = fails.stops.stop; read = fails.stops.read }),
+                );
                 rest = only_then s0 s1 s2 rest fails.stops.rest;
                 reads = reads_more 1 2 s0 s1 s2 (omega arith) (one_call s0 s1 reads calls) fails.stops.reads;
                 roots_few = omega (arith, fewer, same_roots);

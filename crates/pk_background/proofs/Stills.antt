@@ -85,7 +85,8 @@ module _ (shape : Shape) (root : Root) (found : Found) (pending : List Entry) (k
       still_program new made = Reaches-program shape old StillCut has page bytes (within (program page bytes) unread) (grows (program page bytes) unread) (limited (program page bytes) unread) new made
 
       pub still_program_failed : (new : BoardState) → ProgramFailed old new page bytes → Goes shape old new StillCut
-      still_program_failed new failed = Goes-program shape old StillCut has page bytes (within (program page bytes) unread) (grows (program page bytes) unread) (limited (program page bytes) unread) new failed
+      still_program_failed new failed =
+          Goes-program shape old StillCut has page bytes (within (program page bytes) unread) (grows (program page bytes) unread) (limited (program page bytes) unread) new failed
 
   -- the pages of a value, whole pairs
   module _ (old : BoardState) (has : old.shape ≡ Some shape) (so_far : SameStill old.pages) (key : Key) (page : ℕ) (value : List ℕ)

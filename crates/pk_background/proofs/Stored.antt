@@ -8,10 +8,11 @@ use Rattle.pk_law_work.{specs.Rest.whole_reclaim, specs.Calls.commit_calls, spec
 use Rattle.pk_law_steps.specs.Under.{places}
 use Rattle.pk_gc.{specs.declared.course.Phase.Phase, specs.Standing.held_blocks, specs.Standing.ReclaimStands, specs.Stepping.runs_in}
 use Rattle.pk_gc.specs.declared.course.Phase.TheVariants.{Idle, Copies, Commits, GivesBack}
-use Rattle.pk_background.{specs.Costs.Spends, specs.Costs.reclaim_calls, specs.Emptying.OnRunning, specs.Reclaiming.is_tight_for, proofs.Callings.spends_then, proofs.ReadSteps.reading_within, proofs.ReadSteps.running_says}
+use Rattle.pk_background.{specs.Costs.Spends, specs.Costs.reclaim_calls, specs.Emptying.OnRunning, specs.Reclaiming.is_tight_for, proofs.Callings.spends_then, proofs.ReadSteps.reading_within}
+use Rattle.pk_background.{proofs.ReadSteps.running_says}
 use Rattle.pk_background.specs.Spacing.{MovesOrReads, StaysSame, needs, steps_for, has_moves, space_left, MaySpace}
-use Rattle.pk_background.{proofs.Emptied.keeps_reads, proofs.Emptied.passes_keeps, proofs.SpaceSteps.values_stay, proofs.SpaceSteps.where_most, proofs.Steps.may_after}
 use Rattle.pk_background.proofs.SameMaps.{same_of, moves_later, moves_kept, stays_both}
+use Rattle.pk_background.{proofs.Emptied.keeps_reads, proofs.Emptied.passes_keeps, proofs.SpaceSteps.values_stay, proofs.SpaceSteps.where_most, proofs.Steps.may_after}
 use Rattle.pk_parts.{specs.Parts.Parts, specs.Parts.counts_of, specs.Moves.StandsFor, specs.Moves.MayStep, specs.Moves.StepKeeps, specs.Moves.LeavesValues, specs.Moves.StandsBetween}
 use Rattle.pk_parts.{proofs.Halves.counted_of, specs.Staying.Stays, proofs.Reclaiming.reclaim_within}
 

@@ -6,7 +6,8 @@ use Rattle.pk_nand.{specs.BoardState.BoardState, specs.BoardState.shape_or_none,
 use Rattle.pk_nand.specs.Effects.{AtMostOneCall, OneProgram, NoFault, OnlyFlash, OnlyReading, Stops}
 use Rattle.pk_model.{specs.Growth.Grows, specs.Growth.Reaches, specs.Growth.Goes, specs.Wear.roots, specs.Crashes.CrashFinds, specs.Crashes.background, specs.Reading.reading, specs.Spaces.limits_at}
 use Rattle.pk_model.proofs.Growing.{reached_limits}
-use Rattle.pk_call.{specs.Sight.IsIdle, specs.Drive.HoldsMap, specs.declared.types.Ticked.TheVariants.Worked, specs.declared.types.Ticked.TheVariants.Idle, specs.declared.types.Ticked.TheVariants.Fault}
+use Rattle.pk_call.{specs.Sight.IsIdle, specs.Drive.HoldsMap, specs.declared.types.Ticked.TheVariants.Worked, specs.declared.types.Ticked.TheVariants.Idle}
+use Rattle.pk_call.{specs.declared.types.Ticked.TheVariants.Fault}
 use Rattle.pk_parts.{specs.Parts.Parts, specs.Parts.drive_limits, specs.Parts.frames_of, specs.Parts.sight_of, specs.Parts.is_half, specs.Moves.StandsFor, specs.Moves.StandsBetween}
 use Rattle.pk_parts.{specs.Staying.StaysOrFrees, proofs.OwnLimits.limits_on, proofs.Unchanging.for_its_map, proofs.Unchanging.agrees_ready, proofs.Halves.stands as whole_stands}
 use Rattle.pk_background.proofs.ReadSteps.{read_cuts}

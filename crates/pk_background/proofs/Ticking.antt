@@ -160,7 +160,8 @@ module _ (d : Parts) (old new : BoardState) (a : DriveOnFlash d old.shape old.pa
         let less = erase_lowers d.log.shape (backlog_of d) (unready q.states) (omega (arith, less_left)) in
         omega (arith, same, less)
 
-    pub erase_holds : d.log.pending ≡ [] → ReclaimHolds after_it d.log.shape a.all old new × Grows d.log.shape old.pages new.pages × (roots new ≤ roots old + 1) × ((sight_of after_it).work < (sight_of d).work)
+    pub erase_holds : d.log.pending ≡ []
+        → ReclaimHolds after_it d.log.shape a.all old new × Grows d.log.shape old.pages new.pages × (roots new ≤ roots old + 1) × ((sight_of after_it).work < (sight_of d).work)
     erase_holds none =
         let then_whole = whole_like d after_it refl (λ none_left. subst NoneLeaves (sym marked) (none_leaves_set d.pool block Ready refl none_left)) refl refl whole in
         let tree = same_top d.log.shape a.top.1 a.found d.log.pending old.pages new.pages same in

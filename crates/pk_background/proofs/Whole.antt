@@ -11,9 +11,11 @@ use Rattle.pk_schedule.{specs.declared.phase.Stepped.Stepped, specs.declared.pha
 use Rattle.pk_schedule.specs.Steps.{FreezeMoves, Freezes, backlog_of}
 use Rattle.pk_gc.specs.State.{JobState}
 use Rattle.pk_parts.{specs.Parts.Parts, specs.Parts.frames_of, specs.Parts.index_of, specs.Parts.is_half, specs.Parts.commits_in, proofs.Staying.stays_then}
-use Rattle.pk_parts.{specs.Moves.StandsBetween, specs.Moves.MayCommit, specs.Moves.LeavesValues, specs.Moves.KeepsAll, specs.Moves.KeepsAllBetween, specs.Moves.BreaksAll, proofs.Keeping.KeepsAll-none, proofs.Keeping.keeps_whole}
+use Rattle.pk_parts.{specs.Moves.StandsBetween, specs.Moves.MayCommit, specs.Moves.LeavesValues, specs.Moves.KeepsAll, specs.Moves.KeepsAllBetween, specs.Moves.BreaksAll, proofs.Keeping.KeepsAll-none}
+use Rattle.pk_parts.{proofs.Keeping.keeps_whole}
 use Rattle.pk_background.specs.Emptying.{Came, ReadsUpTo, MayEmpty, MergesOnce, MergesWhole, FreezesOnce, FreezesWhole, merges_left, merges_due}
-use Rattle.pk_background.{proofs.Pairs.by_half, proofs.Pairs.or_fault, specs.Pairing.FinishesRootOr, specs.Pairing.FinishesRoot, specs.Pairing.FailsToFinish, specs.Pairing.SettlesOr, proofs.Callings.few_one, proofs.Callings.few_program, proofs.Callings.few_then}
+use Rattle.pk_background.{proofs.Pairs.by_half, proofs.Pairs.or_fault, specs.Pairing.FinishesRootOr, specs.Pairing.FinishesRoot, specs.Pairing.FailsToFinish, specs.Pairing.SettlesOr}
+use Rattle.pk_background.{proofs.Callings.few_one, proofs.Callings.few_program, proofs.Callings.few_then}
 use Rattle.pk_background.{proofs.ReadSteps.no_fault_then, proofs.ReadSteps.halts_behind, proofs.SameMaps.KeepsAll-finished, proofs.SameMaps.BreaksAll-finished, proofs.Steps.leaves_twice}
 
 worked_idle : {E : Type 0} → ◌≡◌ {A = Result Stepped E} (Ok Worked) (Ok Idle) → ⊥
@@ -139,7 +141,10 @@ module _ (a b : Parts) (s0 s1 : BoardState) (may : MayEmpty a s0) where
           made = 2;
           some = omega arith;
           step = record {
-            came = (BreaksAll-finished a b s0 s1 s2 may.may.ready once.none_pending once.step.came.0 fails, halts_behind s0 s1 s2 once.step.came.1 (record { flash = fails.stops.flash; stop = fails.stops.stop; read = fails.stops.read }));
+            came = (
+              BreaksAll-finished a b s0 s1 s2 may.may.ready once.none_pending once.step.came.0 fails,
+              halts_behind s0 s1 s2 once.step.came.1 (record { flash = fails.stops.flash; stop = fails.stops.stop; read = fails.stops.read }),
+            );
             rest = only_then s0 s1 s2 once.step.rest fails.stops.rest;
             reads = reads_same 1 s0 s1 s2 once.step.reads fails.stops.reads;
             roots_few = omega (arith, fewer, once.step.roots_few);

@@ -23,7 +23,8 @@ returns-in-Ok-clause-step g c =
 
 pub returns-in-Ok-clause-stays : goal.returns-in-Ok-clause-stays
 returns-in-Ok-clause-stays g c =
-    let e = c.in-Ok.ensures in stays_made c.reclaim_for.result c.args.parts.now _ c.reclaim_for.new.parts (leaves_committed c.args.parts.now c.commit_pending.new.self e.rest) e.moves c.reclaim_for.ensures.stays
+    let e = c.in-Ok.ensures in
+    stays_made c.reclaim_for.result c.args.parts.now _ c.reclaim_for.new.parts (leaves_committed c.args.parts.now c.commit_pending.new.self e.rest) e.moves c.reclaim_for.ensures.stays
 
 pub returns-in-Err-clause-step : goal.returns-in-Err-clause-step
 returns-in-Err-clause-step g c = space_not_made _ _ _ _ _ c.in-Err.ensures.step
