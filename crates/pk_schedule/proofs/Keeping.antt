@@ -283,23 +283,13 @@ module _ (log : LogState) (levels : Levels) (arena : Frames) (pool : Blocks) (fr
       → IndexOnFlash (index log levels arena pool (record { job = job; phase = Idle; freeze = NoFreeze })) frames flash top found
   idle_opens f job is pins_are =
       let none = idle_output job is in
-      record {
-        logs = f.logs;
-        pool_shape = f.pool_shape;
-        pool_fits = f.pool_fits;
-        levels_shape = f.levels_shape;
-        levels_pinned = f.levels_pinned;
-        stand = f.stand;
-        run_blocks = f.run_blocks;
-        arena_is = subst (λ (ls : List ℕ). HasArena log.shape frames levels arena ls) (sym (ap (λ (r : Kept). r.leases) none)) f.arena_is;
-        journal = f.journal;
-        journal_few = (let few = f.journal_few in omega (arith, few));
-        runs = f.runs;
-        runs_few = (let few = f.runs_few in let blocks : length (output_of job).blocks ≡ 0 = ap (λ (r : Kept). length r.blocks) none in omega (arith, few, blocks));
-        pins_are = pins_are;
-        merge = is;
-        freeze = record { taken = tt; different = refl; none_frozen = λ some. absurd (omega (arith, some)) };
-      }
+      let frames_are = subst (λ (ls : List ℕ). HasArena log.shape frames levels arena ls) (sym (ap (λ (r : Kept). r.leases) none)) f.arena_is in
+      let blocks : length (output_of job).blocks ≡ 0 = ap (λ (r : Kept). length r.blocks) none in
+      let journal_few : used_by Journal pool.states ≡ length (top.1.newest ++ top.1.older) + 0 = omega (arith, f.journal_few) in
+      let runs_few : used_by Meta pool.states ≡ length (concat top.1.runs) + length (output_of job).blocks = omega (arith, f.runs_few, blocks) in
+      let no_freeze : FreezeStands (index log levels arena pool (record { job = job; phase = Idle; freeze = NoFreeze })) flash top.1 =
+      record { taken = tt; different = refl; none_frozen = λ some. absurd (omega (arith, some)) } in
+      assumption (f, frames_are, journal_few, runs_few, pins_are, is, no_freeze)
 
   -- an index that was found matches with a schedule in which nothing runs
   pub index_opens : IsFound → (s : Schedule) → (s.phase ≡ Idle) × (s.freeze ≡ NoFreeze) × IsIdle log.shape s.job
