@@ -21,7 +21,7 @@ use Rattle.pk_merge.specs.Remaining.{IsWithin, steps_left}
 use Rattle.pk_merge.specs.Jobs.{Job, JobRuns, IsIdle, begun, pins, output_of, without}
 use Rattle.pk_compact.specs.FreezeSteps.{install_steps}
 use Rattle.pk_schedule.{specs.declared.phase.Phase.Phase, specs.declared.phase.Phase.TheVariants.Idle, specs.declared.phase.Phase.TheVariants.Running, specs.Sources.ShowsSame, proofs.Grown.got_in}
-use Rattle.pk_schedule.specs.Index.{Index, IndexOnFlash, IsDue, MergesInto, MergeRuns, MergeStands, referred, output, source_at, entries_at, IsSettled}
+use Rattle.pk_schedule.specs.Index.{Index, IndexOnFlash, AreHeld, IsDue, MergesInto, MergeRuns, MergeStands, referred, output, source_at, entries_at, IsSettled}
 use Rattle.pk_schedule.proofs.Entries.{output_same, frozen_many, frozen_rising, counts_same, run_stands, count_at, frozen_are, run_are}
 use Rattle.pk_schedule.proofs.Leveled.{Fit, run_fits, run_blocks_in, frames_left}
 use Rattle.pk_schedule.{specs.Steps.MayWork, specs.Steps.IndexMoves, specs.Steps.LessIsLeft, specs.Steps.merge_left, specs.Steps.backlog_of, proofs.Backlogs.installs_most}
@@ -230,16 +230,10 @@ module _ (x : Index) (frames : ℕ) (old : BoardState) (top : ℕ × Root) (foun
   out_shape = is_idle.merger
 
   into_then : MergesInto begun_index top.1 found level
-  into_then = record {
-    due = due;
-    target = refl;
-    has_output = refl;
-    output_shape = out_shape;
-    output_level = refl;
-    held = record { different = refl; owned = λ b is. absurd is; unnamed = λ b is named. is };
-    spares = ap (λ (ss : List (Option Kept)). without ss level) is_idle.spares;
-    merger_shape = is_idle.merger;
-  }
+  into_then =
+      let held : AreHeld x.pool top.1 Meta (output begun_index.schedule).blocks = record { different = refl; owned = λ b is. absurd is; unnamed = λ b is named. is } in
+      let spares = ap (λ (ss : List (Option Kept)). without ss level) is_idle.spares in
+      assumption (due, out_shape, is_idle, held, spares)
 
   undone : IsDone (source_at x level) (run_of x.levels level) job.merger → ⊥
   undone d = let some = source_some in let none = d.0.0 in omega (arith, some, none)

@@ -1,5 +1,5 @@
 -- The second program of a root, over an index.
-use Rattle.std.proofs.Common.{◌≡◌, ◌⊎◌, inl, inr, ℕ, ◌+◌, true, false, length, map, None, refl, sym, ap, subst, ◌∙◌, arith, Result, Ok, Err}
+use Rattle.std.proofs.Common.{◌≡◌, ◌⊎◌, inl, inr, ℕ, ◌+◌, true, false, refl, sym, ap, subst, ◌∙◌, arith, Result, Ok, Err}
 use Rattle.std.{specs.Prelude.OnOk, specs.Prelude.OnErr}
 use Rattle.pk_base.{specs.Shape.Shape, specs.Page.Flash, specs.Map.Map}
 use Rattle.pk_law_work.{specs.Steps.EndsPair, proofs.Lowering.pair_ends}
@@ -10,7 +10,7 @@ use Rattle.pk_rootfmt.specs.Root.{Root}
 use Rattle.pk_root.{specs.declared.next.Next.Next, specs.Installing.repeats_next}
 use Rattle.pk_pool.{specs.Blocks.Blocks, specs.Blocks.IsShared, specs.Blocks.freed, specs.Unready.unready}
 use Rattle.pk_pool.{proofs.Leaving.freed_unready, proofs.Leaving.shared_freed, proofs.Leaving.none_leaves}
-use Rattle.pk_level.{specs.Levels.Levels, specs.Arenas.unfilled}
+use Rattle.pk_level.{specs.Levels.Levels}
 use Rattle.pk_model.specs.Found.{Found}
 use Rattle.pk_compact.{specs.Steps.StepByCall}
 use Rattle.pk_log.{specs.State.LogState, specs.Finishing.MayFinish, specs.Finishing.LogFinished, specs.Finishing.LogFinishes, specs.Finishing.LogFinishBreaks}
@@ -40,16 +40,10 @@ module _ (x : Index) (frames : ℕ) (old : BoardState) (top : ℕ × Root) (foun
     stands_then = index_behind (settled x) frames old.pages top found may.stands free_shared new.pages f.behind next' may.half.no_freeze f.logs
 
     ended : backlog_of then_index ≡ record (backlog_of x) { half = false; unready = unready free.states }
-    ended = λ i. record {
-      frozen = length x.log.frozen.entries;
-      runs = map (λ r. r.count) x.levels.runs;
+    ended = λ i. record (backlog_of x) {
       merge = (no_merge x.schedule.phase then_index x may.half.no_merge) i;
       freeze = (no_freeze x.schedule.freeze next' may.half.no_freeze ∙ sym (no_freeze x.schedule.freeze x.log.next may.half.no_freeze)) i;
-      reclaim = None;
-      is_due = false;
-      may_freeze = false;
       half = f.whole i;
-      unfilled = unfilled x.levels (length x.arena.used);
       unready = unready free.states;
     }
       where

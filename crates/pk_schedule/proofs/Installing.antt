@@ -281,17 +281,9 @@ module _ (x : Index) (frames : ℕ) (old : BoardState) (top : ℕ × Root) (foun
       unfilled = unfilled levels' (length arena'.used);
       unready = unready left.states;
     }
-    over = λ i. record {
-      frozen = length (frozen_after level x.log.frozen).entries;
-      runs = map (λ (r : Kept). r.count) levels'.runs;
-      merge = None;
+    over = λ i. record (backlog_of then_index) {
       freeze = (no_freeze x.schedule.freeze log'.next none_taken ∙ sym (no_freeze x.schedule.freeze x.log.next none_taken)) i;
-      reclaim = None;
-      is_due = false;
-      may_freeze = false;
       half = ap repeats_next f.half.again i;
-      unfilled = unfilled levels' (length arena'.used);
-      unready = unready left.states;
     }
 
     pub installed_less : LessIsLeft x then_index

@@ -139,14 +139,8 @@ module _ (x : Index) (frames : ℕ) (old new : Flash) (top : ℕ × Root) (found
         let out : Kept = output x.schedule in
         let own : (k : ℕ) → AnyByRecursion (λ b. k / out.shape.block_pages ≡ b) out.blocks → page_at new k ≡ page_at old k =
         λ k is. meta_page k (m.into.held.owned (k / x.log.shape.block_pages) (subst (λ (s : Shape). AnyByRecursion (λ b. k / s.block_pages ≡ b) out.blocks) m.into.output_shape is)) in
-        record {
-          into = into_then level m.into;
-          whole = record {
-            stands = RunOnFlash-same out old new x.arena _ (subst (λ (s : Shape). 0 < s.block_pages) (sym m.into.output_shape) some_pages) own m.whole.stands;
-            blocks = m.whole.blocks;
-            pinned = m.whole.pinned;
-          };
-        }
+        let stand = RunOnFlash-same out old new x.arena _ (subst (λ (s : Shape). 0 < s.block_pages) (sym m.into.output_shape) some_pages) own m.whole.stands in
+        record { into = into_then level m.into; whole = assumption (m.whole, stand) }
 
     merge_then : (phase : Phase) → MergeStands phase x old top.1 found → MergeStands phase then new top.1 found_then
     merge_then Idle m = m
@@ -156,23 +150,13 @@ module _ (x : Index) (frames : ℕ) (old new : Flash) (top : ℕ × Root) (found
     -- with these blocks of the journal, and this freeze
     pub index_on : LogOnFlash log_then new top found_then → ((b : ℕ) → slice_get x.pool.states b ≡ Some (Owned Journal) → slice_get pool'.states b ≡ Some (Owned Journal))
         → used_by Journal pool'.states ≡ length (top.1.newest ++ top.1.older) + length (taken_by job) → FreezeStands then new top.1 → IndexOnFlash then frames new top found_then
-    index_on logs owned few freeze = record {
-      logs = logs;
-      pool_shape = e.shape ∙ stands.pool_shape;
-      pool_fits = e.fits;
-      levels_shape = stands.levels_shape;
-      levels_pinned = stands.levels_pinned;
-      stand = runs_stand;
-      run_blocks = stands.run_blocks;
-      arena_is = stands.arena_is;
-      journal = λ b is. owned b (stands.journal b is);
-      journal_few = few;
-      runs = λ b is. e.owned b (stands.runs b is);
-      runs_few = e.used ∙ stands.runs_few;
-      pins_are = stands.pins_are;
-      merge = merge_then x.schedule.phase stands.merge;
-      freeze = freeze;
-    }
+    index_on logs owned few freeze =
+        let shape_now = e.shape ∙ stands.pool_shape in
+        let journal : (b : ℕ) → AnyByRecursion (λ c. b ≡ c) (top.1.newest ++ top.1.older) → slice_get pool'.states b ≡ Some (Owned Journal) = λ b is. owned b (stands.journal b is) in
+        let runs : (b : ℕ) → AnyByRecursion (λ c. b ≡ c) (concat top.1.runs) → slice_get pool'.states b ≡ Some (Owned Meta) = λ b is. e.owned b (stands.runs b is) in
+        let runs_few = e.used ∙ stands.runs_few in
+        let merge = merge_then x.schedule.phase stands.merge in
+        assumption (stands, logs, few, freeze, e.fits, runs_stand, shape_now, journal, runs, runs_few, merge)
 
   -- the freeze is as far as it was
   module _ (j : KeepsTaken x.pool (taken_by x.schedule.freeze) old pool' new) (epoch : JournalEpoch) (active : Table) (pending newest : List Entry) where
@@ -299,23 +283,13 @@ module _ (log : LogState) (levels : Levels) (arena : Frames) (pool : Blocks) (fr
       → IndexOnFlash (index log levels arena pool (record { job = job; phase = Idle; freeze = NoFreeze })) frames flash top found
   idle_opens f job is pins_are =
       let none = idle_output job is in
-      record {
-        logs = f.logs;
-        pool_shape = f.pool_shape;
-        pool_fits = f.pool_fits;
-        levels_shape = f.levels_shape;
-        levels_pinned = f.levels_pinned;
-        stand = f.stand;
-        run_blocks = f.run_blocks;
-        arena_is = subst (λ (ls : List ℕ). HasArena log.shape frames levels arena ls) (sym (ap (λ (r : Kept). r.leases) none)) f.arena_is;
-        journal = f.journal;
-        journal_few = (let few = f.journal_few in omega (arith, few));
-        runs = f.runs;
-        runs_few = (let few = f.runs_few in let blocks : length (output_of job).blocks ≡ 0 = ap (λ (r : Kept). length r.blocks) none in omega (arith, few, blocks));
-        pins_are = pins_are;
-        merge = is;
-        freeze = record { taken = tt; different = refl; none_frozen = λ some. absurd (omega (arith, some)) };
-      }
+      let frames_are = subst (λ (ls : List ℕ). HasArena log.shape frames levels arena ls) (sym (ap (λ (r : Kept). r.leases) none)) f.arena_is in
+      let blocks : length (output_of job).blocks ≡ 0 = ap (λ (r : Kept). length r.blocks) none in
+      let journal_few : used_by Journal pool.states ≡ length (top.1.newest ++ top.1.older) + 0 = omega (arith, f.journal_few) in
+      let runs_few : used_by Meta pool.states ≡ length (concat top.1.runs) + length (output_of job).blocks = omega (arith, f.runs_few, blocks) in
+      let no_freeze : FreezeStands (index log levels arena pool (record { job = job; phase = Idle; freeze = NoFreeze })) flash top.1 =
+      record { taken = tt; different = refl; none_frozen = λ some. absurd (omega (arith, some)) } in
+      assumption (f, frames_are, journal_few, runs_few, pins_are, is, no_freeze)
 
   -- an index that was found matches with a schedule in which nothing runs
   pub index_opens : IsFound → (s : Schedule) → (s.phase ≡ Idle) × (s.freeze ≡ NoFreeze) × IsIdle log.shape s.job

@@ -1,5 +1,5 @@
 -- The erase before the root of a merge, over an index.
-use Rattle.std.proofs.Common.{◌≡◌, ℕ, ◌+◌, ◌/◌, ◌<◌, true, false, List, [], length, map, Some, None, refl, sym, ap, subst, ◌∙◌, arith, mul-le-mul_right}
+use Rattle.std.proofs.Common.{◌≡◌, ℕ, ◌+◌, ◌/◌, ◌<◌, true, false, List, [], length, Some, None, refl, sym, ap, subst, ◌∙◌, arith, mul-le-mul_right}
 use Rattle.std.{specs.Prelude.slice_get, specs.List.AllByRecursion}
 use Rattle.pk_base.{specs.Shape.Shape, specs.Merge.next_merge, specs.Page.Flash, specs.Page.page_at, specs.Page.SameBehind, specs.Map.Map, proofs.ShapeLemmas.block_pages_positive}
 use Rattle.pk_law_work.{specs.Rest.Lowers, specs.Rest.left_of, specs.Rest.whole_merge, specs.Steps.MovesMerge, proofs.Lowering.moves}
@@ -12,7 +12,7 @@ use Rattle.pk_model.{specs.Found.Found, specs.Laws.AnyByRecursion}
 use Rattle.pk_pool.{specs.declared.state.BlockState.TheVariants.Owned, specs.declared.state.BlockState.TheVariants.Ready as ReadyBlock, proofs.Fitting.PoolOnFlash-same, proofs.Sharing.behind_roots}
 use Rattle.pk_pool.{specs.Blocks.Blocks, specs.Blocks.IsShared, specs.Blocks.PoolOnFlash, proofs.States.ready_is_not_root, specs.Unready.unready}
 use Rattle.pk_run.specs.Kept.{Kept, RunOnFlash}
-use Rattle.pk_level.{specs.Levels.IsLevels, specs.Levels.RunsOnFlash, specs.Arenas.unfilled}
+use Rattle.pk_level.{specs.Levels.IsLevels, specs.Levels.RunsOnFlash}
 use Rattle.pk_law_steps.specs.Merging.{output_of as whole_output}
 use Rattle.pk_compact.{specs.FreezeSteps.IsTaken, specs.FreezeSteps.taken_by, specs.FreezeSteps.install_steps, specs.declared.freezing.FreezeJob.FreezeJob, proofs.NextRoot.programs_whole}
 use Rattle.pk_log.{specs.MergeSteps.LogPrepared, specs.Logs.LogOnFlash}
@@ -113,17 +113,10 @@ module _ (x : Index) (frames : ℕ) (old : BoardState) (top : ℕ × Root) (foun
     prepared_moves = whole_moves x frames old top found m may then_index new settles stands_on refl refl may.none_pending p.under values p.cuts
 
     moved : backlog_of then_index ≡ record (backlog_of x) { merge = Some (install_steps next') }
-    moved = λ i. record {
-      frozen = length x.log.frozen.entries;
-      runs = map (λ r. r.count) x.levels.runs;
+    moved = λ i. record (backlog_of x) {
       merge = ap (λ q. merge_left q then_index) is i;
       freeze = (no_freeze x.schedule.freeze next' none ∙ sym (no_freeze x.schedule.freeze x.log.next none)) i;
-      reclaim = None;
-      is_due = false;
-      may_freeze = false;
       half = (whole ∙ sym may.settles.whole) i;
-      unfilled = unfilled x.levels (length x.arena.used);
-      unready = unready x.pool.states;
     }
 
     pub prepared_less : LessIsLeft x then_index
