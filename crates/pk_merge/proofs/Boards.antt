@@ -1,5 +1,5 @@
 -- What a step does to a board apart from its pages.
-use Rattle.std.proofs.Common.{◌≡◌, ◌⊎◌, inl, inr, ℕ, List, [], ◌∷◌, slice_get, Option, Some, None, refl, sym, subst, Bool}
+use Rattle.std.proofs.Common.{◌≡◌, ◌⊎◌, inl, inr, ℕ, List, slice_get, Option, Some, None, refl, sym, subst, Bool}
 use Rattle.pk_base.specs.Entry.{Entry}
 use Rattle.pk_nand.{specs.BoardState.BoardState, specs.Calls.Rose, specs.Calls.ProgramFailed, specs.Calls.after_program, specs.declared.types.Fault.Fault}
 use Rattle.pk_nand.{specs.Operations.ReadFailed, specs.Operations.EraseFailed, specs.Operations.after_read, specs.Operations.after_erase, proofs.Effects.stops_erase, proofs.Effects.stops_program}
@@ -9,7 +9,7 @@ use Rattle.pk_pin.specs.Frames.{Frames}
 use Rattle.pk_pool.{specs.Blocks.Blocks, specs.Taking.TakesReady, specs.Taking.ErasesFree, specs.Taking.FailsToErase}
 use Rattle.pk_run.specs.Kept.{Kept, after_look, page_of}
 use Rattle.pk_merge.{specs.declared.source.Source.Source, specs.declared.source.Source.TheVariants.Frozen, specs.declared.source.Source.TheVariants.Run, specs.declared.next.Next.Next}
-use Rattle.pk_merge.specs.declared.next.Next.TheVariants.{LoadSource, LoadTarget, Gather, TakeBlock, Program, End}
+use Rattle.pk_merge.specs.declared.next.Next.TheVariants.{LoadSource, LoadTarget, TakeBlock, Program}
 use Rattle.pk_merge.{specs.Cursors.Cursor, specs.Cursors.own_page, specs.Sources.LookFails, specs.Sources.after_look_at, specs.Merging.Merger, specs.Outputs.FailsToProgram}
 use Rattle.pk_merge.specs.Steps.{Acts, Fails, FailsToRead}
 
@@ -53,10 +53,9 @@ pub acts_call : {X : Type 0} (source : Source X) (target : Kept) (pins : Bool) (
 acts_call source target pins out m pool old before LoadSource out' m' pool' new after (l, o, p, a) = called old (after_look_at source m.source old) new (looks_at source m.source old) l.board
 acts_call source target pins out m pool old before LoadTarget out' m' pool' new after (l, o, p, a) = called old
     (after_look (slice_get target.leases (own_page m.target)) old) new (looks (slice_get target.leases (own_page m.target)) old) l.board
-acts_call source target pins out m pool old before Gather out' m' pool' new after (n, e, o, p, a) = called old old new (nothing old) n
-acts_call source target pins out m pool old before End out' m' pool' new after (n, e, o, p, a) = called old old new (nothing old) n
 acts_call source target pins out m pool old before TakeBlock out' m' pool' new after (k, e, a, fits) = takes pool old k.block new k.choice
 acts_call source target pins out m pool old before Program out' m' pool' new after (k, e, p) = called old _ new (programs old _ _) k.program
+acts_call source target pins out m pool old before next out' m' pool' new after none = called old old new (nothing old) none.0
 
 -- ---- a call that failed
 
@@ -72,11 +71,7 @@ pub record ReadFails (old new : BoardState) : Type 0 where
   pub only : OnlyReading old new
 
 read_fails : (old new : BoardState) (at : ℕ) → ReadFailed old new at → ReadFails old new
-read_fails old new at f = record {
-  read = f.read;
-  flash = f.flash;
-  only = subst (λ (b : BoardState). OnlyReading old b) (sym f.rest) refl;
-}
+read_fails old new at f = search (subst (λ (b : BoardState). OnlyReading old b) (sym f.rest) refl)
 
 look_fails : {X : Type 0} (source : Source X) (m : Merger) (old new : BoardState) → LookFails source m.source old new → ReadFails old new
 look_fails (Frozen b) m old new f = absurd f

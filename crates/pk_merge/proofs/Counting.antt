@@ -6,14 +6,14 @@ use Rattle.pk_pin.specs.Frames.{Frames}
 use Rattle.pk_plan.specs.declared.owner.Owner.TheVariants.{Meta}
 use Rattle.pk_pool.{specs.declared.state.BlockState.TheVariants.Owned, specs.Blocks.Blocks, specs.Blocks.IsSpare, specs.Blocks.with_state, specs.Unready.unready}
 use Rattle.pk_pool.proofs.Counting.{taken_ready, taken_free}
-use Rattle.pk_run.specs.Kept.{Kept, IsKept, most_pages, most_blocks}
+use Rattle.pk_run.{specs.Kept.Kept, specs.Kept.IsKept, specs.Kept.most_pages, specs.Kept.most_blocks, proofs.Leasing.at_most_one}
 use Rattle.pk_law_work.specs.Rest.{Lowers}
 use Rattle.pk_merge.{specs.declared.source.Source.Source, specs.declared.source.Source.TheVariants.Frozen, specs.declared.source.Source.TheVariants.Run, specs.declared.next.Next.Next}
 use Rattle.pk_merge.specs.declared.next.Next.TheVariants.{LoadSource, LoadTarget, Gather, TakeBlock, Program, End}
-use Rattle.pk_merge.{specs.Cursors.Cursor, specs.Cursors.Follows, specs.Cursors.own_page, specs.Cursors.wants_page, specs.Sources.FollowsIn, specs.Sources.pages_in, specs.Sources.wants_page_in}
-use Rattle.pk_merge.{specs.Merging.Merger, specs.Merging.Tells, specs.Merging.can_gather, specs.Running.merged, specs.Running.Running, specs.Steps.Acts, proofs.Following.has_not_come}
 use Rattle.pk_merge.specs.Remaining.{steps_left, LowersTo, IsWithin}
 use Rattle.pk_merge.proofs.Needing.{page_to_come, block_to_come, pages_fit, blocks_fit}
+use Rattle.pk_merge.{specs.Cursors.Cursor, specs.Cursors.Follows, specs.Cursors.own_page, specs.Cursors.wants_page, specs.Sources.FollowsIn, specs.Sources.pages_in, specs.Sources.wants_page_in}
+use Rattle.pk_merge.{specs.Merging.Merger, specs.Merging.Tells, specs.Merging.can_gather, specs.Running.merged, specs.Running.Running, specs.Steps.Acts, proofs.Following.has_not_come}
 
 -- ---- blocks that are taken
 
@@ -56,19 +56,10 @@ fewer_5 a b c d = omega arith
 abbrev bit : Bool → ℕ
 bit x = if x then 1 else 0
 
-bit_none : (x : Bool) → x ≡ false → bit x ≡ 0
-bit_none x e = ap bit e
-
-bit_one : (x : Bool) → x ≡ true → bit x ≡ 1
-bit_one x e = ap bit e
-
 -- a page that the source's cursor wanted and has reached
 source_nearer : {X : Type 0} (source : Source X) (flash : Flash) (c d : Cursor) → wants_page_in source c ≡ true
     → FollowsIn source flash d → d.loaded ≡ suc (own_page c) → pages_in source - d.loaded < pages_in source - c.loaded
-source_nearer (Frozen x) flash c d wants f loaded = absurd (clash wants)
-  where
-    clash : false ≡ true → ⊥
-    clash e = cc
+source_nearer (Frozen x) flash c d wants f loaded = let no : false ≡ true = wants in cc
 source_nearer (Run r) flash c d wants f loaded = let pages = f.pages in let before = has_not_come c wants in omega (arith, pages, before, loaded)
 
 target_nearer : (target : Kept) (flash : Flash) (c d : Cursor) → wants_page c ≡ true → Follows flash target d
@@ -86,7 +77,7 @@ module _ {X : Type 0} (source : Source X) (target : Kept) (pins : Bool) (out : K
       → (pages blocks : ℕ) → steps_left source target out' m'' pages blocks
       ≡ sum (pages_in source - m'.source.loaded) (length target.firsts - m'.target.loaded) (pages - length out'.firsts) (blocks - length out'.blocks) 0
   settled out' m' m'' s t stuck pages blocks = λ i.
-      sum (pages_in source - s i) (length target.firsts - t i) (pages - length out'.firsts) (blocks - length out'.blocks) (bit_none (can_gather source target m'') stuck i)
+      sum (pages_in source - s i) (length target.firsts - t i) (pages - length out'.firsts) (blocks - length out'.blocks) (ap bit stuck i)
 
   pub fewer_steps : (next : Next) (out' : Kept) (m' m'' : Merger) (pool' : Blocks) (new : BoardState) (after : Frames)
       → Tells source target out m next → Acts source target pins out m pool old before next out' m' pool' new after
@@ -101,7 +92,7 @@ module _ {X : Type 0} (source : Source X) (target : Kept) (pins : Bool) (out : K
       let same : m'.source.loaded ≡ m.source.loaded = ap (λ (x : Merger). x.source.loaded) l.merger in
       inr (same_blocks _ _ pool pool' p (rw (settled out' m' m'' s u stuck pages blocks, o, same) (fewer_2 _ _ _ _ _ _ nearer)))
   fewer_steps Gather out' m' m'' pool' new after t (n, e, o, p, a) s u stuck pages blocks up vp =
-      let one = bit_one (can_gather source target m) t in
+      let one : bit (can_gather source target m) ≡ 1 = ap bit t in
       inr (same_blocks _ _ pool pool' p (rw (settled out' m' m'' s u stuck pages blocks, o, ap (λ (x : Merger). x.source.loaded) e, ap (λ (x : Merger). x.target.loaded) e, one) (fewer_5 _ _ _ _)))
   fewer_steps End out' m' m'' pool' new after t (n, e, o, p, a) s u stuck pages blocks up vp = inl t
   fewer_steps TakeBlock out' m' m'' pool' new after t (k, e, a, fits) s u stuck pages blocks up vp =
@@ -125,9 +116,5 @@ module _ {X : Type 0} (source : Source X) (target : Kept) (pins : Bool) (out : K
 
 -- ---- a whole merge
 
-bit_most : (x : Bool) → bit x ≤ 1
-bit_most true = omega arith
-bit_most false = omega arith
-
 pub within : {X : Type 0} (source : Source X) (target out : Kept) (m : Merger) → IsWithin source target out m
-within source target out m few fewer = let one = bit_most (can_gather source target m) in omega (arith, few, fewer, one)
+within source target out m few fewer = let one = at_most_one (can_gather source target m) in omega (arith, few, fewer, one)

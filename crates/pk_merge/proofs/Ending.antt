@@ -7,20 +7,15 @@ use Rattle.pk_merge.{specs.Jobs.all_spare, specs.Jobs.spare_of, specs.Jobs.witho
 -- a run that was taken out and put back
 one_back : (shape : Shape) (level : ℕ) → 1 ≤ level → level ≤ 4 → with_spare (without (all_spare shape) level) level (empty shape level) ≡ all_spare shape
 one_back shape zero least most = absurd (omega (arith, least))
-one_back shape (suc zero) least most = refl
-one_back shape (suc (suc zero)) least most = refl
-one_back shape (suc (suc (suc zero))) least most = refl
-one_back shape (suc (suc (suc (suc zero)))) least most = refl
 one_back shape (suc (suc (suc (suc (suc n))))) least most = absurd (omega (arith, most))
+one_back shape level least most = refl
 
 two_back : (shape : Shape) (level : ℕ) → 2 ≤ level → level ≤ 4
     → with_spare (with_spare (without (without (all_spare shape) level) (level - 1)) level (empty shape level)) (level - 1) (empty shape (level - 1)) ≡ all_spare shape
 two_back shape zero least most = absurd (omega (arith, least))
 two_back shape (suc zero) least most = absurd (omega (arith, least))
-two_back shape (suc (suc zero)) least most = refl
-two_back shape (suc (suc (suc zero))) least most = refl
-two_back shape (suc (suc (suc (suc zero)))) least most = refl
 two_back shape (suc (suc (suc (suc (suc n))))) least most = absurd (omega (arith, most))
+two_back shape level least most = refl
 
 spares_one : (shape : Shape) (spares : List (Option Kept)) (level : ℕ) (former : Kept) → spares ≡ all_spare shape → IsFormer shape level former → 1 ≤ level → level ≤ 4
     → with_spare (without spares level) former.level (empty former.shape former.level) ≡ all_spare shape
@@ -40,27 +35,17 @@ held_above shape spares level s least most = ap (λ (xs : List (Option Kept)). s
     there : (shape : Shape) (level : ℕ) → 2 ≤ level → level ≤ 4 → spare_of (without (all_spare shape) level) (level - 1) ≡ Some (empty shape (level - 1))
     there shape zero least most = absurd (omega (arith, least))
     there shape (suc zero) least most = absurd (omega (arith, least))
-    there shape (suc (suc zero)) least most = refl
-    there shape (suc (suc (suc zero))) least most = refl
-    there shape (suc (suc (suc (suc zero)))) least most = refl
     there shape (suc (suc (suc (suc (suc n))))) least most = absurd (omega (arith, most))
+    there shape level least most = refl
 
 pub idle_one : IdleBehindOne
 idle_one shape j zero out former m i of least most f = absurd (omega (arith, least))
-idle_one shape j (suc zero) out former m i of least most f = (refl, record { target = refl; output = refl; spares = spares_one shape j.spares 1 former i.spares f least most; merger = of })
-idle_one shape j (suc (suc zero)) out former m i of least most f = (refl, record { target = refl; output = refl; spares = spares_one shape j.spares 2 former i.spares f least most; merger = of })
-idle_one shape j (suc (suc (suc zero))) out former m i of least most f = (refl, record { target = refl; output = refl; spares = spares_one shape j.spares 3 former i.spares f least most; merger = of })
-idle_one shape j (suc (suc (suc (suc zero)))) out former m i of least most f =
-    (refl, record { target = refl; output = refl; spares = spares_one shape j.spares 4 former i.spares f least most; merger = of })
 idle_one shape j (suc (suc (suc (suc (suc n))))) out former m i of least most f = absurd (omega (arith, most))
+idle_one shape j level out former m i of least most f = (refl, record { target = refl; output = refl; spares = spares_one shape j.spares level former i.spares f least most; merger = of })
 
 pub idle_two : IdleBehindTwo
 idle_two shape j zero out former source m i of least most f g = absurd (omega (arith, least))
 idle_two shape j (suc zero) out former source m i of least most f g = absurd (omega (arith, least))
-idle_two shape j (suc (suc zero)) out former source m i of least most f g =
-    (held_above shape j.spares 2 i.spares least most, record { target = refl; output = refl; spares = spares_two shape j.spares 2 former source i.spares f g least most; merger = of })
-idle_two shape j (suc (suc (suc zero))) out former source m i of least most f g =
-    (held_above shape j.spares 3 i.spares least most, record { target = refl; output = refl; spares = spares_two shape j.spares 3 former source i.spares f g least most; merger = of })
-idle_two shape j (suc (suc (suc (suc zero)))) out former source m i of least most f g =
-    (held_above shape j.spares 4 i.spares least most, record { target = refl; output = refl; spares = spares_two shape j.spares 4 former source i.spares f g least most; merger = of })
 idle_two shape j (suc (suc (suc (suc (suc n))))) out former source m i of least most f g = absurd (omega (arith, most))
+idle_two shape j level out former source m i of least most f g =
+    (held_above shape j.spares level i.spares least most, record { target = refl; output = refl; spares = spares_two shape j.spares level former source i.spares f g least most; merger = of })

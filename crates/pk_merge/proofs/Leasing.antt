@@ -1,12 +1,12 @@
 -- The leases of an arena: what a step leaves of those of others.
-use Rattle.std.proofs.Common.{◌≡◌, ℕ, zero, suc, ◌≤◌, Bool, true, false, cond, List, [], ◌∷◌, ◌++◌, slice_get, get_or, Some, None, Option, refl, sym, ap, subst, ◌∙◌, arith}
+use Rattle.std.proofs.Common.{◌≡◌, ℕ, Bool, List, [], ◌∷◌, ◌++◌, Some, None, Option, sym, ap, subst, ◌∙◌, arith}
 use Rattle.pk_nand.specs.BoardState.{BoardState}
 use Rattle.pk_pin.specs.Frames.{Frames, AreLeases, leased, times, KeepsPage}
 use Rattle.pk_pin.proofs.Leases.{times-append, leases_taken, leases_filled}
 use Rattle.pk_pool.specs.Blocks.{Blocks}
 use Rattle.pk_run.specs.Kept.{Kept, with_lease}
 use Rattle.pk_merge.{specs.declared.source.Source.Source, specs.declared.next.Next.Next, specs.Merging.Merger, specs.Steps.Acts, specs.Elsewhere.LeavesLeases}
-use Rattle.pk_merge.specs.declared.next.Next.TheVariants.{LoadSource, LoadTarget, Gather, TakeBlock, Program, End}
+use Rattle.pk_merge.specs.declared.next.Next.TheVariants.{LoadSource, LoadTarget, TakeBlock, Program}
 
 -- the last lease may as well be the first
 turned : (i l : ℕ) (xs ys : List ℕ) → times i (xs ++ (ys ++ l ∷ [])) ≡ times i (l ∷ (xs ++ ys))
@@ -36,9 +36,8 @@ pub acts_lease : {X : Type 0} (source : Source X) (target : Kept) (pins : Bool) 
     → Acts source target pins out m pool old before next out' m' pool' new after → LeavesLeases out before out' after
 acts_lease source target pins out m pool old before LoadSource out' m' pool' new after (l, o, p, a) = kept_leases out out' before after (ap (λ (r : Kept). r.leases) o) a
 acts_lease source target pins out m pool old before LoadTarget out' m' pool' new after (l, o, p, a) = kept_leases out out' before after (ap (λ (r : Kept). r.leases) o) a
-acts_lease source target pins out m pool old before Gather out' m' pool' new after (n, e, o, p, a) = kept_leases out out' before after (ap (λ (r : Kept). r.leases) o) a
-acts_lease source target pins out m pool old before End out' m' pool' new after (n, e, o, p, a) = kept_leases out out' before after (ap (λ (r : Kept). r.leases) o) a
 acts_lease source target pins out m pool old before TakeBlock out' m' pool' new after (k, e, a, fits) = kept_leases out out' before after (ap (λ (r : Kept). r.leases) k.run_is) a
 acts_lease source target pins out m pool old before Program out' m' pool' new after (k, e, p) = λ others all.
     let own : out'.leases ≡ with_lease out.leases k.lease = ap (λ (r : Kept). r.leases) k.run_is in
     subst (λ (ls : List ℕ). AreLeases after (others ++ ls)) (sym own) (page_leases pins before after _ k.lease others out.leases k.frame all)
+acts_lease source target pins out m pool old before next out' m' pool' new after none = kept_leases out out' before after (ap (λ (r : Kept). r.leases) none.2) none.4

@@ -13,10 +13,7 @@ pub may_load_in : {X : Type 0} (source : Source X) (c : Cursor) (shape : Shape) 
     (arena : Frames) (es : List Entry) → IsReady board shape → IsOf shape source
     → Has source board.pages arena es → FollowsIn source board.pages c → c.place < count_of source
     → wants_page_in source c ≡ true → MayLoadIn source c board arena
-may_load_in (Frozen b) c shape board arena es ready of has follows exists wants = absurd (clash wants)
-  where
-    clash : false ≡ true → ⊥
-    clash e = cc
+may_load_in (Frozen b) c shape board arena es ready of has follows exists wants = absurd (let no : false ≡ true = wants in cc)
 may_load_in (Run r) c shape board arena es ready of has follows exists wants = record {
   ready = subst (IsReady board) (sym of) ready;
   entries = es;
@@ -31,17 +28,9 @@ pub loads_in : {X : Type 0} (source : Source X) (m : Merger) (old : BoardState) 
     (new : BoardState) → LoadsIn source m.source old c new
     → LoadsSource source m old (record m { source = c }) new
 loads_in (Frozen b) m old c new l = absurd l
-loads_in (Run r) m old c new l = record {
-  board = l.board;
-  merger = ap (λ (x : Cursor). record m { source = x }) l.cursor;
-  follows = l.follows;
-}
+loads_in (Run r) m old c new l = search (ap (λ (x : Cursor). record m { source = x }) l.cursor)
 
 -- and so that of its target
 pub loads_of : (target : Kept) (m : Merger) (old : BoardState) (c : Cursor) (new : BoardState)
     → Loads target m.target old c new → LoadsTarget target m old (record m { target = c }) new
-loads_of target m old c new l = record {
-  board = l.board;
-  merger = ap (λ (x : Cursor). record m { target = x }) l.cursor;
-  follows = l.follows;
-}
+loads_of target m old c new l = search (ap (λ (x : Cursor). record m { target = x }) l.cursor)

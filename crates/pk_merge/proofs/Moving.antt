@@ -1,19 +1,19 @@
 -- What a block that is taken, and a page that is programmed, leave of the runs that are merged.
-use Rattle.std.proofs.Common.{◌≡◌, ◌≢◌, ◌⊎◌, inl, inr, ℕ, zero, suc, ◌+◌, ◌-◌, ◌*◌, ◌/◌, ◌%◌, ◌<◌, ◌≤◌, refl, sym, ap, subst, ◌∙◌, arith, List, [], ◌∷◌, ◌++◌, length, slice_get, set, Some}
-use Rattle.std.proofs.Common.{length-append, div-lt_iff_lt-mul}
-use Rattle.std.{specs.Prelude.⊤, specs.Prelude.slice_index, proofs.Math.Nat.suc-mul, proofs.Math.ListN.get_or-append, proofs.lemmas.Bool.cases_lt}
+use Rattle.std.proofs.Common.{◌≡◌, ◌≢◌, inl, inr, ℕ, suc, ◌+◌, ◌-◌, ◌*◌, ◌/◌, ◌%◌, ◌<◌, ◌≤◌, refl, sym, ap, subst, ◌∙◌, arith, List, [], ◌∷◌, ◌++◌, length, slice_get, set, Some, length-append, mod-lt}
+use Rattle.std.proofs.Common.{div-add-mod'}
+use Rattle.std.{specs.Prelude.⊤, specs.Prelude.slice_index, proofs.Math.Nat.suc-mul, proofs.lemmas.Bool.cases_lt, proofs.lemmas.List.get_or_push}
 use Rattle.pk_base.{specs.Shape.Shape, specs.Shape.IsShape, specs.Entry.Entry, specs.Page.Flash, specs.Page.page_at, specs.Page.page_in, specs.Page.whole, specs.Page.erased, proofs.BlockLemmas.apart}
 use Rattle.pk_base.specs.Mark.{after_all, all_posted}
 use Rattle.pk_nand.{specs.BoardState.BoardState, specs.BoardState.shape_of, specs.Calls.after_program, specs.Operations.IsErasedBlock, proofs.CutLemmas.cut_end, proofs.Leaving.page_at-slice_set}
 use Rattle.pk_pin.specs.Frames.{Frames}
 use Rattle.pk_plan.specs.declared.owner.Owner.TheVariants.{Meta}
-use Rattle.pk_pool.specs.declared.state.BlockState.TheVariants.{Free, Ready, Owned}
+use Rattle.pk_pool.specs.declared.state.BlockState.TheVariants.{Owned}
 use Rattle.pk_pool.{specs.Blocks.Blocks, specs.Blocks.IsSpare, specs.Taking.ReachesIn, specs.Taking.SameButBlock}
-use Rattle.pk_run.{specs.Kept.Kept, specs.Kept.RunOnFlash, specs.Kept.page_of, specs.Laws.SamePages, proofs.Standing.RunOnFlash-elsewhere}
+use Rattle.pk_run.{specs.Kept.Kept, specs.Kept.RunOnFlash, specs.Kept.page_of, specs.Laws.SamePages, proofs.Standing.RunOnFlash-elsewhere, proofs.Standing.from_more, proofs.Standing.same_place}
 use Rattle.pk_merge.{specs.declared.source.Source.Source, specs.declared.source.Source.TheVariants.Frozen, specs.declared.source.Source.TheVariants.Run, specs.Merging.Merger, specs.Merging.StandsIn}
 use Rattle.pk_merge.{specs.Cursors.Cursor, specs.Cursors.Follows, specs.Cursors.own_page, specs.Sources.Has, specs.Sources.FollowsIn, specs.Sources.IsOf, specs.Sources.blocks_in}
 use Rattle.pk_merge.specs.Outputs.{AreMeta, BlocksApart, IsOutput, OthersStand, next_bytes}
-use Rattle.pk_merge.proofs.Places.{rest, block_there, page_of_place, other_page}
+use Rattle.pk_merge.proofs.Places.{block_there, block_of_page, page_of_place, other_page}
 
 -- a run's pages are the same, and it is as before
 abbrev pub Moves : Kept → Flash → Flash → Frames → Frames → Type 0
@@ -44,13 +44,39 @@ follows_moved (Run r) old new before after c moves f = Follows-moved r.now old n
 pub stands_moved : {X : Type 0} (source : Source X) (target : Kept) (old new : Flash) (before after : Frames) (es fs : List Entry) (m : Merger)
     → MovesIn source old new before after → Moves target old new before after
     → StandsIn source target old before es fs m → StandsIn source target new after es fs m
-stands_moved source target old new before after es fs m sources targets s = record {
-  has = has_moved source old new before after es sources s.has;
-  stands = targets.1 fs s.stands;
-  rising = s.rising;
-  source_at = follows_moved source old new before after m.source sources s.source_at;
-  target_at = Follows-moved target old new m.target targets.0 s.target_at;
-}
+stands_moved source target old new before after es fs m sources targets s =
+    search (
+      has_moved source old new before after es sources s.has,
+      targets.1 fs s.stands,
+      follows_moved source old new before after m.source sources s.source_at,
+      Follows-moved target old new m.target targets.0 s.target_at,
+    )
+
+-- ---- blocks for meta pages
+
+-- no page of them differs
+abbrev pub SameMeta : Blocks → Flash → Flash → Type 0
+SameMeta pool old new = (b k : ℕ) → slice_get pool.states b ≡ Some (Owned Meta) → k / pool.shape.block_pages ≡ b → page_at new k ≡ page_at old k
+
+module _ (pool : Blocks) (old new : Flash) (same : SameMeta pool old new) where
+  pub pages_same : (r : Kept) → IsShape r.shape → pool.shape ≡ r.shape → AreMeta pool r.blocks → (j : ℕ)
+      → j < length r.blocks * r.shape.block_pages → page_at new (page_of r j) ≡ page_at old (page_of r j)
+  pages_same r is shape meta j inside =
+      let least : 8 ≤ r.shape.block_pages = is.block_least in
+      let some : 0 < r.shape.block_pages = omega arith in
+      let b : ℕ = slice_index r.blocks (j / r.shape.block_pages) in
+      let own = meta (j / r.shape.block_pages) b (block_there r.shape some r.blocks j inside) in
+      same b (page_of r j) own (ap (λ (s : Shape). page_of r j / s.block_pages) shape ∙ block_of_page r.shape some r.blocks j)
+
+  pub moves : (r : Kept) (arena : Frames) (any : List Entry) → RunOnFlash r old arena any → IsShape r.shape → pool.shape ≡ r.shape → AreMeta pool r.blocks → Moves r old new arena arena
+  moves r arena any st is shape meta =
+      let pages : SamePages r old new = λ j h. pages_same r is shape meta j (let within = st.within in omega (arith, h, within)) in
+      (pages, λ es s. RunOnFlash-elsewhere r old new arena arena es pages (λ j lease got is_leased. (is_leased, refl)) s)
+
+  pub source_moves : {X : Type 0} (source : Source X) (arena : Frames) (es : List Entry) → Has source old arena es
+      → IsShape pool.shape → IsOf pool.shape source → AreMeta pool (blocks_in source) → MovesIn source old new arena arena
+  source_moves (Frozen x) arena es has is of meta = tt
+  source_moves (Run r) arena es has is of meta = moves r.now arena es has (subst IsShape (sym of) is) (sym of) meta
 
 -- ---- a block that is taken
 
@@ -60,63 +86,27 @@ same_but shape b old new r = subst (λ (f : Flash). SameButBlock shape b old.pag
 
 pub spare_is_none : (pool : Blocks) (b c : ℕ) → IsSpare pool b → slice_get pool.states c ≡ Some (Owned Meta) → c ≢ b
 spare_is_none pool b c spare own e = elim spare [
-  | inl free ↦ clash_free (sym free ∙ ap (slice_get pool.states) (sym e) ∙ own)
-  | inr ready ↦ clash_ready (sym ready ∙ ap (slice_get pool.states) (sym e) ∙ own)
+  | inl free ↦ let no = sym free ∙ ap (slice_get pool.states) (sym e) ∙ own in cc
+  | inr ready ↦ let no = sym ready ∙ ap (slice_get pool.states) (sym e) ∙ own in cc
 ]
-  where
-    clash_free : Some Free ≡ Some (Owned Meta) → ⊥
-    clash_free e = cc
-
-    clash_ready : Some Ready ≡ Some (Owned Meta) → ⊥
-    clash_ready e = cc
 
 -- a spare block is none of the blocks
 pub spare_apart : (pool : Blocks) (blocks : List ℕ) (b i : ℕ) → IsSpare pool b → AreMeta pool blocks → slice_get blocks i ≡ Some b → ⊥
 spare_apart pool blocks b i spare meta got = spare_is_none pool b b spare (meta i b got) refl
 
-outside_block : (shape : Shape) (some : 0 < shape.block_pages) (blocks : List ℕ) (b j : ℕ) → slice_index blocks (j / shape.block_pages) ≢ b
-    → (page_in shape blocks j < b * shape.block_pages) ⊎ (b * shape.block_pages + shape.block_pages ≤ page_in shape blocks j)
-outside_block shape some blocks b j ne =
-    let n : ℕ = shape.block_pages in
-    let c : ℕ = slice_index blocks (j / n) in
-    let low = rest shape some blocks j in
+-- no page differs of another block
+pub same_meta : (pool : Blocks) (b : ℕ) (old new : Flash) → IsShape pool.shape → IsSpare pool b → SameButBlock pool.shape b old new → SameMeta pool old new
+same_meta pool b old new is spare same c k own at =
+    let n : ℕ = pool.shape.block_pages in
+    let least : 8 ≤ n = is.block_least in
+    let ne = spare_is_none pool b c spare own in
+    let place : c * n + k % n ≡ k = ap (λ (q : ℕ). q * n + k % n) (sym at) ∙ div-add-mod' k n in
+    let some : 0 < n = omega (arith, least) in
+    let low = mod-lt k some in
     elim (cases_lt c b) [
-      | inl below ↦ inl (let e = apart c b n below in omega (arith, e, low))
-      | inr above ↦ inr (let e = apart b c n (omega (arith, above, ne)) in omega (arith, e))
+      | inl below ↦ same.below k (let e = apart c b n below in omega (arith, e, low, place))
+      | inr above ↦ same.above k (let e = apart b c n (omega (arith, above, ne)) in omega (arith, e, place))
     ]
-
-module _ (pool : Blocks) (b : ℕ) (old new : Flash) (spare : IsSpare pool b) (same : SameButBlock pool.shape b old new) where
-  pub pages_by_take : (r : Kept) → IsShape r.shape → pool.shape ≡ r.shape → AreMeta pool r.blocks → (j : ℕ)
-      → j < length r.blocks * r.shape.block_pages → page_at new (page_of r j) ≡ page_at old (page_of r j)
-  pages_by_take r is shape meta j inside =
-      let least : 8 ≤ r.shape.block_pages = is.block_least in
-      let some : 0 < r.shape.block_pages = omega arith in
-      let here = block_there r.shape some r.blocks j inside in
-      let s = subst (λ (x : Shape). SameButBlock x b old new) shape same in
-      elim (outside_block r.shape some r.blocks b j (spare_is_none pool b _ spare (meta (j / r.shape.block_pages) _ here))) [
-        | inl below ↦ s.below (page_of r j) below
-        | inr above ↦ s.above (page_of r j) above
-      ]
-
-  pub moves_by_take : (r : Kept) (arena : Frames) (any : List Entry) → RunOnFlash r old arena any → IsShape r.shape → pool.shape ≡ r.shape → AreMeta pool r.blocks → Moves r old new arena arena
-  moves_by_take r arena any st is shape meta =
-      let pages : SamePages r old new = λ j h. pages_by_take r is shape meta j (let within = st.within in omega (arith, h, within)) in
-      (pages, λ es s. RunOnFlash-elsewhere r old new arena arena es pages (λ j lease got is_leased. (is_leased, refl)) s)
-
-  pub source_by_take : {X : Type 0} (source : Source X) (arena : Frames) (es : List Entry) → Has source old arena es
-      → IsShape pool.shape → IsOf pool.shape source → AreMeta pool (blocks_in source) → MovesIn source old new arena arena
-  source_by_take (Frozen x) arena es has is of meta = tt
-  source_by_take (Run r) arena es has is of meta = moves_by_take r.now arena es has (subst IsShape (sym of) is) (sym of) meta
-
-pub from_more : (xs : List ℕ) (b i c : ℕ) → slice_get (xs ++ b ∷ []) i ≡ Some c → (slice_get xs i ≡ Some c) ⊎ ((i ≡ length xs) × (c ≡ b))
-from_more [] b zero c got = inr (refl, cc)
-from_more [] b (suc i) c got = cc
-from_more (x ∷ xs) b zero c got = inl got
-from_more (x ∷ xs) b (suc i) c got = elim (from_more xs b i c got) [ inl there ↦ inl there | inr last ↦ inr (ap suc last.0, last.1) ]
-
-index_last : (xs : List ℕ) (b : ℕ) → slice_index (xs ++ b ∷ []) (length xs) ≡ b
-index_last [] b = refl
-index_last (x ∷ xs) b = index_last xs b
 
 -- the output with a block that was taken
 pub output_with : (pool : Blocks) (out : Kept) (b : ℕ) (old new : Flash) → IsShape out.shape → pool.shape ≡ out.shape
@@ -138,7 +128,8 @@ output_with pool out b old new is shape spare exists same erased_all meta within
     | inr last ↦ rw (last.1, ← shape) exists
   ];
   unused = λ j past small. elim (cases_lt j (length out.blocks * n)) [
-    | inl before ↦ ap (page_at new) (same_page j before) ∙ pages_by_take pool b old new spare same out is shape meta j before ∙ o.unused j past before
+    | inl before ↦ ap (page_at new) (same_place out.shape out.blocks b j is before)
+        ∙ pages_same pool old new (same_meta pool b old new (subst IsShape (sym shape) is) spare same) out is shape meta j before ∙ o.unused j past before
     | inr behind ↦ last_erased j behind small
   ];
 }
@@ -148,9 +139,6 @@ output_with pool out b old new is shape spare exists same erased_all meta within
 
     some : 0 < out.shape.block_pages
     some = let least : 8 ≤ out.shape.block_pages = is.block_least in omega arith
-
-    same_page : (j : ℕ) → j < length out.blocks * out.shape.block_pages → page_in out.shape (out.blocks ++ b ∷ []) j ≡ page_in out.shape out.blocks j
-    same_page j h = ap (λ (k : ℕ). k * out.shape.block_pages + j % out.shape.block_pages) (get_or-append out.blocks (b ∷ []) 0 (j / out.shape.block_pages) ((div-lt_iff_lt-mul some).1 h))
 
     last_erased : (j : ℕ) → length out.blocks * out.shape.block_pages ≤ j
         → j < length (out.blocks ++ b ∷ []) * out.shape.block_pages → page_at new (page_in out.shape (out.blocks ++ b ∷ []) j) ≡ erased
@@ -162,7 +150,7 @@ output_with pool out b old new is shape spare exists same erased_all meta within
         let here : length out.blocks * out.shape.block_pages + r ≡ j = omega (arith, behind) in
         let page : page_in out.shape (out.blocks ++ b ∷ []) j ≡ b * out.shape.block_pages + r =
         ap (page_in out.shape (out.blocks ++ b ∷ [])) (sym here) ∙ page_of_place out.shape some (out.blocks ++ b ∷ []) (length out.blocks) r less
-        ∙ ap (λ (k : ℕ). k * out.shape.block_pages + r) (index_last out.blocks b) in
+        ∙ ap (λ (k : ℕ). k * out.shape.block_pages + r) (get_or_push out.blocks b 0 (length out.blocks) refl) in
         let e = subst (λ (x : Shape). IsErasedBlock x new b) shape erased_all in
         e (page_in out.shape (out.blocks ++ b ∷ []) j) (omega (arith, page)) (omega (arith, page, less))
 

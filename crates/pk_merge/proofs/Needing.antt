@@ -51,12 +51,6 @@ not_empty : (xs ys : List Entry) → 1 ≤ length xs → xs ++ ys ≡ [] → ⊥
 not_empty [] ys h e = omega (arith, h)
 not_empty (x ∷ xs) ys h e = cc
 
-pub row_assoc : (xs ys zs : List Entry) → (xs ++ ys) ++ zs ≡ xs ++ (ys ++ zs)
-row_assoc xs ys zs = simp append_assoc
-
-pub row_of : {X : Type 0} (xs ys zs : List X) → (xs ++ ys) ++ zs ≡ xs ++ (ys ++ zs)
-row_of xs ys zs = simp append_assoc
-
 -- ---- a merge with a next page
 
 -- the output has no more pages than its level, and no more blocks
@@ -124,7 +118,7 @@ module _ {X : Type 0} (source : Source X) (target out : Kept) (m : Merger) (flas
   pub next_rises : T (is_sorted key_cmp (g.entries ++ m.gathered))
   next_rises =
       sorted_left (g.entries ++ m.gathered) (left out.level es fs m)
-      (subst (λ (xs : List Entry). T (is_sorted key_cmp xs)) (g.makes ∙ sym (row_assoc g.entries m.gathered (left out.level es fs m))) (output_sorted out.level es fs))
+      (subst (λ (xs : List Entry). T (is_sorted key_cmp xs)) (g.makes ∙ sym (append_assoc g.entries m.gathered (left out.level es fs m))) (output_sorted out.level es fs))
 
   pub next_deepest : T (not (out.level == 4) || list_all (λ e. is_some e.1) m.gathered)
   next_deepest =

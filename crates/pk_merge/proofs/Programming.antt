@@ -45,16 +45,9 @@ alike pins r flash old new bytes (Some l) k pinned here =
 -- every page has a frame, or none has, after it too
 pub pinned_page : (pins : Bool) (r : Kept) (old new : Frames) (bytes : List ℕ) (first : Key) (lease : Option ℕ) (n : ℕ)
     → KeepsPage pins old new bytes lease → IsPinnedIf pins r → IsPinnedIf pins (with_page r first lease n)
-pinned_page true r old new bytes first None n k pinned = absurd (clash k.0)
-  where
-    clash : true ≡ false → ⊥
-    clash e = cc
 pinned_page true r old new bytes first (Some l) n k pinned = let a = length-append r.leases (l ∷ []) in let b = length-append r.firsts (first ∷ []) in omega (arith, a, b, pinned)
 pinned_page false r old new bytes first None n k pinned = pinned
-pinned_page false r old new bytes first (Some l) n k pinned = absurd (clash k.0)
-  where
-    clash : false ≡ true → ⊥
-    clash e = cc
+pinned_page pins r old new bytes first lease n k pinned = let no = k.0 in cc
 
 -- ---- a page
 

@@ -1,5 +1,5 @@
 -- Wherever a step is cut, no page differs that another may read; and after a read that failed the merge runs as before.
-use Rattle.std.proofs.Common.{◌≡◌, ◌≢◌, inl, inr, ◌+◌, ◌-◌, ◌*◌, ◌/◌, ◌%◌, ◌<◌, ◌≤◌, ℕ, refl, sym, ap, subst, ◌∙◌, arith, Bool, List, [], ◌∷◌, length, slice_get, Option, Some, None}
+use Rattle.std.proofs.Common.{◌≡◌, ◌≢◌, inl, inr, ◌+◌, ◌-◌, ◌*◌, ◌/◌, ◌%◌, ◌<◌, ◌≤◌, ℕ, refl, sym, ap, subst, ◌∙◌, arith, Bool, List, length, slice_get, Option, Some, None}
 use Rattle.std.{specs.Prelude.slice_index, proofs.lemmas.Nat.mod-mul-add}
 use Rattle.pk_base.{specs.Shape.Shape, specs.Shape.IsShape, specs.Entry.Entry, specs.Page.Flash}
 use Rattle.pk_nand.{specs.BoardState.BoardState, specs.Crash.Reached, specs.Crash.Went, specs.Pairs.first_of_pair, specs.Pairs.SameOutsidePair, specs.declared.types.Fault.TheVariants.Stopped}
@@ -7,10 +7,10 @@ use Rattle.pk_pin.specs.Frames.{Frames}
 use Rattle.pk_pool.{specs.Blocks.Blocks, specs.Taking.ReachesIn, specs.Taking.WentIn, specs.Taking.SameButBlock}
 use Rattle.pk_run.specs.Kept.{Kept, page_of, after_look}
 use Rattle.pk_merge.{specs.declared.source.Source.Source, specs.declared.source.Source.TheVariants.Frozen, specs.declared.source.Source.TheVariants.Run, specs.declared.next.Next.Next}
-use Rattle.pk_merge.specs.declared.next.Next.TheVariants.{LoadSource, LoadTarget, Gather, TakeBlock, Program, End}
+use Rattle.pk_merge.specs.declared.next.Next.TheVariants.{LoadSource, LoadTarget, TakeBlock, Program}
 use Rattle.pk_merge.{specs.Cursors.Cursor, specs.Cursors.Follows, specs.Cursors.own_page, specs.Sources.FollowsIn, specs.Sources.after_look_at, specs.Merging.Merger, specs.Merging.Tells}
 use Rattle.pk_merge.{specs.Running.Running, specs.Steps.Acts, specs.Steps.Fails, specs.Steps.FailsToRead, specs.Elsewhere.IsLook, specs.Elsewhere.StepReaches, specs.Elsewhere.StepWent}
-use Rattle.pk_merge.proofs.Places.{block_there, rest}
+use Rattle.pk_merge.{proofs.Places.block_there, proofs.Places.rest, proofs.Stepping.looked_on}
 
 -- ---- other pages
 
@@ -82,8 +82,6 @@ module _ {X : Type 0} (source : Source X) (target : Kept) (pins : Bool) (out : K
   acts_reach LoadSource out' m' pool' new after t (l, o, p, a) = inl (looked old (after_look_at source m.source old) new l.board (look_is_in source m.source old))
   acts_reach LoadTarget out' m' pool' new after t (l, o, p, a) =
       let lease = slice_get target.leases (own_page m.target) in inl (looked old (after_look lease old) new l.board (look_is lease old))
-  acts_reach Gather out' m' pool' new after t (e, o, p, q, a) = inl (inl e)
-  acts_reach End out' m' pool' new after t (e, o, p, q, a) = inl (inl e)
   acts_reach TakeBlock out' m' pool' new after t (k, e, a, fits) = inr (k.block, inl k.spare, subst (λ (s : Shape). ReachesIn s k.block old new) r.shapes.of_pool k.cuts)
   acts_reach Program out' m' pool' new after t (k, e, p) =
       inr (
@@ -91,6 +89,7 @@ module _ {X : Type 0} (source : Source X) (target : Kept) (pins : Bool) (out : K
         inr (length out.firsts / n, block_there out.shape some out.blocks (length out.firsts) (place t.1)),
         reached_wider out.shape b (page_of out (length out.firsts)) old new is low high k.cuts,
       )
+  acts_reach next out' m' pool' new after t none = inl (inl none.0)
 
   pub stops_in : (m' : Merger) (new : BoardState) → Fails source target out m pool old Stopped m' new → StepWent pool out old new
   stops_in m' new (inl erase) = (erase.block, inl (inl erase.lowest.here), subst (λ (s : Shape). WentIn s erase.block old new) r.shapes.of_pool erase.cuts)
@@ -103,26 +102,8 @@ module _ {X : Type 0} (source : Source X) (target : Kept) (pins : Bool) (out : K
   -- after a read that failed the merge runs as before
   pub reads_again : (m' : Merger) (new : BoardState) → FailsToRead source target m old m' new → Running source target pins out m' pool new.pages before es fs
   reads_again m' new f =
-      let c = r.merging.cursors in
       subst (λ (x : Flash). Running source target pins out m' pool x before es fs) (sym f.same)
-      (subst (λ (x : Merger). Running source target pins out x pool old.pages before es fs) (sym f.merger) (record {
-        lists = r.lists;
-        shapes = record { of_merger = r.shapes.of_merger; of_target = r.shapes.of_target; of_source = r.shapes.of_source; of_pool = r.shapes.of_pool; of_frames = r.shapes.of_frames };
-        merging = record {
-          cursors = record {
-            has = c.has;
-            stands = c.stands;
-            rising = c.rising;
-            source_at = subst (FollowsIn source old.pages) (ap (λ (x : Merger). x.source) f.merger) f.follows_source;
-            target_at = subst (Follows old.pages target) (ap (λ (x : Merger). x.target) f.merger) f.follows_target;
-          };
-          entries = r.merging.entries;
-          stands = r.merging.stands;
-          makes = r.merging.makes;
-          full = r.merging.full;
-          output = r.merging.output;
-          no_spare = r.merging.no_spare;
-        };
-        blocks = r.blocks;
-        frames = r.frames;
-      }))
+      (subst (λ (x : Merger). Running source target pins out x pool old.pages before es fs) (sym f.merger)
+      (looked_on source target pins out m pool old.pages before es fs r m.source.loaded m.target.loaded m'.source.bytes m'.target.bytes
+      (subst (FollowsIn source old.pages) (ap (λ (x : Merger). x.source) f.merger) f.follows_source)
+      (subst (Follows old.pages target) (ap (λ (x : Merger). x.target) f.merger) f.follows_target)))

@@ -25,13 +25,7 @@ starts source target pins shape level m pool flash arena es fs is own b = record
   lists = b.lists;
   shapes = record { of_merger = own.own; of_target = b.of_target; of_source = b.of_source; of_pool = b.of_pool; of_frames = b.of_frames };
   merging = record {
-    cursors = record {
-      has = b.has;
-      stands = b.stands;
-      rising = b.rising;
-      source_at = follows_start source flash m.source shape own.of_source b.of_source;
-      target_at = Follows-start flash target m.target (own.of_target ∙ sym b.of_target);
-    };
+    cursors = search (follows_start source flash m.source shape own.of_source b.of_source, Follows-start flash target m.target (own.of_target ∙ sym b.of_target));
     entries = [];
     stands = RunOnFlash-empty shape level flash arena is;
     makes = refl;

@@ -1,7 +1,7 @@
 -- Each action leaves a merge running.
 use Rattle.std.proofs.Common.{◌≡◌, inl, inr, ℕ, suc, ◌+◌, ◌*◌, ◌/◌, ◌<◌, ◌≤◌, refl, sym, ap, subst, ◌∙◌, arith, Bool, true, false, not, cond, if◌then◌else◌, ◌==◌, is_some, filter, List, [], ◌∷◌, ◌++◌}
-use Rattle.std.proofs.Common.{length, slice_get, set, Some, None, Option, length-append, append-nil, suc-mul}
-use Rattle.std.{specs.Prelude.slice_index, proofs.lemmas.List.Sums.sum_by-set, proofs.lemmas.Option.slice_get_within, proofs.lemmas.Option.get_or_from_slice_get}
+use Rattle.std.proofs.Common.{length, slice_get, set, Some, None, Option, length-append, append_assoc, append-nil, suc-mul}
+use Rattle.std.{specs.Prelude.slice_index, proofs.lemmas.List.drop_all, proofs.lemmas.List.Sums.sum_by-set, proofs.lemmas.Option.slice_get_within, proofs.lemmas.Option.get_or_from_slice_get}
 use Rattle.pk_base.{specs.Shape.Shape, specs.Shape.IsShape, specs.Shape.page_entries, specs.Shape.run_pages, specs.Entry.Entry, specs.Page.Flash, specs.Page.whole}
 use Rattle.pk_meta.specs.Over.{over, kept_at}
 use Rattle.pk_nand.specs.BoardState.{BoardState}
@@ -9,16 +9,17 @@ use Rattle.pk_pin.specs.Frames.{Frames, free_frames, leased, KeepsPage}
 use Rattle.pk_plan.specs.declared.owner.Owner.TheVariants.{Meta}
 use Rattle.pk_pool.specs.declared.state.BlockState.TheVariants.{Free, Ready, Owned}
 use Rattle.pk_pool.{specs.Blocks.Blocks, specs.Blocks.PoolOnFlash, specs.Blocks.with_state, proofs.States.get-set_other, proofs.States.set_is, proofs.Fitting.PoolOnFlash-programmed}
-use Rattle.pk_run.{specs.Kept.Kept, specs.Kept.IsKept, specs.Kept.RunOnFlash, specs.Kept.page_of, specs.Kept.after_look, proofs.Pieces.pages_are, proofs.Standing.RunOnFlash-block}
+use Rattle.pk_run.{specs.Kept.Kept, specs.Kept.IsKept, specs.Kept.RunOnFlash, specs.Kept.page_of, specs.Kept.after_look, proofs.Pieces.pages_are}
+use Rattle.pk_run.proofs.Standing.{RunOnFlash-block, from_more}
 use Rattle.pk_merge.{specs.declared.source.Source.Source, specs.declared.source.Source.TheVariants.Frozen, specs.declared.source.Source.TheVariants.Run, specs.declared.next.Next.Next}
-use Rattle.pk_merge.specs.declared.next.Next.TheVariants.{LoadSource, LoadTarget, Gather, TakeBlock, Program, End}
-use Rattle.pk_merge.{specs.Cursors.Cursor, specs.Cursors.Follows, specs.Cursors.own_page, specs.Sources.FollowsIn, specs.Sources.IsOf, specs.Sources.blocks_in, specs.Sources.after_look_at}
+use Rattle.pk_merge.specs.declared.next.Next.TheVariants.{LoadSource, LoadTarget, TakeBlock, Program}
 use Rattle.pk_merge.specs.Merging.{Merger, left, StandsIn, GoesOn, HasNextPage, IsAtEnd, IsDone, Tells}
 use Rattle.pk_merge.specs.Outputs.{AreMeta, BlocksApart, IsOutput, TakesBlock, ProgramsPage, next_bytes}
-use Rattle.pk_merge.{specs.Running.merged, specs.Running.Running, specs.Running.HasNoSpare, specs.Running.IsOutputWhole, proofs.Telling.many_in, proofs.Telling.drop_end, specs.Elsewhere.LeavesRuns}
+use Rattle.pk_merge.proofs.Needing.{full_before, next_rises, next_deepest}
+use Rattle.pk_merge.proofs.Moving.{same_but, spare_is_none, spare_apart, same_meta, moves, source_moves, moves_by_program, source_by_program, stands_moved, output_with}
+use Rattle.pk_merge.{specs.Cursors.Cursor, specs.Cursors.Follows, specs.Cursors.own_page, specs.Sources.FollowsIn, specs.Sources.IsOf, specs.Sources.blocks_in, specs.Sources.after_look_at}
+use Rattle.pk_merge.{specs.Running.merged, specs.Running.Running, specs.Running.HasNoSpare, specs.Running.IsOutputWhole, proofs.Telling.many_in, specs.Elsewhere.LeavesRuns}
 use Rattle.pk_merge.{proofs.Places.block_there, proofs.Places.rest, proofs.Programming.pinned_page, specs.Steps.LoadsSource, specs.Steps.LoadsTarget, specs.Steps.Acts}
-use Rattle.pk_merge.proofs.Needing.{full_before, next_rises, next_deepest, row_assoc}
-use Rattle.pk_merge.proofs.Moving.{same_but, spare_is_none, spare_apart, moves_by_take, source_by_take, moves_by_program, source_by_program, stands_moved, from_more, output_with}
 use Rattle.pk_level.specs.Arenas.{IsPinnedIf}
 
 look_pages : (lease : Option ℕ) (b : BoardState) → (after_look lease b).pages ≡ b.pages
@@ -29,12 +30,8 @@ look_pages_in : {X : Type 0} (source : Source X) (c : Cursor) (b : BoardState) �
 look_pages_in (Frozen x) c b = refl
 look_pages_in (Run r) c b = look_pages (slice_get r.now.leases (own_page c)) b
 
-kept_none : (b : Bool) → (if b then filter (λ (e : Entry). is_some e.1) [] else []) ≡ []
-kept_none true = refl
-kept_none false = refl
-
 nothing : (level : ℕ) → kept_at level [] ≡ []
-nothing level = kept_none (level == 4)
+nothing level = elim (level == 4) as (λ b. (if b then filter (λ (e : Entry). is_some e.1) [] else []) ≡ []) [ true ↦ refl | false ↦ refl ]
 
 -- nothing remains after the end
 pub left_end : {X : Type 0} (source : Source X) (target : Kept) (flash : Flash) (arena : Frames) (es fs : List Entry) (m : Merger) (level : ℕ)
@@ -43,15 +40,12 @@ left_end source target flash arena es fs m level s end =
     let many = many_in source flash arena es s.has in
     let more = s.stands.many in
     let none : left level es fs m ≡ kept_at level [] = λ i. kept_at level
-    (over (drop_end es m.source.place (omega (arith, many, end.0)) i) (drop_end fs m.target.place (omega (arith, more, end.1)) i)) in
+    (over (drop_all m.source.place es (omega (arith, many, end.0)) i) (drop_all m.target.place fs (omega (arith, more, end.1)) i)) in
     none ∙ nothing level
 
 -- one frame fewer is free if one was taken
 free_after : (pins : Bool) (old new : Frames) (bytes : List ℕ) (lease : Option ℕ) → KeepsPage pins old new bytes lease → pins ≡ true → free_frames new + 1 ≡ free_frames old
-free_after pins old new bytes None k e = absurd (clash (sym e ∙ k.0))
-  where
-    clash : true ≡ false → ⊥
-    clash e = cc
+free_after pins old new bytes None k e = let no = sym e ∙ k.0 in cc
 free_after pins old new bytes (Some l) k e =
     let was = get_or_from_slice_get old.used l false true k.1 in
     let change = rw was at (sum_by-set (λ x. cond (not x) 1 0) old.used l true true (slice_get_within old.used l false k.1)) in
@@ -63,10 +57,7 @@ bytes_after pins old new bytes None k = ap (λ (a : Frames). a.page_bytes) k.1
 bytes_after pins old new bytes (Some l) k = ap (λ (a : Frames). a.page_bytes) k.2
 
 owned_not_ready : (pool : Blocks) (b : ℕ) → slice_get pool.states b ≡ Some (Owned Meta) → slice_get pool.states b ≡ Some Ready → ⊥
-owned_not_ready pool b own ready = clash (sym own ∙ ready)
-  where
-    clash : Some (Owned Meta) ≡ Some Ready → ⊥
-    clash e = cc
+owned_not_ready pool b own ready = let no = sym own ∙ ready in cc
 
 -- entries that are taken
 pub gathers_on : {X : Type 0} (source : Source X) (target : Kept) (pins : Bool) (out : Kept) (m : Merger) (pool : Blocks) (flash : Flash) (before : Frames) (es fs : List Entry)
@@ -90,6 +81,29 @@ gathers_on source target pins out m pool flash before es fs r m' g =
       frames = r.frames;
     }
 
+-- pages that were looked at: a cursor has reached other pages, and has other bytes
+pub looked_on : {X : Type 0} (source : Source X) (target : Kept) (pins : Bool) (out : Kept) (m : Merger) (pool : Blocks) (flash : Flash) (before : Frames) (es fs : List Entry)
+    → Running source target pins out m pool flash before es fs → (one two : ℕ) (xs ys : List ℕ)
+    → FollowsIn source flash (record m.source { loaded = one; bytes = xs }) → Follows flash target (record m.target { loaded = two; bytes = ys })
+    → Running source target pins out (record m { source = record m.source { loaded = one; bytes = xs }; target = record m.target { loaded = two; bytes = ys } }) pool flash before es fs
+looked_on source target pins out m pool flash before es fs r one two xs ys source_at target_at =
+    let c = r.merging.cursors in
+    record {
+      lists = r.lists;
+      shapes = record { of_merger = r.shapes.of_merger; of_target = r.shapes.of_target; of_source = r.shapes.of_source; of_pool = r.shapes.of_pool; of_frames = r.shapes.of_frames };
+      merging = record {
+        cursors = record { has = c.has; stands = c.stands; rising = c.rising; source_at = source_at; target_at = target_at };
+        entries = r.merging.entries;
+        stands = r.merging.stands;
+        makes = r.merging.makes;
+        full = r.merging.full;
+        output = r.merging.output;
+        no_spare = r.merging.no_spare;
+      };
+      blocks = r.blocks;
+      frames = r.frames;
+    }
+
 module _ {X : Type 0} (source : Source X) (target : Kept) (pins : Bool) (out : Kept) (m : Merger) (pool : Blocks)
     (old : BoardState) (before : Frames) (es fs : List Entry) (is : IsShape out.shape) (kept : IsKept out)
     (r : Running source target pins out m pool old.pages before es fs) where
@@ -99,56 +113,18 @@ module _ {X : Type 0} (source : Source X) (target : Kept) (pins : Bool) (out : K
   pub loads_source : (m' : Merger) (new : BoardState) → LoadsSource source m old m' new → Running source target pins out m' pool new.pages before es fs
   loads_source m' new l =
       let pages : new.pages ≡ old.pages = ap (λ (b : BoardState). b.pages) l.board ∙ look_pages_in source m.source old in
-      let c = r.merging.cursors in
       subst (λ (f : Flash). Running source target pins out m' pool f before es fs) (sym pages)
-      (subst (λ (x : Merger). Running source target pins out x pool old.pages before es fs) (sym l.merger) (record {
-        lists = r.lists;
-        shapes = record { of_merger = r.shapes.of_merger; of_target = r.shapes.of_target; of_source = r.shapes.of_source; of_pool = r.shapes.of_pool; of_frames = r.shapes.of_frames };
-        merging = record {
-          cursors = record {
-            has = c.has;
-            stands = c.stands;
-            rising = c.rising;
-            source_at = subst (FollowsIn source old.pages) (ap (λ (x : Merger). x.source) l.merger) l.follows;
-            target_at = c.target_at;
-          };
-          entries = r.merging.entries;
-          stands = r.merging.stands;
-          makes = r.merging.makes;
-          full = r.merging.full;
-          output = r.merging.output;
-          no_spare = r.merging.no_spare;
-        };
-        blocks = r.blocks;
-        frames = r.frames;
-      }))
+      (subst (λ (x : Merger). Running source target pins out x pool old.pages before es fs) (sym l.merger)
+      (looked_on source target pins out m pool old.pages before es fs r (suc (own_page m.source)) m.target.loaded m'.source.bytes m.target.bytes
+      (subst (FollowsIn source old.pages) (ap (λ (x : Merger). x.source) l.merger) l.follows) r.merging.cursors.target_at))
 
   pub loads_target : (m' : Merger) (new : BoardState) → LoadsTarget target m old m' new → Running source target pins out m' pool new.pages before es fs
   loads_target m' new l =
       let pages : new.pages ≡ old.pages = ap (λ (b : BoardState). b.pages) l.board ∙ look_pages (slice_get target.leases (own_page m.target)) old in
-      let c = r.merging.cursors in
       subst (λ (f : Flash). Running source target pins out m' pool f before es fs) (sym pages)
-      (subst (λ (x : Merger). Running source target pins out x pool old.pages before es fs) (sym l.merger) (record {
-        lists = r.lists;
-        shapes = record { of_merger = r.shapes.of_merger; of_target = r.shapes.of_target; of_source = r.shapes.of_source; of_pool = r.shapes.of_pool; of_frames = r.shapes.of_frames };
-        merging = record {
-          cursors = record {
-            has = c.has;
-            stands = c.stands;
-            rising = c.rising;
-            source_at = c.source_at;
-            target_at = subst (Follows old.pages target) (ap (λ (x : Merger). x.target) l.merger) l.follows;
-          };
-          entries = r.merging.entries;
-          stands = r.merging.stands;
-          makes = r.merging.makes;
-          full = r.merging.full;
-          output = r.merging.output;
-          no_spare = r.merging.no_spare;
-        };
-        blocks = r.blocks;
-        frames = r.frames;
-      }))
+      (subst (λ (x : Merger). Running source target pins out x pool old.pages before es fs) (sym l.merger)
+      (looked_on source target pins out m pool old.pages before es fs r m.source.loaded (suc (own_page m.target)) m.source.bytes m'.target.bytes
+      r.merging.cursors.source_at (subst (Follows old.pages target) (ap (λ (x : Merger). x.target) l.merger) l.follows)))
 
   -- a block that is taken
   pub takes_block : (out' : Kept) (pool' : Blocks) (new : BoardState) → 1 ≤ length m.gathered → length out.firsts ≡ length out.blocks * out.shape.block_pages
@@ -157,7 +133,9 @@ module _ {X : Type 0} (source : Source X) (target : Kept) (pins : Bool) (out : K
       let b : ℕ = t.block in
       let c = r.merging.cursors in
       let shape : pool.shape ≡ out.shape = r.shapes.of_pool in
+      let its_shape : IsShape pool.shape = subst IsShape (sym shape) is in
       let same = same_but pool.shape b old new t.cuts in
+      let others = same_meta pool b old.pages new.pages its_shape t.spare same in
       let of_source : IsOf pool.shape source = subst (λ (s : Shape). IsOf s source) (sym shape) r.shapes.of_source in
       let meta_more : (blocks : List ℕ) → AreMeta pool blocks
       → AreMeta (with_state pool b (Owned Meta)) blocks = λ blocks meta i x got. get-set_other pool.states b x (Owned Meta) (spare_is_none pool b x t.spare (meta i x got)) ∙ meta i x got in
@@ -176,20 +154,14 @@ module _ {X : Type 0} (source : Source X) (target : Kept) (pins : Bool) (out : K
       subst (λ (x : Kept). Running source target pins x m pool' new.pages before es fs) (sym t.run_is)
       (record {
         lists = r.lists;
-        shapes = record {
-          of_merger = r.shapes.of_merger;
-          of_target = r.shapes.of_target;
-          of_source = r.shapes.of_source;
-          of_pool = ap (λ (p : Blocks). p.shape) t.pool_is ∙ shape;
-          of_frames = r.shapes.of_frames;
-        };
+        shapes = search (ap (λ (p : Blocks). p.shape) t.pool_is ∙ shape);
         merging = record {
           cursors = stands_moved source target old.pages new.pages before before es fs m
-              (source_by_take pool b old.pages new.pages t.spare same source before es c.has (subst IsShape (sym shape) is) of_source r.blocks.of_source)
-              (moves_by_take pool b old.pages new.pages t.spare same target before fs c.stands (subst IsShape (sym r.shapes.of_target) is) (shape ∙ sym r.shapes.of_target) r.blocks.of_target) c;
+              (source_moves pool old.pages new.pages others source before es c.has its_shape of_source r.blocks.of_source)
+              (moves pool old.pages new.pages others target before fs c.stands (subst IsShape (sym r.shapes.of_target) is) (shape ∙ sym r.shapes.of_target) r.blocks.of_target) c;
           entries = r.merging.entries;
           stands = RunOnFlash-block out b new.pages before r.merging.entries is
-              ((moves_by_take pool b old.pages new.pages t.spare same out before r.merging.entries r.merging.stands is shape r.blocks.own).1 r.merging.entries r.merging.stands);
+              ((moves pool old.pages new.pages others out before r.merging.entries r.merging.stands is shape r.blocks.own).1 r.merging.entries r.merging.stands);
           makes = r.merging.makes;
           full = r.merging.full;
           output = output_with pool out b old.pages new.pages is shape t.spare t.exists same t.erased r.blocks.own r.merging.stands.within r.merging.output;
@@ -240,13 +212,7 @@ module _ {X : Type 0} (source : Source X) (target : Kept) (pins : Bool) (out : K
       (subst (λ (x : Kept). Running source target pins x (record m { gathered = [] }) pool new.pages after es fs) (sym p.run_is)
       (record {
         lists = r.lists;
-        shapes = record {
-          of_merger = r.shapes.of_merger;
-          of_target = r.shapes.of_target;
-          of_source = r.shapes.of_source;
-          of_pool = r.shapes.of_pool;
-          of_frames = bytes_after pins before after (next_bytes out m.gathered) lease p.frame ∙ r.shapes.of_frames;
-        };
+        shapes = search (bytes_after pins before after (next_bytes out m.gathered) lease p.frame ∙ r.shapes.of_frames);
         merging = record {
           cursors =
               let s = stands_moved source target old.pages new.pages before after es fs m
@@ -257,7 +223,7 @@ module _ {X : Type 0} (source : Source X) (target : Kept) (pins : Bool) (out : K
           stands = subst (λ (x : Kept). RunOnFlash x new.pages after (g.entries ++ m.gathered)) p.run_is
               (p.stands g.entries g.stands (next_rises source target out m old.pages before es fs is kept r.lists g next.some)
               (next_deepest source target out m old.pages before es fs is kept r.lists g next.some));
-          makes = g.makes ∙ sym (row_assoc g.entries m.gathered (left out.level es fs m));
+          makes = g.makes ∙ sym (append_assoc g.entries m.gathered (left out.level es fs m));
           full = elim next.all [
             | inl page ↦ inl (let e = suc-mul (length out.firsts) (page_entries out.shape) in let f : length m.gathered ≡ page_entries out.shape = page
                 ∙ ap page_entries r.shapes.of_merger in full_more full f long)
@@ -266,16 +232,8 @@ module _ {X : Type 0} (source : Source X) (target : Kept) (pins : Bool) (out : K
           output = subst (λ (x : Kept). IsOutput x new.pages) p.run_is p.output;
           no_spare = let spare = r.merging.no_spare in omega (arith, spare, long);
         };
-        blocks = record {
-          fits = subst (λ (f : Flash). PoolOnFlash pool f) (sym pages)
-              (PoolOnFlash-programmed pool old.pages b (page_of out (length out.firsts)) (next_bytes out m.gathered) (owned_not_ready pool b own) in_block r.blocks.fits);
-          own = r.blocks.own;
-          of_source = r.blocks.of_source;
-          of_target = r.blocks.of_target;
-          from_source = r.blocks.from_source;
-          from_target = r.blocks.from_target;
-          room = r.blocks.room;
-        };
+        blocks = search (subst (λ (f : Flash). PoolOnFlash pool f) (sym pages)
+            (PoolOnFlash-programmed pool old.pages b (page_of out (length out.firsts)) (next_bytes out m.gathered) (owned_not_ready pool b own) in_block r.blocks.fits));
         frames = record {
           pinned = pinned_page pins out before after (next_bytes out m.gathered) p.first lease (length m.gathered) p.frame r.frames.pinned;
           free = λ wanted. let free = r.frames.free wanted in let fewer = free_after pins before after (next_bytes out m.gathered) lease p.frame wanted in omega (arith, free, fewer, long);
@@ -306,8 +264,6 @@ module _ {X : Type 0} (source : Source X) (target : Kept) (pins : Bool) (out : K
       → Running source target pins out' m' pool' new.pages after es fs
   acts_on LoadSource out' m' pool' new after t (l, o, p, a) = same_rest out' m' pool' new.pages after o p a (loads_source m' new l)
   acts_on LoadTarget out' m' pool' new after t (l, o, p, a) = same_rest out' m' pool' new.pages after o p a (loads_target m' new l)
-  acts_on Gather out' m' pool' new after t (n, e, o, p, a) = same_rest out' m' pool' new.pages after o p a (same_all m' new n e)
-  acts_on End out' m' pool' new after t (n, e, o, p, a) = same_rest out' m' pool' new.pages after o p a (same_all m' new n e)
   acts_on TakeBlock out' m' pool' new after t (b, e, a, fits) =
       subst (λ (x : Frames). Running source target pins out' m' pool' new.pages x es fs) (sym a)
       (subst (λ (x : Merger). Running source target pins out' x pool' new.pages before es fs) (sym e) (takes_block out' pool' new t.0.some t.1 b fits))
@@ -315,6 +271,7 @@ module _ {X : Type 0} (source : Source X) (target : Kept) (pins : Bool) (out : K
       let within = r.merging.stands.within in
       let ne = t.1 in
       subst (λ (x : Blocks). Running source target pins out' m' x new.pages after es fs) (sym p) (programs out' m' new after t.0 (omega (arith, within, ne)) b e)
+  acts_on next out' m' pool' new after t none = same_rest out' m' pool' new.pages after none.2 none.3 none.4 (same_all m' new none.0 none.1)
 
 -- no action leaves the level
 pub acts_level : {X : Type 0} (source : Source X) (target : Kept) (pins : Bool) (out : Kept) (m : Merger) (pool : Blocks)
@@ -322,10 +279,9 @@ pub acts_level : {X : Type 0} (source : Source X) (target : Kept) (pins : Bool) 
     → Acts source target pins out m pool old before next out' m' pool' new after → out'.level ≡ out.level
 acts_level source target pins out m pool old before LoadSource out' m' pool' new after (l, o, p, a) = ap (λ (r : Kept). r.level) o
 acts_level source target pins out m pool old before LoadTarget out' m' pool' new after (l, o, p, a) = ap (λ (r : Kept). r.level) o
-acts_level source target pins out m pool old before Gather out' m' pool' new after (n, e, o, p, a) = ap (λ (r : Kept). r.level) o
-acts_level source target pins out m pool old before End out' m' pool' new after (n, e, o, p, a) = ap (λ (r : Kept). r.level) o
 acts_level source target pins out m pool old before TakeBlock out' m' pool' new after (k, e, a, fits) = ap (λ (r : Kept). r.level) k.run_is
 acts_level source target pins out m pool old before Program out' m' pool' new after (k, e, p) = ap (λ (r : Kept). r.level) k.run_is
+acts_level source target pins out m pool old before next out' m' pool' new after none = ap (λ (r : Kept). r.level) none.2
 
 -- at the end the output represents the whole merge, in as many blocks as it needs
 pub stands_done : {X : Type 0} (source : Source X) (target : Kept) (pins : Bool) (out : Kept) (m : Merger) (pool : Blocks) (flash : Flash) (arena : Frames) (es fs : List Entry)
@@ -357,11 +313,10 @@ acts_leave source target pins out m pool old before LoadSource out' m' pool' new
     look_same other es old new before after (ap (λ (b : BoardState). b.pages) l.board ∙ look_pages_in source m.source old) a s
 acts_leave source target pins out m pool old before LoadTarget out' m' pool' new after is shape (l, o, p, a) other es same meta apart s =
     look_same other es old new before after (ap (λ (b : BoardState). b.pages) l.board ∙ look_pages (slice_get target.leases (own_page m.target)) old) a s
-acts_leave source target pins out m pool old before Gather out' m' pool' new after is shape
-    (n, e, o, p, a) other es same meta apart s = look_same other es old new before after (ap (λ (b : BoardState). b.pages) n) a s
-acts_leave source target pins out m pool old before End out' m' pool' new after is shape
-    (n, e, o, p, a) other es same meta apart s = look_same other es old new before after (ap (λ (b : BoardState). b.pages) n) a s
 acts_leave source target pins out m pool old before TakeBlock out' m' pool' new after is shape (t, e, a, fits) other es same meta apart s =
     subst (λ (x : Frames). RunOnFlash other new.pages x es) (sym a)
-    ((moves_by_take pool t.block old.pages new.pages t.spare (same_but pool.shape t.block old new t.cuts) other before es s (subst IsShape (sym same) is) (shape ∙ sym same) meta).1 es s)
+    ((moves pool old.pages new.pages (same_meta pool t.block old.pages new.pages (subst IsShape (sym shape) is) t.spare (same_but pool.shape t.block old new t.cuts)) other before es s
+    (subst IsShape (sym same) is) (shape ∙ sym same) meta).1 es s)
 acts_leave source target pins out m pool old before Program out' m' pool' new after is shape (t, e, p) other es same meta apart s = t.others other es apart same s
+acts_leave source target pins out m pool old before next out' m' pool' new after is shape none other es same meta apart s =
+    look_same other es old new before after (ap (λ (b : BoardState). b.pages) none.0) none.4 s

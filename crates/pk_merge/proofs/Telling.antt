@@ -1,8 +1,9 @@
 -- What a merge does next, and the entry that it takes.
-use Rattle.std.proofs.Common.{◌≡◌, ◌≢◌, ◌⊎◌, inl, inr, ℕ, zero, suc, ◌+◌, ◌<◌, ◌≤◌, refl, sym, ap, subst, ◌∙◌, arith, Bool, true, false, not, ◌&&◌, ◌||◌, ◌==◌, T, List, [], ◌∷◌, ◌++◌, length, drop}
+use Rattle.std.proofs.Common.{◌≡◌, ◌≢◌, ◌⊎◌, inl, inr, ℕ, suc, ◌+◌, ◌<◌, ◌≤◌, refl, sym, ap, subst, ◌∙◌, arith, Bool, true, false, not, ◌&&◌, ◌||◌, ◌==◌, T, List, [], ◌∷◌, ◌++◌, length, drop}
 use Rattle.std.proofs.Common.{slice_get, Some, append_assoc, length-append, le_refl}
 use Rattle.std.specs.declared.cmp.Ordering.TheVariants.{Less, Equal, Greater}
-use Rattle.std.{specs.Prelude.nat_lt, specs.Prelude.IsTrue, proofs.lemmas.Bool.Decides.nat_tests, specs.FinMap.Entries.is_sorted}
+use Rattle.std.proofs.lemmas.Bool.{ltb-true, ltb-false, lt-ltb, eqb-false, ne_eqb}
+use Rattle.std.{proofs.lemmas.List.drop_all, specs.FinMap.Entries.is_sorted}
 use Rattle.pk_base.{specs.Key.key_cmp, specs.Shape.IsShape, specs.Shape.page_entries, specs.Entry.Entry, specs.Entry.key_of, specs.Page.Flash}
 use Rattle.pk_meta.specs.Over.{over, kept_at}
 use Rattle.pk_pin.specs.Frames.{Frames}
@@ -25,44 +26,18 @@ record Can (f a b u v : Bool) : Type 0 where
   pub second : b ≡ true → v ≡ false
 
 tells : (f a b u v : Bool) → can f a b u v ≡ true → Can f a b u v
-tells true a b u v e = cc
 tells false true true false false e = record { room = refl; some = inl refl; first = λ p. refl; second = λ p. refl }
-tells false true true false true e = cc
-tells false true true true v e = cc
 tells false true false false v e = record { room = refl; some = inl refl; first = λ p. refl; second = λ p. cc }
-tells false true false true v e = cc
 tells false false true u false e = record { room = refl; some = inr refl; first = λ p. cc; second = λ p. refl }
-tells false false true u true e = cc
-tells false false false u v e = cc
-
-clash : true ≡ false → ⊥
-clash e = cc
+tells f a b u v e = cc
 
 -- no entry can be taken, though there is room and one remains: a page is needed
 wants : (f a b u v : Bool) → can f a b u v ≡ false → f ≡ false → (a ≡ true → u ≡ false) → ((a ≡ false) → (b ≡ false) → ⊥) → (b ≡ true) × (v ≡ true)
-wants true a b u v e room first some = absurd (clash room)
-wants false true b true v e room first some = absurd (clash (first refl))
+wants false true b true v e room first some = let no = first refl in cc
 wants false true true false true e room first some = (refl, refl)
-wants false true true false false e room first some = absurd (clash e)
-wants false true false false v e room first some = absurd (clash e)
 wants false false true u true e room first some = (refl, refl)
-wants false false true u false e room first some = absurd (clash e)
 wants false false false u v e room first some = absurd (some refl refl)
-
-is_below : (m n : ℕ) → m < n → nat_lt m n ≡ true
-is_below m n h = grind (arith, nat_tests)
-
-below_is : (m n : ℕ) → nat_lt m n ≡ true → m < n
-below_is m n h = grind (arith, nat_tests)
-
-not_below_is : (m n : ℕ) → nat_lt m n ≡ false → n ≤ m
-not_below_is m n h = grind (arith, nat_tests)
-
-not_same : (m n : ℕ) → m ≢ n → (m == n) ≡ false
-not_same m n h = grind (arith, nat_tests)
-
-same_not : (m n : ℕ) → (m == n) ≡ false → m ≢ n
-same_not m n h = grind (arith, nat_tests)
+wants f a b u v e room first some = cc
 
 module _ {X : Type 0} (source : Source X) (target : Kept) (m : Merger) where
   pub record Gathers : Type 0 where
@@ -77,11 +52,11 @@ module _ {X : Type 0} (source : Source X) (target : Kept) (m : Merger) where
   gathers e =
       let t = tells (length m.gathered == page_entries m.shape) (is_left_of_source source target m) (is_left_of_target source target m) (wants_page_in source m.source) (wants_page m.target) e in
       record {
-        room = same_not _ _ t.room;
-        source_left = λ past. elim t.some [ inl a ↦ below_is _ _ a | inr b ↦ absurd (let lt = below_is _ _ b in omega (arith, lt, past)) ];
-        target_left = λ past. elim t.some [ inl a ↦ absurd (let lt = below_is _ _ a in omega (arith, lt, past)) | inr b ↦ below_is _ _ b ];
-        source_here = λ h. t.first (is_below _ _ h);
-        target_here = λ h. t.second (is_below _ _ h);
+        room = eqb-false _ _ t.room;
+        source_left = λ past. elim t.some [ inl a ↦ ltb-true _ _ a | inr b ↦ absurd (let lt = ltb-true _ _ b in omega (arith, lt, past)) ];
+        target_left = λ past. elim t.some [ inl a ↦ absurd (let lt = ltb-true _ _ a in omega (arith, lt, past)) | inr b ↦ ltb-true _ _ b ];
+        source_here = λ h. t.first (lt-ltb _ _ h);
+        target_here = λ h. t.second (lt-ltb _ _ h);
       }
 
   pub wants_target : can_gather source target m ≡ false → length m.gathered ≢ page_entries m.shape
@@ -90,38 +65,29 @@ module _ {X : Type 0} (source : Source X) (target : Kept) (m : Merger) where
   unfolding can_gather
   wants_target e room first some =
       let w = wants (length m.gathered == page_entries m.shape) (is_left_of_source source target m)
-      (is_left_of_target source target m) (wants_page_in source m.source) (wants_page m.target) e (not_same _ _ room)
-      (λ a. first (below_is _ _ a)) (λ a b. some (not_below_is _ _ a, not_below_is _ _ b)) in
-      (below_is _ _ w.0, w.1)
+      (is_left_of_target source target m) (wants_page_in source m.source) (wants_page m.target) e (ne_eqb _ _ room)
+      (λ a. first (ltb-true _ _ a)) (λ a b. some (ltb-false _ _ a, ltb-false _ _ b)) in
+      (ltb-true _ _ w.0, w.1)
 
 -- ---- what remains after an entry
-
-pub drop_end : (es : List Entry) (n : ℕ) → length es ≤ n → drop n es ≡ []
-drop_end [] zero h = refl
-drop_end [] (suc n) h = refl
-drop_end (e ∷ es) zero h = absurd (omega (arith, h))
-drop_end (e ∷ es) (suc n) h = drop_end es n (omega (arith, h))
 
 at : (es : List Entry) (i : ℕ) (e : Entry) → T (is_sorted key_cmp es) → slice_get es i ≡ Some e → T (is_sorted key_cmp (e ∷ drop (suc i) es))
 at es i e up got = subst (λ (xs : List Entry). T (is_sorted key_cmp xs)) (drop_is es i e got) (sorted_drop es i up)
 
-regrouped : (xs ys zs : List Entry) → (xs ++ ys) ++ zs ≡ xs ++ (ys ++ zs)
-regrouped xs ys zs = simp append_assoc
-
 regroup : (level : ℕ) (g : List Entry) (e : Entry) (rest whole : List Entry) → whole ≡ e ∷ rest → g ++ kept_at level whole ≡ (g ++ kept_at level (e ∷ [])) ++ kept_at level rest
 regroup level g e rest whole is = ap (λ (xs : List Entry). g ++ kept_at level xs) is
-    ∙ ap (λ (xs : List Entry). g ++ xs) (kept_front level e rest) ∙ sym (regrouped g (kept_at level (e ∷ [])) (kept_at level rest))
+    ∙ ap (λ (xs : List Entry). g ++ xs) (kept_front level e rest) ∙ sym (append_assoc g (kept_at level (e ∷ [])) (kept_at level rest))
 
 module _ (level : ℕ) (es fs : List Entry) (i j : ℕ) (g : List Entry) (up : T (is_sorted key_cmp es)) (vp : T (is_sorted key_cmp fs)) where
   pub left_source : (e : Entry) → slice_get es i ≡ Some e → length fs ≤ j → g ++ left_of level es fs i j ≡ (g ++ kept_at level (e ∷ [])) ++ left_of level es fs (suc i) j
   left_source e got past = regroup level g e _ _ (
-      ap (λ (xs : List Entry). over xs (drop j fs)) (drop_is es i e got) ∙ ap (over (e ∷ drop (suc i) es)) (drop_end fs j past) ∙ over_source e (drop (suc i) es) (at es i e up got)
-      ∙ ap (λ (xs : List Entry). e ∷ over (drop (suc i) es) xs) (sym (drop_end fs j past)))
+      ap (λ (xs : List Entry). over xs (drop j fs)) (drop_is es i e got) ∙ ap (over (e ∷ drop (suc i) es)) (drop_all j fs past) ∙ over_source e (drop (suc i) es) (at es i e up got)
+      ∙ ap (λ (xs : List Entry). e ∷ over (drop (suc i) es) xs) (sym (drop_all j fs past)))
 
   pub left_target : (f : Entry) → slice_get fs j ≡ Some f → length es ≤ i → g ++ left_of level es fs i j ≡ (g ++ kept_at level (f ∷ [])) ++ left_of level es fs i (suc j)
   left_target f got past = regroup level g f _ _ (
-      ap (over (drop i es)) (drop_is fs j f got) ∙ ap (λ (xs : List Entry). over xs (f ∷ drop (suc j) fs)) (drop_end es i past) ∙ over_target f (drop (suc j) fs) (at fs j f vp got)
-      ∙ ap (λ (xs : List Entry). f ∷ over xs (drop (suc j) fs)) (sym (drop_end es i past)))
+      ap (over (drop i es)) (drop_is fs j f got) ∙ ap (λ (xs : List Entry). over xs (f ∷ drop (suc j) fs)) (drop_all i es past) ∙ over_target f (drop (suc j) fs) (at fs j f vp got)
+      ∙ ap (λ (xs : List Entry). f ∷ over xs (drop (suc j) fs)) (sym (drop_all i es past)))
 
   module _ (e f : Entry) (got : slice_get es i ≡ Some e) (had : slice_get fs j ≡ Some f) where
     both_are : over (drop i es) (drop j fs) ≡ over (e ∷ drop (suc i) es) (f ∷ drop (suc j) fs)
@@ -140,9 +106,6 @@ module _ (level : ℕ) (es fs : List Entry) (i j : ℕ) (g : List Entry) (up : T
         ∙ ap (λ (xs : List Entry). f ∷ over xs (drop (suc j) fs)) (sym (drop_is es i e got)))
 
 -- ---- a merge goes on
-
-longer : (xs ys : List Entry) → length xs ≤ length (xs ++ ys)
-longer xs ys = omega (arith, length-append xs ys)
 
 -- how many entries the source has
 pub many_in : {X : Type 0} (source : Source X) (flash : Flash) (arena : Frames) (es : List Entry) → Has source flash arena es → length es ≡ count_of source
@@ -170,25 +133,24 @@ module _ {X : Type 0} (source : Source X) (target : Kept) (level : ℕ) (m : Mer
   passes_on : (flash : Flash) → m.target.place < target.count → Follows flash target m.target → Follows flash target (passed m.target)
   passes_on flash within f = Follows-passed flash target m.target (subst IsShape f.same_shape js) f within
 
-  goes_by_source : (e : Entry) → m.source.place < count_of source → Same (takes_source level e m) → GoesOn source target level m (takes_source level e m)
-  goes_by_source e inside same = record {
-    stands = λ flash arena es fs s. record { has = s.has; stands = s.stands; rising = s.rising; source_at = passes_in source flash m.source is s.source_at inside; target_at = s.target_at };
+  -- it goes on with other cursors, after an entry that was taken
+  goes : (c d : Cursor) (e : Entry) → ((flash : Flash) → FollowsIn source flash m.source → FollowsIn source flash c) → ((flash : Flash) → Follows flash target m.target → Follows flash target d)
+      → c.loaded ≡ m.source.loaded → d.loaded ≡ m.target.loaded → Same (record m { source = c; target = d; gathered = m.gathered ++ kept_at level (e ∷ []) })
+      → GoesOn source target level m (record m { source = c; target = d; gathered = m.gathered ++ kept_at level (e ∷ []) })
+  goes c d e source_at target_at sources targets same = record {
+    stands = λ flash arena es fs s. record { has = s.has; stands = s.stands; rising = s.rising; source_at = source_at flash s.source_at; target_at = target_at flash s.target_at };
     same = same;
     shape = refl;
-    source_pages = refl;
-    target_pages = refl;
-    no_fewer = longer m.gathered (kept_at level (e ∷ []));
+    source_pages = sources;
+    target_pages = targets;
+    no_fewer = omega (arith, length-append m.gathered (kept_at level (e ∷ [])));
   }
 
+  goes_by_source : (e : Entry) → m.source.place < count_of source → Same (takes_source level e m) → GoesOn source target level m (takes_source level e m)
+  goes_by_source e inside same = goes (passed m.source) m.target e (λ flash f. passes_in source flash m.source is f inside) (λ flash f. f) refl refl same
+
   goes_by_target : (f : Entry) → m.target.place < target.count → Same (takes_target level f m) → GoesOn source target level m (takes_target level f m)
-  goes_by_target f within same = record {
-    stands = λ flash arena es fs s. record { has = s.has; stands = s.stands; rising = s.rising; source_at = s.source_at; target_at = passes_on flash within s.target_at };
-    same = same;
-    shape = refl;
-    source_pages = refl;
-    target_pages = refl;
-    no_fewer = longer m.gathered (kept_at level (f ∷ []));
-  }
+  goes_by_target f within same = goes m.source (passed m.target) f (λ flash g. g) (λ flash g. passes_on flash within g) refl refl same
 
   pub goes_source : (e : Entry) → SourceHead e → m.source.place < count_of source → target.count ≤ m.target.place → GoesOn source target level m (takes_source level e m)
   goes_source e head inside past = goes_by_source e inside (λ flash arena es fs s. left_source level es fs m.source.place m.target.place m.gathered s.rising s.stands.rising e
@@ -208,21 +170,9 @@ module _ {X : Type 0} (source : Source X) (target : Kept) (level : ℕ) (m : Mer
         (head flash arena es s.has s.source_at) (tail flash arena fs s.stands s.target_at) above)
 
     pub goes_equal : key_cmp (key_of e) (key_of f) ≡ Equal → GoesOn source target level m (takes_both level e m)
-    goes_equal same = record {
-      stands = λ flash arena es fs s. record {
-        has = s.has;
-        stands = s.stands;
-        rising = s.rising;
-        source_at = passes_in source flash m.source is s.source_at inside;
-        target_at = passes_on flash within s.target_at;
-      };
-      same = λ flash arena es fs s. left_equal level es fs m.source.place m.target.place m.gathered s.rising s.stands.rising e f
-          (head flash arena es s.has s.source_at) (tail flash arena fs s.stands s.target_at) same;
-      shape = refl;
-      source_pages = refl;
-      target_pages = refl;
-      no_fewer = longer m.gathered (kept_at level (e ∷ []));
-    }
+    goes_equal same = goes (passed m.source) (passed m.target) e (λ flash g. passes_in source flash m.source is g inside) (λ flash g. passes_on flash within g) refl refl
+        (λ flash arena es fs s. left_equal level es fs m.source.place m.target.place m.gathered s.rising s.stands.rising e f
+        (head flash arena es s.has s.source_at) (tail flash arena fs s.stands s.target_at) same)
 
 module _ {X : Type 0} (source : Source X) (target : Kept) (level : ℕ) where
   pub goes_nowhere : (m : Merger) → GoesOn source target level m m
@@ -246,7 +196,3 @@ taken_within source target flash arena es fs m s = let f = s.target_at.within in
     source_within : {X : Type 0} (source : Source X) (flash : Flash) (c : Cursor) → FollowsIn source flash c → c.place ≤ count_of source
     source_within (Frozen b) flash c f = f.0
     source_within (Run r) flash c f = f.within
-
-pub not_true : (b : Bool) → b ≡ false → IsTrue b → ⊥
-not_true true e t = clash e
-not_true false e t = clash (sym t)
