@@ -128,8 +128,8 @@ output_with pool out b old new is shape spare exists same erased_all meta within
     | inr last ↦ rw (last.1, ← shape) exists
   ];
   unused = λ j past small. elim (cases_lt j (length out.blocks * n)) [
-    | inl before ↦ ap (page_at new) (same_place out.shape out.blocks b j is before) ∙ pages_same pool old new (same_meta pool b old new (subst IsShape (sym shape) is) spare same) out is shape meta j before
-        ∙ o.unused j past before
+    | inl before ↦ ap (page_at new) (same_place out.shape out.blocks b j is before)
+        ∙ pages_same pool old new (same_meta pool b old new (subst IsShape (sym shape) is) spare same) out is shape meta j before ∙ o.unused j past before
     | inr behind ↦ last_erased j behind small
   ];
 }

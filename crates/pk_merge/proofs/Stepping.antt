@@ -9,7 +9,8 @@ use Rattle.pk_pin.specs.Frames.{Frames, free_frames, leased, KeepsPage}
 use Rattle.pk_plan.specs.declared.owner.Owner.TheVariants.{Meta}
 use Rattle.pk_pool.specs.declared.state.BlockState.TheVariants.{Free, Ready, Owned}
 use Rattle.pk_pool.{specs.Blocks.Blocks, specs.Blocks.PoolOnFlash, specs.Blocks.with_state, proofs.States.get-set_other, proofs.States.set_is, proofs.Fitting.PoolOnFlash-programmed}
-use Rattle.pk_run.{specs.Kept.Kept, specs.Kept.IsKept, specs.Kept.RunOnFlash, specs.Kept.page_of, specs.Kept.after_look, proofs.Pieces.pages_are, proofs.Standing.RunOnFlash-block, proofs.Standing.from_more}
+use Rattle.pk_run.{specs.Kept.Kept, specs.Kept.IsKept, specs.Kept.RunOnFlash, specs.Kept.page_of, specs.Kept.after_look, proofs.Pieces.pages_are}
+use Rattle.pk_run.proofs.Standing.{RunOnFlash-block, from_more}
 use Rattle.pk_merge.{specs.declared.source.Source.Source, specs.declared.source.Source.TheVariants.Frozen, specs.declared.source.Source.TheVariants.Run, specs.declared.next.Next.Next}
 use Rattle.pk_merge.specs.declared.next.Next.TheVariants.{LoadSource, LoadTarget, TakeBlock, Program}
 use Rattle.pk_merge.specs.Merging.{Merger, left, StandsIn, GoesOn, HasNextPage, IsAtEnd, IsDone, Tells}
