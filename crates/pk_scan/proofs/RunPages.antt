@@ -1,8 +1,8 @@
 -- One page of a run, by what is found in it.
-use Rattle.std.proofs.Common.{◌≡◌, ℕ, zero, suc, ◌+◌, ◌<◌, ◌≤◌, ◌^◌, Bool, true, false, ◌&&◌, T, List, [], ◌∷◌, ◌++◌, length, take, refl, ap, sym, subst, ◌∙◌, arith, Option, Some, None, option_map}
+use Rattle.std.proofs.Common.{◌≡◌, ℕ, ◌+◌, ◌<◌, ◌≤◌, ◌^◌, Bool, true, false, T, List, [], ◌∷◌, ◌++◌, length, take, get_or, refl, ap, sym, subst, ◌∙◌, Option, Some, None, option_map}
 use Rattle.std.proofs.Common.{Result, Ok, Err}
-use Rattle.std.proofs.lemmas.Bool.{and_right}
-use Rattle.std.{specs.Prelude.slice_get, specs.Ordering.is_lt, specs.FinMap.Entries.is_sorted, proofs.lemmas.List.take_all, specs.List.list_all}
+use Rattle.std.{proofs.lemmas.Bool.and_from, proofs.lemmas.List.Folds.list_all_more, proofs.lemmas.List.Folds.list_all_at, proofs.lemmas.Option.slice_get_within, proofs.lemmas.Option.get_or_from_slice_get}
+use Rattle.std.{specs.Prelude.slice_get, specs.Ordering.is_lt, specs.FinMap.Entries.is_sorted, specs.List.list_all}
 use Rattle.pk_base.{specs.Key.Key, specs.Key.key_cmp, specs.Shape.Shape, specs.Entry.Entry, specs.Entry.key_of, proofs.Logic.of_true}
 use Rattle.pk_meta.{specs.Page.meta_entries, specs.PageChecks.IsMetaPage, specs.declared.MetaHead.MetaHead, specs.declared.BadMeta.BadMeta, proofs.Reading.meta_held, proofs.Reading.sorted_true}
 use Rattle.pk_meta.specs.Run.{may_hold}
@@ -12,21 +12,11 @@ use Rattle.pk_scan.{specs.Runs.IsLast, specs.Runs.is_behind, specs.Runs.GoesOnOr
 
 module _ (p : Entry → Bool) where
   pub all_next : (es : List Entry) (i : ℕ) (e : Entry) → slice_get es i ≡ Some e → p e ≡ true → list_all p (take i es) ≡ true → list_all p (take (i + 1) es) ≡ true
-  all_next es i e got passes before = let k : i + 1 ≡ suc i = omega arith in rw k (at_suc es i got before)
-    where
-      at_suc : (es : List Entry) (i : ℕ) → slice_get es i ≡ Some e → list_all p (take i es) ≡ true → list_all p (take (suc i) es) ≡ true
-      at_suc [] i got before = cc
-      at_suc (x ∷ es) zero got before = let same : e ≡ x = cc in rw (subst (λ (y : Entry). p y ≡ true) same passes) refl
-      at_suc (x ∷ es) (suc i) got before = rest (p x) (list_all p (take i es)) (list_all p (take (suc i) es)) (at_suc es i got) before
-        where
-          rest : (a b c : Bool) → (b ≡ true → c ≡ true) → (a && b) ≡ true → (a && c) ≡ true
-          rest true b c on e = on e
-          rest false b c on e = e
+  all_next es i e got passes before =
+      list_all_more p es i e (slice_get_within es i e got) ∙ and_from (list_all p (take i es)) (p (get_or es i e)) before (ap p (get_or_from_slice_get es i e e got) ∙ passes)
 
   pub all_not : (es : List Entry) (i : ℕ) (e : Entry) → slice_get es i ≡ Some e → p e ≡ false → false ≡ list_all p es
-  all_not [] i e got fails = cc
-  all_not (x ∷ es) zero e got fails = let same : e ≡ x = cc in sym (ap (λ b. b && list_all p es) (subst (λ (y : Entry). p y ≡ false) same fails))
-  all_not (x ∷ es) (suc i) e got fails = sym (and_right (p x) (list_all p es) (sym (all_not es i e got fails)))
+  all_not es i e got fails = sym (list_all_at p es i e (slice_get_within es i e got) (ap p (get_or_from_slice_get es i e e got) ∙ fails))
 
 -- ---- what was found in a page
 
