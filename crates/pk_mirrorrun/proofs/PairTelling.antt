@@ -14,7 +14,8 @@ use Rattle.pk_port.{specs.Asking.KeptSilently, specs.Asking.KeptWord, specs.Step
 use Rattle.pk_port.{proofs.Stepping.part_of, proofs.Stepping.part_held, specs.Chained.installs, specs.Chained.AllServed, specs.Chained.HaltedAt, specs.Chained.Chained, specs.declared.halt.Halt.Halt}
 use Rattle.pk_port.{specs.declared.halt.Halt.TheVariants.Stopped, specs.declared.halt.Halt.TheVariants.Worn as UsedUp, proofs.Growing.asked-posts, proofs.Growing.asked-post_failed}
 use Rattle.pk_port.proofs.Chaining.{chained}
-use Rattle.pk_wordrun.{specs.Ends.end_of, specs.declared.end.WordEnd.WordEnd, specs.declared.end.WordEnd.TheVariants.Done, specs.declared.end.WordEnd.TheVariants.Output, proofs.Telling.keeps-flash}
+use Rattle.pk_wordrun.{specs.Ends.end_of, specs.Told.KeepsInput, specs.declared.end.WordEnd.WordEnd, specs.declared.end.WordEnd.TheVariants.Done, specs.declared.end.WordEnd.TheVariants.Output}
+use Rattle.pk_wordrun.{proofs.Telling.keeps-flash}
 use Rattle.pk_mirrorwords.{specs.PairTasks.PairTask, specs.PairTasks.map_left, specs.PairAnswers.PairSaid, specs.PairAnswers.PairFault, specs.PairAnswers.AreOfFirst, specs.PairAnswers.AreOfSecond}
 use Rattle.pk_mirrorrun.specs.PairTold.{IsServing, EitherUnread, text_by, Walk, BothWalked, end_by, KeptFirst, KeptSecond, PairAnswered, PairEnds, most_pair_roots, UsedRoots, PairTold}
 use Rattle.pk_mirrorrun.proofs.Commands.{ran_first, kept_first, change_keeps_others, part_left, same_parts, first_installs, second_installs}
