@@ -43,10 +43,7 @@ entries_most : (shape : Shape) → IsShape shape → page_entries shape ≤ 512
 entries_most shape is = let page : shape.page_bytes ≤ 16384 = is.page_most in omega arith
 
 pub end_fits : (shape : Shape) (p size : ℕ) → IsShape shape → p < 1000000 → size ≡ page_entries shape → (p + 1) * size < 4294967296
-end_fits shape p size is few same =
-    let most = entries_most shape is in
-    let end : (p + 1) * size ≤ 1000000 * 512 = mul-le-mul {n₂ = 1000000} {m₂ = 512} (omega (arith, few)) (omega (arith, same, most)) in
-    omega (arith, end)
+end_fits shape p size is few same = search (arith, entries_most)
 
 -- ---- the entry at a place
 
@@ -104,9 +101,7 @@ module _ (r : Kept) (flash : Flash) (arena : Frames) (es : List Entry) (s : RunO
 -- the cursor has the page that it came past last
 pub page_seen : (r : Kept) (flash : Flash) (arena : Frames) (es : List Entry) (c : Cursor) (p : ℕ) → RunOnFlash r flash arena es → p < length r.firsts → c.loaded ≡ suc p
     → (slice_get r.leases p ≡ None → page_at flash (page_of r p) ≡ whole c.bytes) → page_at flash (page_of r p) ≡ whole (bytes_in r arena c)
-page_seen r flash arena es c p s exists loaded own =
-    let same : p ≡ c.loaded - 1 = omega (arith, loaded) in
-    subst (λ (n : ℕ). page_at flash (page_of r p) ≡ whole (seen_bytes c.bytes arena (slice_get r.leases n))) same (seen_page r flash arena es s c.bytes p exists own (slice_get r.leases p) refl)
+page_seen r flash arena es c p s exists loaded own = search (arith, seen_page, c.bytes, r.leases)
 
 -- if it has a frame nothing is read
 pub come_pinned : (leases : List ℕ) (p lease a : ℕ) (old : BoardState) → slice_get leases p ≡ Some lease → a ≤ suc p → Reads (read_of leases a) (read_of leases (suc p)) old old
@@ -139,14 +134,7 @@ module _ (flash : Flash) (r : Kept) (es : List Entry) (position : Position) (c :
   -- it is put to where the walk begins
   pub Follows-begun : (place : ℕ) → c.loaded ≡ 0 → c.head ≡ None
       → wanted (is_wanted position) es ≡ wanted (is_wanted position) (drop place es) → Follows flash r es position (record c { place = place })
-  Follows-begun place none sought left = record {
-    pages = f.pages;
-    behind = omega (arith, none);
-    holds = λ unpinned e. absurd (omega (arith, none, e));
-    left = subst (λ (h : Head). wanted (is_wanted position) es ≡ held h ++ wanted (is_wanted position) (drop place es)) (sym sought) left;
-    ended = λ e. absurd (not_ended (sym sought ∙ e));
-    sure = λ has. let some = (f.sure has).0 in absurd (omega (arith, none, some));
-  }
+  Follows-begun place none sought left = search (arith)
 
 -- if the first wanted entry has to be looked for
 pub sought_left : (flash : Flash) (r : Kept) (es : List Entry) (position : Position) (c : Cursor)
@@ -170,16 +158,11 @@ stays_loaded flash r c d is exists here moved = record {
 
 -- and without it, if it could not be read
 pub stays_failed : (flash : Flash) (r : Kept) (c d : Cursor) (p : ℕ) → IsShape r.shape → p ≡ c.place / page_entries r.shape → c.loaded ≤ p → d ≡ record c { bytes = d.bytes } → StaysAt flash r c d
-stays_failed flash r c d p is same before kept = record {
-  place = kept ∙ (λ i. record c { loaded = (sym kept i).loaded; bytes = d.bytes });
-  follows = λ es position f. subst (Follows flash r es position) (sym kept) (Follows-kept flash r es position c is f d.bytes (omega (arith, same, before)));
-}
+stays_failed flash r c d p is same before kept = search (arith)
 
 -- fewer keys are wanted
 above_held : (position : Position) (key : Key) (es : List Entry) (n : ℕ) (h : Head) → T (is_wanted position key) → ((e : Entry) → h ≡ Some (Some e) → key_cmp e.0 key ≡ Less → ⊥)
     → wanted (is_wanted position) es ≡ held h ++ wanted (is_wanted position) (drop n es) → wanted (is_wanted (Above key)) es ≡ held (head_after key h) ++ wanted (is_wanted (Above key)) (drop n es)
-above_held position key es n None one high left = narrowed_behind (is_wanted (Above key)) (is_wanted position) es n (above_is_narrower position key one) left
-above_held position key es n (Some None) one high left = narrowed_behind (is_wanted (Above key)) (is_wanted position) es n (above_is_narrower position key one) left
 above_held position key es n (Some (Some e)) one high left =
     let v : Key → Bool = is_wanted (Above key) in
     let w : Key → Bool = is_wanted position in
@@ -192,6 +175,7 @@ above_held position key es n (Some (Some e)) one high left =
       | Equal ↦ λ p. rest
       | Greater ↦ λ p. ap (λ (xs : List Entry). e ∷ xs) rest
     ] refl
+above_held position key es n _ one high left = narrowed_behind (is_wanted (Above key)) (is_wanted position) es n (above_is_narrower position key one) left
 
 behind_ended : (key : Key) (h : Head) → head_after key h ≡ Some None → h ≡ Some None
 behind_ended key None e = cc
@@ -229,14 +213,7 @@ Follows-above flash r es position c f key one high known = record {
 
 -- at the start it follows any run
 pub Follows-start : (flash : Flash) (r : Kept) (es : List Entry) (position : Position) (c : Cursor) → Follows flash r es position (at_start c)
-Follows-start flash r es position c = record {
-  pages = omega arith;
-  behind = omega arith;
-  holds = λ none e. absurd (omega (arith, e));
-  left = refl;
-  ended = λ e. absurd (not_ended e);
-  sure = λ has. absurd (not_found has);
-}
+Follows-start flash r es position c = search (arith)
 
 -- ---- where a walk begins in a run
 
@@ -256,11 +233,7 @@ page_begins r flash arena es w key p is from for_key s =
 -- ---- reads
 
 pub looked : (leases : List ℕ) (loaded p : ℕ) (old new : BoardState) → loaded ≤ p → new ≡ after_look (slice_get leases p) old → Reads (read_of leases loaded) (read_of leases (suc p)) old new
-looked leases loaded p old new h e = by_frame (slice_get leases p) refl e
-  where
-    by_frame : (o : Option ℕ) → slice_get leases p ≡ o → new ≡ after_look o old → Reads (read_of leases loaded) (read_of leases (suc p)) old new
-    by_frame None got e = let past = seen_nowhere leases p got in (1, omega (arith, h, past), e)
-    by_frame (Some l) got e = let there = slice_get_within leases p l got in (0, omega (arith, h, there), e)
+looked leases loaded p old new h e = search (arith, seen_nowhere, slice_get_within)
 
 -- ---- a cursor that skips no page
 
@@ -279,11 +252,7 @@ pub HasPassed-begun : (c d : Cursor) → d ≡ record c { place = d.place } → 
 HasPassed-begun c d same none = omega (arith, none)
 
 pub looked_all : (leases : List ℕ) (loaded p : ℕ) (old new : BoardState) → loaded ≡ p → new ≡ after_look (slice_get leases p) old → ReadsAll (read_of leases loaded) (read_of leases (suc p)) old new
-looked_all leases loaded p old new h e = by_frame (slice_get leases p) refl e
-  where
-    by_frame : (o : Option ℕ) → slice_get leases p ≡ o → new ≡ after_look o old → ReadsAll (read_of leases loaded) (read_of leases (suc p)) old new
-    by_frame None got e = let past = seen_nowhere leases p got in (1, omega (arith, h, past), e)
-    by_frame (Some l) got e = let there = slice_get_within leases p l got in (0, omega (arith, h, there), e)
+looked_all leases loaded p old new h e = search (arith, seen_nowhere, slice_get_within)
 
 -- after a look at the page of its place
 pub head_here : (r : Kept) (c d : Cursor) → IsShape r.shape → c.shape ≡ r.shape
@@ -294,17 +263,10 @@ head_here r c d is same moved =
 
 pub head_all : (r : Kept) (c d : Cursor) (p : ℕ) (old new : BoardState) → c.shape ≡ r.shape → p ≡ c.place / page_entries r.shape → d.loaded ≡ suc p
     → (p ≤ c.loaded → ReadsAll (read_of r.leases c.loaded) (read_of r.leases (suc p)) old new) → HasPassed c → ReadsAll (read_of r.leases c.loaded) (read_of r.leases d.loaded) old new
-head_all r c d p old new same page loaded every passed =
-    let comes = subst (λ (shape : Shape). c.place / page_entries shape ≤ c.loaded) same (page_comes c passed) in
-    subst (λ (n : ℕ). ReadsAll (read_of r.leases c.loaded) (read_of r.leases n) old new) (sym loaded) (every (omega (arith, page, comes)))
+head_all r c d p old new same page loaded every passed = search (arith, page_comes, r.leases)
 
 -- after the last entry it has passed each page
 pub all_come : (r : Kept) (flash : Flash) (arena : Frames) (es : List Entry) (position : Position) (c : Cursor)
     → IsShape r.shape → c.shape ≡ r.shape → RunOnFlash r flash arena es → Follows flash r es position c
     → r.count ≤ c.place → HasPassed c → c.loaded ≡ length r.firsts
-all_come r flash arena es position c is same s f past passed =
-    let own = subst (λ (shape : Shape). c.place ≤ c.loaded * page_entries shape) same passed in
-    let few = ceil_most r.count (page_entries r.shape) c.loaded (entries_some r.shape is) (omega (arith, past, own)) in
-    let pages = s.pages in
-    let most = f.pages in
-    omega (arith, few, pages, most)
+all_come r flash arena es position c is same s f past passed = search (arith, ceil_most, entries_some, c.loaded, r.count, r.shape, s.pages, f.pages)

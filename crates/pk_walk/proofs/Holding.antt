@@ -67,11 +67,7 @@ module _ {r : Kept} {arena : Frames} {position : Position} {old new : BoardState
 
   goes_on_held : (answer : Option RustEntry) → IsShape r.shape → c.shape ≡ r.shape → FindsIn r arena position old new c d answer → GoesOn old.pages arena r position c d
       → GoesOn old.pages arena r position c (holding (option_map seen answer) d)
-  goes_on_held None is same f on = record {
-    follows = λ es s. holds_none r old.pages es position d (on.follows es s) f.sought (f.past refl);
-    shape = on.shape;
-    passed = on.passed;
-  }
+  goes_on_held None is same f on = search (holds_none, on.follows, f.sought, f.past)
   goes_on_held (Some e) is same f on = record {
     follows = λ es s. holds_entry r old.pages arena es position d (seen e) is s (on.follows es s) f.sought (f.at e refl) (f.found es s);
     shape = on.shape;
@@ -117,12 +113,7 @@ module _ {r : Kept} {arena : Frames} {position : Position} {old : BoardState} {c
       omega (arith, low, most)
 
   pub ready_here : AtPage r old.pages arena c
-  ready_here = record {
-    shape = may.shape_is;
-    inside = ready.1;
-    page = page_seen r old.pages arena may.entries c (c.place / page_entries r.shape) may.stands (page_exists r c.place is kept ready.1) ready_loaded (λ none. may.follows.holds none ready_loaded);
-    loaded = ready_loaded;
-  }
+  ready_here = search (page_seen r old.pages arena may.entries c (c.place / page_entries r.shape) may.stands (page_exists r c.place is kept ready.1) ready_loaded (λ none. may.follows.holds none ready_loaded), ready_loaded)
 
   pub ready_finds : {e : RustEntry}
       → ((level index : ℕ) (entries : List Entry) → IsMetaPage c.shape (bytes_in r arena c) level index entries → slice_get entries (c.place % page_entries c.shape) ≡ Some (seen e))
@@ -141,10 +132,7 @@ module _ {r : Kept} {arena : Frames} {position : Position} {old : BoardState} {c
       there ys t = entry_here is kept t ready_here (seen e) shows
 
       first : Some (seen e) ≡ first_of (wanted (is_wanted position) may.entries)
-      first =
-          let next = (may.follows.sure ready.0).1 c.place (seen e) (omega arith) (there may.entries may.stands) in
-          let one : T (is_wanted position (seen e).0) = subst (λ (h : Head). IsNextWanted position h (seen e)) sought next in
-          first_here (is_wanted position) may.entries c.place (seen e) (there may.entries may.stands) (is_true _ one) (sought_left old.pages r may.entries position c may.follows sought)
+      first = search (arith, there, first_here, is_true, sought_left, c.place)
 
 -- if it is not known it has to be looked for
 pub unknown : (h : Head) → is_some h ≡ false → h ≡ None

@@ -15,9 +15,8 @@ use Rattle.pk_walk.specs.Orders.{AreKept, EachKept, IsOrder, IsSettled, MayKeep,
 -- ---- nothing is kept
 
 none_each : (hs rest : List Head) (os : List (Option Ordering)) → AllByRecursion (λ (o : Option Ordering). o ≡ None) os → EachKept hs rest os
-none_each hs [] os none = tt
-none_each hs (h ∷ rest) [] none = tt
 none_each hs (h ∷ rest) (o ∷ os) none = (subst (MayKeep hs h) (sym none.0) tt, none_each (hs ++ h ∷ []) rest os none.1)
+none_each hs _ _ none = tt
 
 pub none_kept : (t : Tops) (cs : List Cursor) (k : RustKeptOrders) → k ≡ no_orders → AreKept t cs k
 none_kept t cs k is =
@@ -33,21 +32,18 @@ is_kept hs u h (Some o) top kept = kept.is ∙ ap (λ (l : Option Entry). order_
 
 abbrev pub Stay : List Head → List Head → Type 0
 Stay [] [] = ⊤
-Stay [] (k ∷ ks) = ⊥
-Stay (h ∷ hs) [] = ⊥
 Stay (h ∷ hs) (k ∷ ks) = (IsSettled h → entry_in k ≡ entry_in h) × Stay hs ks
+Stay _ _ = ⊥
 
 least_stays : (hs ks : List Head) → Stay hs ks → AllByRecursion IsSettled hs → least_of ks ≡ least_of hs
 least_stays [] [] same s = refl
-least_stays [] (k ∷ ks) same s = absurd same
-least_stays (h ∷ hs) [] same s = absurd same
 least_stays (h ∷ hs) (k ∷ ks) same s = λ i. lesser (same.0 s.0 i) (least_stays hs ks same.1 s.1 i)
+least_stays _ _ same s = absurd same
 
 stay_more : (hs ks : List Head) (h k : Head) → Stay hs ks → (IsSettled h → entry_in k ≡ entry_in h) → Stay (hs ++ h ∷ []) (ks ++ k ∷ [])
 stay_more [] [] h k same one = (one, tt)
-stay_more [] (y ∷ ks) h k same one = absurd same
-stay_more (x ∷ hs) [] h k same one = absurd same
 stay_more (x ∷ hs) (y ∷ ks) h k same one = (same.0, stay_more hs ks h k same.1 one)
+stay_more _ _ h k same one = absurd same
 
 settled_more : (hs : List Head) (h : Head) → AllByRecursion IsSettled hs → IsSettled h → AllByRecursion IsSettled (hs ++ h ∷ [])
 settled_more [] h s one = (one, tt)
@@ -62,14 +58,13 @@ one_stays hs ks h k (Some o) same one s settled kept =
 
 each_stays : (hs ks rest next : List Head) (os : List (Option Ordering)) → Stay hs ks → Stay rest next
     → AllByRecursion IsSettled ks → AllByRecursion IsSettled next → EachKept hs rest os → EachKept ks next os
-each_stays hs ks [] [] os same more s settled kept = tt
 each_stays hs ks [] (k ∷ next) os same more s settled kept = absurd more
 each_stays hs ks (h ∷ rest) [] os same more s settled kept = absurd more
-each_stays hs ks (h ∷ rest) (k ∷ next) [] same more s settled kept = tt
 each_stays hs ks (h ∷ rest) (k ∷ next) (o ∷ os) same more s settled kept = (
   one_stays hs ks h k o same more.0 s settled.0 kept.0,
   each_stays (hs ++ h ∷ []) (ks ++ k ∷ []) rest next os (stay_more hs ks h k same more.0) more.1 (settled_more ks k s settled.0) settled.1 kept.1,
 )
+each_stays hs ks _ _ _ same more s settled kept = tt
 
 -- ---- over a search
 
@@ -78,16 +73,15 @@ cursors_stay : (flash : Flash) (arena : Frames) (position : Position) (rs : List
     → length rs ≡ length cs → length rs ≡ length ds → RunsOnFlash flash arena rs ess
     → FollowEach flash rs ess position cs → FollowEach flash rs ess position ds → AllByRecursion IsKnown ds → Stay (heads_of cs) (heads_of ds)
 cursors_stay flash arena position [] ess [] [] many same s f g known = tt
-cursors_stay flash arena position [] ess (c ∷ cs) ds many same s f g known = absurd (omega (arith, many))
 cursors_stay flash arena position [] ess [] (d ∷ ds) many same s f g known = absurd (omega (arith, same))
 cursors_stay flash arena position (r ∷ rs) [] cs ds many same s f g known = absurd s
-cursors_stay flash arena position (r ∷ rs) (es ∷ ess) [] ds many same s f g known = absurd (omega (arith, many))
 cursors_stay flash arena position (r ∷ rs) (es ∷ ess) (c ∷ cs) [] many same s f g known = absurd (omega (arith, same))
 cursors_stay flash arena position (r ∷ rs) (es ∷ ess) (c ∷ cs) (d ∷ ds) many same s f g known =
     let now = known_head (is_wanted position) es d.place r.count d.head s.0.many g.0.left g.0.ended known.0 in (
       λ settled. now ∙ sym (known_head (is_wanted position) es c.place r.count c.head s.0.many f.0.left f.0.ended settled),
       cursors_stay flash arena position rs ess cs ds (omega (arith, many)) (omega (arith, same)) s.1 f.1 g.1 known.1,
     )
+cursors_stay flash arena position _ _ _ ds many same s f g known = absurd (omega (arith, many))
 
 cursors_settled : (cs : List Cursor) → AllByRecursion IsKnown cs → AllByRecursion IsSettled (heads_of cs)
 cursors_settled [] known = tt

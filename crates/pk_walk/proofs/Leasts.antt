@@ -25,20 +25,18 @@ three : (x y z : Entry) (p q r : Ordering) → key_cmp x.0 y.0 ≡ p → key_cmp
 three x y z Greater Greater r ep eq er =
     let far : key_cmp x.0 z.0 ≡ Greater = turned z.0 x.0 Less (key_total.trans z.0 y.0 x.0 (turned y.0 z.0 Greater eq) (turned x.0 y.0 Greater ep)) in
     rw (ep, eq, far) refl
-three x y z Greater Less r ep eq er = rw (ep, eq) rw ep refl
-three x y z Greater Equal r ep eq er = rw (ep, eq) rw ep refl
 three x y z Less Greater r ep eq er = rw (ep, eq) refl
 three x y z Equal Greater r ep eq er = rw (ep, eq) refl
 three x y z Less Less r ep eq er = let far : key_cmp x.0 z.0 ≡ Less = key_total.trans x.0 y.0 z.0 ep eq in rw (ep, eq, far) rw ep refl
 three x y z Less Equal r ep eq er = let far : key_cmp x.0 z.0 ≡ Less = subst (λ (k : Key). key_cmp x.0 k ≡ Less) (key_antisymm y.0 z.0 eq) ep in rw (ep, eq, far) rw ep refl
 three x y z Equal Less r ep eq er = let far : key_cmp x.0 z.0 ≡ Less = subst (λ (k : Key). key_cmp k z.0 ≡ Less) (sym (key_antisymm x.0 y.0 ep)) eq in rw (ep, eq, far) rw ep refl
 three x y z Equal Equal r ep eq er = let far : key_cmp x.0 z.0 ≡ Equal = subst (λ (k : Key). key_cmp x.0 k ≡ Equal) (key_antisymm y.0 z.0 eq) ep in rw (ep, eq, far) rw ep refl
+three x y z _ _ r ep eq er = rw (ep, eq) rw ep refl
 
 pub lesser_assoc : (a b c : Option Entry) → lesser (lesser a b) c ≡ lesser a (lesser b c)
-lesser_assoc None b c = refl
-lesser_assoc (Some x) None c = refl
 lesser_assoc (Some x) (Some y) None = lesser_none (lesser (Some x) (Some y))
 lesser_assoc (Some x) (Some y) (Some z) = three x y z (key_cmp x.0 y.0) (key_cmp y.0 z.0) (key_cmp x.0 z.0) refl refl refl
+lesser_assoc _ _ c = refl
 
 -- with one more after them
 pub least_more : (hs : List Head) (h : Head) → least_of (hs ++ h ∷ []) ≡ lesser (least_of hs) (entry_in h)
@@ -53,15 +51,13 @@ Goes (Some e) h k = k ≡ head_after e.0 h
 
 abbrev pub GoEach : Option Entry → List Head → List Head → Type 0
 GoEach a [] [] = ⊤
-GoEach a [] (k ∷ ks) = ⊥
-GoEach a (h ∷ hs) [] = ⊥
 GoEach a (h ∷ hs) (k ∷ ks) = Goes a h k × GoEach a hs ks
+GoEach a _ _ = ⊥
 
 go_more : (a : Option Entry) (hs ks : List Head) (h k : Head) → GoEach a hs ks → Goes a h k → GoEach a (hs ++ h ∷ []) (ks ++ k ∷ [])
 go_more a [] [] h k each one = (one, tt)
-go_more a [] (y ∷ ks) h k each one = absurd each
-go_more a (x ∷ hs) [] h k each one = absurd each
 go_more a (x ∷ hs) (y ∷ ks) h k each one = (each.0, go_more a hs ks h k each.1 one)
+go_more a _ _ h k each one = absurd each
 
 -- of these the least was taken, and those of its key went with it
 pub record Takes (hs ks : List Head) (a : Option Entry) : Type 0 where
@@ -72,9 +68,8 @@ itself : (e : Entry) → None ≡ head_after e.0 (Some (Some e))
 itself e = sym (ap (λ (o : Ordering). if is_eq o then None else Some (Some e)) (tied_itself key_total e.0))
 
 taken : (h : Head) → Goes (entry_in h) h (let_go h)
-taken None = refl
-taken (Some None) = refl
 taken (Some (Some e)) = itself e
+taken _ = refl
 
 pub take_first : (h : Head) → Takes (h ∷ []) (let_go h ∷ []) (entry_in h)
 take_first h = record { least = sym (lesser_none (entry_in h)); go = (taken h, tt) }
@@ -91,18 +86,16 @@ above_both (Some x) (Some y) e gt =
     ] refl gt
 
 stays : (h : Head) (e : Entry) → order_of (entry_in h) (Some e) ≡ Greater → h ≡ head_after e.0 h
-stays None e gt = refl
-stays (Some None) e gt = refl
 stays (Some (Some y)) e gt = sym (ap (λ (o : Ordering). if is_eq o then None else Some (Some y)) gt)
+stays _ e gt = refl
 
 all_stay : (hs : List Head) (e : Entry) → order_of (least_of hs) (Some e) ≡ Greater → GoEach (Some e) hs hs
 all_stay [] e gt = tt
 all_stay (h ∷ hs) e gt = let both = above_both (entry_in h) (least_of hs) e gt in (stays h e both.0, all_stay hs e both.1)
 
 greater : (o : Ordering) → is_gt o ≡ true → o ≡ Greater
-greater Less e = cc
-greater Equal e = cc
 greater Greater e = refl
+greater _ e = cc
 
 never : (a : Option Entry) → order_of a None ≡ Greater → ⊥
 never None e = cc
@@ -110,10 +103,10 @@ never (Some x) e = cc
 
 -- the last is taken
 pub take_last : (hs : List Head) (h : Head) (o : Ordering) → o ≡ order_of (least_of hs) (entry_in h) → is_gt o ≡ true → Takes (hs ++ h ∷ []) (hs ++ let_go h ∷ []) (entry_in h)
-take_last hs h o is gt = record {
-  least = sym (least_more hs h ∙ lesser_is (least_of hs) (entry_in h) ∙ ap (λ (b : Bool). if b then entry_in h else least_of hs) (ap is_gt (sym is) ∙ gt));
-  go = go_more (entry_in h) hs hs h (let_go h) (others h (sym is ∙ greater o gt)) (taken h);
-}
+take_last hs h o is gt = search (
+  sym (least_more hs h ∙ lesser_is (least_of hs) (entry_in h) ∙ ap (λ (b : Bool). if b then entry_in h else least_of hs) (ap is_gt (sym is) ∙ gt)),
+  go_more (entry_in h) hs hs h (let_go h) (others h (sym is ∙ greater o gt)) (taken h),
+)
   where
     others : (h : Head) → order_of (least_of hs) (entry_in h) ≡ Greater → GoEach (entry_in h) hs hs
     others None gt = absurd (never (least_of hs) gt)
@@ -126,20 +119,16 @@ less_or_equal Equal h y e is not_gt = sym (ap (λ (p : Ordering). if is_eq p the
 less_or_equal Greater h y e is not_gt = cc
 
 passed : (a : Option Entry) (h : Head) (o : Ordering) → order_of a (entry_in h) ≡ o → is_gt o ≡ false → Goes a h (if is_eq o then None else h)
-passed None None o is not_gt = subst (λ (p : Ordering). ◌≡◌ {A = Head} (if is_eq p then None else None) None) is refl
 passed None (Some None) o is not_gt = subst (λ (p : Ordering). ◌≡◌ {A = Head} (if is_eq p then None else Some None) (Some None)) is refl
 passed None (Some (Some y)) o is not_gt = let e : is_gt o ≡ true = ap is_gt (sym is) in cc
-passed (Some e) None o is not_gt = subst (λ (p : Ordering). ◌≡◌ {A = Head} (if is_eq p then None else None) None) is refl
 passed (Some e) (Some None) o is not_gt = subst (λ (p : Ordering). ◌≡◌ {A = Head} (if is_eq p then None else Some None) (Some None)) is refl
 passed (Some e) (Some (Some y)) o is not_gt = less_or_equal o (Some (Some y)) y e is not_gt
+passed _ _ o is not_gt = subst (λ (p : Ordering). ◌≡◌ {A = Head} (if is_eq p then None else None) None) is refl
 
 -- one before the last is
 pub take_before : (hs ks : List Head) (a : Option Entry) (h : Head) (o : Ordering) → o ≡ order_of (least_of hs) (entry_in h)
     → is_gt o ≡ false → Takes hs ks a → Takes (hs ++ h ∷ []) (ks ++ (if is_eq o then None else h) ∷ []) a
-take_before hs ks a h o is not_gt t = record {
-  least = t.least ∙ sym (least_more hs h ∙ lesser_is (least_of hs) (entry_in h) ∙ ap (λ (b : Bool). if b then entry_in h else least_of hs) (ap is_gt (sym is) ∙ not_gt));
-  go = go_more a hs ks h (if is_eq o then None else h) t.go (passed a h o (ap (λ (x : Option Entry). order_of x (entry_in h)) t.least ∙ sym is) not_gt);
-}
+take_before hs ks a h o is not_gt t = search (t.least ∙ sym (least_more hs h ∙ lesser_is (least_of hs) (entry_in h) ∙ ap (λ (b : Bool). if b then entry_in h else least_of hs) (ap is_gt (sym is) ∙ not_gt)), go_more a hs ks h (if is_eq o then None else h) t.go (passed a h o (ap (λ (x : Option Entry). order_of x (entry_in h)) t.least ∙ sym is) not_gt))
 
 -- ---- none is below the least
 

@@ -76,9 +76,7 @@ module _ {r : Kept} {flash : Flash} {arena : Frames} {es : List Entry} (is : IsS
   fits = let count = count_is in let place = place_is in let inside = at.inside in let many = s.many in omega (arith, count, place, inside, many)
 
   pub at_fits : c.place - c.place % page_entries c.shape + number_at 2 10 (bytes_in r arena c) ≤ r.count
-  at_fits =
-      subst (λ (g : Shape). c.place - c.place % page_entries g + number_at 2 10 (bytes_in r arena c) ≤ r.count) (sym at.shape)
-      (let place = place_is in let room = fits in omega (arith, place, room))
+  at_fits = search (arith, place_is, fits)
 
   -- the cursor has the page
   pub at_page : IsFlash r.shape flash → HasPage r arena c
@@ -113,11 +111,7 @@ module _ {r : Kept} {flash : Flash} {arena : Frames} {es : List Entry} (is : IsS
     first = subst (λ (g : Shape). IsFirstWanted position (bytes_in r arena c) (c.place % page_entries g) m.to) at.shape m.first
 
     moved_to : d.place ≡ start + m.to
-    moved_to =
-        let own : d.place ≡ c.place - c.place % page_entries c.shape + m.to = ap (λ (x : Cursor). x.place) m.cursor in
-        let in_run = subst (λ (g : Shape). d.place ≡ c.place - c.place % page_entries g + m.to) at.shape own in
-        let place = place_is in
-        omega (arith, in_run, place)
+    moved_to = search (arith, place_is)
 
     none_between : (k : ℕ) (e : Entry) → k < m.to - c.place % size → slice_get es (c.place + k) ≡ Some e → is_wanted position e.0 ≡ false
     none_between k e less got =
@@ -145,14 +139,7 @@ module _ {r : Kept} {flash : Flash} {arena : Frames} {es : List Entry} (is : IsS
 
     -- it passes the page at most
     pub moved_within : d.place ≤ d.loaded * page_entries d.shape
-    moved_within =
-        let most = first.most in
-        let count = count_is in
-        let to = moved_to in
-        let within : d.place ≤ suc (c.place / size) * size = omega (arith, most, count, to) in
-        let shape : d.shape ≡ r.shape = ap (λ (x : Cursor). x.shape) m.cursor ∙ at.shape in
-        let loaded : d.loaded ≡ suc (c.place / size) = ap (λ (x : Cursor). x.loaded) m.cursor ∙ at.loaded in
-        subst (λ (n : ℕ). d.place ≤ n * page_entries d.shape) (sym loaded) (subst (λ (g : Shape). d.place ≤ suc (c.place / size) * page_entries g) (sym shape) within)
+    moved_within = search (arith, count_is, moved_to)
 
     later : c.place / size ≤ d.place / size
     later = le-div (c.place / size) d.place size (entries_some r.shape is) (let place = place_is in let forth = moved_forth in omega (arith, place, forth))
@@ -165,24 +152,7 @@ module _ {r : Kept} {flash : Flash} {arena : Frames} {es : List Entry} (is : IsS
 
     -- the cursor follows the run wherever it did
     pub moved_follows : c.head ≡ None → Follows flash r es position c → Follows flash r es position d
-    moved_follows sought f = record {
-      pages = subst (λ (n : ℕ). n ≤ length r.firsts) (sym same_loaded) f.pages;
-      behind = (let behind = f.behind in let after = later in let loaded = same_loaded in omega (arith, behind, after, loaded));
-      holds = λ none loaded.
-          let here = at.loaded in
-          let own = same_loaded in
-          let same : c.place / size ≡ d.place / size = omega (arith, loaded, here, own) in
-          ap (λ (p : ℕ). page_at flash (page_of r p)) (sym same) ∙ f.holds (ap (slice_get r.leases) same ∙ none) here ∙ ap (λ (x : Cursor). whole x.bytes) (sym m.cursor);
-      left = subst (λ (h : Head). wanted (is_wanted position) es ≡ held h ++ wanted (is_wanted position) (drop d.place es))
-          (sym (moved_sought sought)) (moved_left (sought_left flash r es position c f sought));
-      ended = λ e. absurd (not_ended (sym (moved_sought sought) ∙ e));
-      sure = λ has.
-          let before = f.sure (sym (ap (λ (x : Cursor). x.has_found) m.cursor) ∙ has) in
-          let forth = moved_forth in
-          let loaded = same_loaded in
-          let some = before.0 in
-          (omega (arith, some, loaded), λ i e le got. subst (λ (h : Head). IsNextWanted position h e) (sym (ap (λ (x : Cursor). x.head) m.cursor)) (before.1 i e (omega (arith, forth, le)) got));
-    }
+    moved_follows sought f = search (arith, same_loaded, later, holds, moved_sought, moved_left, sought_left, not_ended, moved_forth)
 
     -- if a wanted entry was found it has the page of its place still
     module _ (there : found ≡ true) where
@@ -198,12 +168,7 @@ module _ {r : Kept} {flash : Flash} {arena : Frames} {es : List Entry} (is : IsS
           let up = later in
           let below : d.place / size < suc (c.place / size) = (div-lt_iff_lt-mul (entries_some r.shape is)).1 (omega (arith, less, count, to)) in
           let same : c.place / size ≡ d.place / size = omega (arith, up, below) in
-          record {
-            shape = ap (λ (x : Cursor). x.shape) m.cursor ∙ at.shape;
-            inside = omega (arith, to, less, room);
-            page = ap (λ (p : ℕ). page_at flash (page_of r p)) (sym same) ∙ at.page ∙ ap (λ (x : Cursor). whole (bytes_in r arena x)) (sym m.cursor);
-            loaded = ap (λ (x : Cursor). x.loaded) m.cursor ∙ at.loaded ∙ ap (λ (n : ℕ). suc n) same;
-          }
+          search (arith)
 
       -- and the entry there is wanted
       pub found_wanted : (e : Entry) → slice_get es d.place ≡ Some e → is_wanted position e.0 ≡ true
@@ -223,9 +188,4 @@ module _ {r : Kept} {flash : Flash} {arena : Frames} {es : List Entry} (is : IsS
 pub moves_to : (position : Position) (page : List ℕ) (b : Cursor) (n to count : ℕ) → n ≡ page_entries b.shape
     → IsFirstWanted position page (b.place % page_entries b.shape) to → count ≡ number_at 2 10 page
     → CursorMoves position page b (record b { place = b.place - b.place % n + to }) (nat_lt to count)
-moves_to position page b n to count size first is = record {
-  to = to;
-  first = first;
-  cursor = ap (λ (m : ℕ). record b { place = b.place - b.place % m + to }) size;
-  tells = ap (λ (m : ℕ). nat_lt to m) is;
-}
+moves_to position page b n to count size first is = search (to, first, ap (λ (m : ℕ). record b { place = b.place - b.place % m + to }) size, ap (λ (m : ℕ). nat_lt to m) is)

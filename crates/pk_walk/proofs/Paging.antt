@@ -47,43 +47,16 @@ pub record Sought (position : Position) (page : List ℕ) (from low high : ℕ) 
   pub at : high < number_at 2 10 page → is_wanted position (place_key page high) ≡ true
 
 pub Sought-all : (position : Position) (page : List ℕ) (from high : ℕ) → from ≤ number_at 2 10 page → high ≡ number_at 2 10 page → Sought position page from from high
-Sought-all position page from high within all = record {
-  forth = omega arith;
-  order = omega (arith, within, all);
-  end = omega (arith, all);
-  before = λ k le less. absurd (omega (arith, le, less));
-  at = λ less. absurd (omega (arith, less, all));
-}
+Sought-all position page from high within all = search (arith)
 
 module _ (position : Position) (page : List ℕ) (from low high middle : ℕ) (s : Sought position page from low high) (within : low ≤ middle) (less : middle < high) where
   -- the first is at the middle or before it
   pub Sought-left : is_wanted position (place_key page middle) ≡ true → Sought position page from low middle
-  Sought-left one = record {
-    forth = s.forth;
-    order = within;
-    end = (let end = s.end in omega (arith, end, less));
-    before = s.before;
-    at = λ inside. one;
-  }
+  Sought-left one = search (arith)
 
   -- it is after the middle
   pub Sought-right : (g : Shape) → IsShape g → Decodes g page → is_wanted position (place_key page middle) ≡ false → Sought position page from (middle + 1) high
-  Sought-right g shape decodes none = record {
-    forth = (let forth = s.forth in omega (arith, forth, within));
-    order = omega (arith, less);
-    end = s.end;
-    before = λ k le behind. not_before g page shape decodes position k middle (omega (arith, behind)) (let end = s.end in omega (arith, end, less)) none;
-    at = s.at;
-  }
+  Sought-right g shape decodes none = search (arith, not_before)
 
 pub Sought-found : (position : Position) (page : List ℕ) (from low high : ℕ) → Sought position page from low high → high ≤ low → IsFirstWanted position page from low
-Sought-found position page from low high s over =
-    let order = s.order in
-    let same : high ≡ low = omega (arith, over, order) in
-    let end = s.end in
-    record {
-      forth = s.forth;
-      most = omega (arith, end, same);
-      before = s.before;
-      at = λ less. subst (λ (n : ℕ). is_wanted position (place_key page n) ≡ true) same (s.at (omega (arith, less, same)));
-    }
+Sought-found position page from low high s over = search (arith, s.order, s.end)

@@ -24,33 +24,24 @@ same_list xs ys e = cc
 
 follow_at : (flash : Flash) (position : Position) (rs : List Kept) (ess : List (List Entry)) (cs : List Cursor) (i : ℕ) (r : Kept) (es : List Entry) (c : Cursor)
     → FollowEach flash rs ess position cs → slice_get rs i ≡ Some r → slice_get ess i ≡ Some es → slice_get cs i ≡ Some c → Follows flash r es position c
-follow_at flash position [] ess cs i r es c f er ee ec = cc
-follow_at flash position (x ∷ rs) [] cs i r es c f er ee ec = cc
-follow_at flash position (x ∷ rs) (ys ∷ ess) [] i r es c f er ee ec = cc
 follow_at flash position (x ∷ rs) (ys ∷ ess) (d ∷ cs) zero r es c f er ee ec =
     subst (λ (q : Kept). Follows flash q es position c) (same_run x r er)
     (subst (λ (xs : List Entry). Follows flash x xs position c) (same_list ys es ee) (subst (Follows flash x ys position) (same_cursor d c ec) f.0))
 follow_at flash position (x ∷ rs) (ys ∷ ess) (d ∷ cs) (suc i) r es c f er ee ec = follow_at flash position rs ess cs i r es c f.1 er ee ec
+follow_at flash position _ _ _ i r es c f er ee ec = cc
 
 follow_set : (flash : Flash) (position : Position) (rs : List Kept) (ess : List (List Entry)) (cs : List Cursor) (i : ℕ) (r : Kept) (es : List Entry) (c : Cursor)
     → FollowEach flash rs ess position cs → slice_get rs i ≡ Some r → slice_get ess i ≡ Some es → Follows flash r es position c → FollowEach flash rs ess position (slice_set cs i c)
-follow_set flash position [] ess cs i r es c f er ee now = tt
-follow_set flash position (x ∷ rs) [] cs i r es c f er ee now = tt
-follow_set flash position (x ∷ rs) (ys ∷ ess) [] i r es c f er ee now = tt
 follow_set flash position (x ∷ rs) (ys ∷ ess) (d ∷ cs) zero r es c f er ee now =
     (subst (λ (q : Kept). Follows flash q ys position c) (sym (same_run x r er)) (subst (λ (xs : List Entry). Follows flash r xs position c) (sym (same_list ys es ee)) now), f.1)
 follow_set flash position (x ∷ rs) (ys ∷ ess) (d ∷ cs) (suc i) r es c f er ee now = (f.0, follow_set flash position rs ess cs i r es c f.1 er ee now)
+follow_set flash position _ _ _ i r es c f er ee now = tt
 
 read_set : (rs : List Kept) (cs : List Cursor) (i : ℕ) (r : Kept) (c d : Cursor) → slice_get rs i ≡ Some r → slice_get cs i ≡ Some c
     → pages_read rs (slice_set cs i d) + read_of r.leases c.loaded ≡ pages_read rs cs + read_of r.leases d.loaded
-read_set [] cs i r c d er ec = cc
-read_set (x ∷ rs) [] i r c d er ec = cc
-read_set (x ∷ rs) (y ∷ cs) zero r c d er ec =
-    let run = same_run x r er in
-    let own : read_of x.leases y.loaded ≡ read_of r.leases c.loaded = (λ j. read_of (run j).leases (same_cursor y c ec j).loaded) in
-    let other : read_of x.leases d.loaded ≡ read_of r.leases d.loaded = (λ j. read_of (run j).leases d.loaded) in
-    omega (arith, own, other)
+read_set (x ∷ rs) (y ∷ cs) zero r c d er ec = search (arith, same_run, same_cursor, x.leases, r.leases)
 read_set (x ∷ rs) (y ∷ cs) (suc i) r c d er ec = let rest = read_set rs cs i r c d er ec in omega (arith, rest)
+read_set _ _ i r c d er ec = cc
 
 shape_at : (shape : Shape) (cs : List Cursor) (i : ℕ) (c : Cursor) → AreOfShape shape cs → slice_get cs i ≡ Some c → c.shape ≡ shape
 shape_at shape [] i c are ec = cc
@@ -79,10 +70,7 @@ index_is (x ∷ rs) (suc i) r h = index_is rs i r (omega (arith, h))
 
 -- the run of a level
 pub run_at : {levels : Levels} → IsLevels levels → (i : ℕ) → i < 4 → {r : Kept} → r ≡ run_of levels (suc i) → slice_get levels.runs i ≡ Some r
-run_at {levels} is i h {r} same =
-    let here : i ≡ suc i - 1 = omega arith in
-    index_is levels.runs i (empty levels.shape (suc i)) (omega (arith, h, is.four)) ∙ ap (λ (k : ℕ). Some (slice_index_or levels.runs k (empty levels.shape (suc i)))) here
-    ∙ ap (λ (x : Kept). Some x) (sym same)
+run_at {levels} is i h {r} same = search (arith, index_is, levels.runs, levels.shape)
 
 -- ---- the search
 
@@ -135,14 +123,13 @@ module _ {levels : Levels} {arena : Frames} {position : Position} {old now : Boa
 
     -- it may be searched
     pub Rows-may : MaySeek r arena position now c
-    Rows-may = record {
-      ready = subst (IsReady now) (sym same_shape) at.ready;
-      shape_is = shape_at levels.shape cs i c at.shape cursor_is ∙ sym same_shape;
-      entries = own.0;
-      stands = subst (λ (flash : Flash). RunOnFlash r flash arena own.0) (sym same_pages) own.2;
-      follows = subst (λ (flash : Flash). Follows flash r own.0 position c) (sym same_pages)
-          (follow_at old.pages position levels.runs at.ess cs i r own.0 c at.follow here own.1 cursor_is);
-    }
+    Rows-may = search (
+      subst (IsReady now) (sym same_shape) at.ready,
+      shape_at levels.shape cs i c at.shape cursor_is ∙ sym same_shape,
+      own.0,
+      subst (λ (flash : Flash). RunOnFlash r flash arena own.0) (sym same_pages) own.2,
+      subst (λ (flash : Flash). Follows flash r own.0 position c) (sym same_pages) (follow_at old.pages position levels.runs at.ess cs i r own.0 c at.follow here own.1 cursor_is),
+    )
 
     -- if a read failed, the cursor is where it came to
     pub Rows-failed : {next : BoardState} {d : Cursor} {fault : Fault} → FailsToSeek r now next c d fault

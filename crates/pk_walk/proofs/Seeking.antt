@@ -43,9 +43,7 @@ Reads-rest a b old new reads =
 
 pub ReadsFail-rest : (a b : ℕ) (old new : BoardState) → ReadsFail a b old new
     → new ≡ record old { reads = new.reads; flash_faults = new.flash_faults; read_faults = new.read_faults; failed_at = new.failed_at }
-ReadsFail-rest a b old new (k, page, few, failed) =
-    let back = sym failed.rest in
-    failed.rest ∙ (λ i. record old { reads = (back i).reads; flash_faults = new.flash_faults; read_faults = new.read_faults; failed_at = (back i).failed_at })
+ReadsFail-rest a b old new (k, page, few, failed) = search (failed.rest)
 
 -- ---- a run has one list of entries
 
@@ -55,11 +53,10 @@ one_list r flash arena xs ys s t = ok_same xs ys (sym s.read ∙ t.read)
 -- of several runs
 pub one_of_each : (flash : Flash) (arena : Frames) (rs : List Kept) (xss yss : List (List Entry)) → RunsOnFlash flash arena rs xss → RunsOnFlash flash arena rs yss → xss ≡ yss
 one_of_each flash arena [] [] [] s t = refl
-one_of_each flash arena [] [] (ys ∷ yss) s t = absurd t
 one_of_each flash arena [] (xs ∷ xss) yss s t = absurd s
 one_of_each flash arena (r ∷ rs) [] yss s t = absurd s
-one_of_each flash arena (r ∷ rs) (xs ∷ xss) [] s t = absurd t
 one_of_each flash arena (r ∷ rs) (xs ∷ xss) (ys ∷ yss) s t = λ i. one_list r flash arena xs ys s.0 t.0 i ∷ one_of_each flash arena rs xss yss s.1 t.1 i
+one_of_each flash arena _ _ _ s t = absurd t
 
 -- ---- the search
 
@@ -127,15 +124,7 @@ module _ {r : Kept} {arena : Frames} {position : Position} {old : BoardState} {f
 
     -- it is the page of its place
     pub looked_page : {next : BoardState} {d : Cursor} → first.shape ≡ r.shape → c.place < r.count → StaysAt now.pages r c d → CursorLooks r arena now next c d → AtPage r old.pages arena d
-    looked_page {next} {d} same inside stays looks =
-        let place : c.place ≡ d.place = sym (ap (λ (x : Cursor). x.place) stays.place) in
-        record {
-          shape = ap (λ (x : Cursor). x.shape) stays.place ∙ at.shape ∙ same;
-          inside = omega (arith, place, inside);
-          page = subst (λ (n : ℕ). page_at old.pages (page_of r (n / page_entries r.shape)) ≡ whole (bytes_in r arena d)) place
-              (subst (λ (flash : Flash). page_at flash (page_of r (c.place / page_entries r.shape)) ≡ whole (bytes_in r arena d)) (Reads-pages _ _ old now at.reads) looks.page);
-          loaded = subst (λ (n : ℕ). d.loaded ≡ suc (n / page_entries r.shape)) place looks.loaded;
-        }
+    looked_page {next} {d} same inside stays looks = search (arith)
 
     -- the cursor goes on from the place that it has reached
     pub Seeking-goes_on : GoesOn old.pages arena r position first c

@@ -26,9 +26,8 @@ use Rattle.pk_walk.{proofs.Merging.EachSorted, proofs.Merging.first_of_lists, pr
 
 pub each_rises : (flash : Flash) (arena : Frames) (rs : List Kept) (ess : List (List Entry)) → RunsOnFlash flash arena rs ess → EachSorted ess
 each_rises flash arena [] [] s = tt
-each_rises flash arena [] (es ∷ ess) s = absurd s
-each_rises flash arena (r ∷ rs) [] s = absurd s
 each_rises flash arena (r ∷ rs) (es ∷ ess) s = (s.0.rising, each_rises flash arena rs ess s.1)
+each_rises flash arena _ _ s = absurd s
 
 abbrev pub read_entries : Result (List Entry) Refusal → List Entry
 read_entries (Ok es) = es
@@ -41,9 +40,8 @@ lists_on flash (r ∷ rs) = read_entries (run r.shape MOST_SPACES (page_at flash
 
 pub lists_are : (flash : Flash) (arena : Frames) (rs : List Kept) (ess : List (List Entry)) → RunsOnFlash flash arena rs ess → lists_on flash rs ≡ ess
 lists_are flash arena [] [] s = refl
-lists_are flash arena [] (es ∷ ess) s = absurd s
-lists_are flash arena (r ∷ rs) [] s = absurd s
 lists_are flash arena (r ∷ rs) (es ∷ ess) s = λ i. read_entries (s.0.read i) ∷ lists_are flash arena rs ess s.1 i
+lists_are flash arena _ _ s = absurd s
 
 -- how many entries of wanted keys count
 abbrev pub many_left : Flash → List Kept → List Entry → List Entry → Position → ℕ
@@ -69,14 +67,13 @@ known_least : (flash : Flash) (arena : Frames) (position : Position) (rs : List 
     → length rs ≡ length cs → RunsOnFlash flash arena rs ess → FollowEach flash rs ess position cs
     → AllByRecursion IsKnown cs → least_of (heads_of cs) ≡ least_first (is_wanted position) ess
 known_least flash arena position [] [] [] same s f known = refl
-known_least flash arena position [] [] (c ∷ cs) same s f known = absurd (omega (arith, same))
 known_least flash arena position [] (es ∷ ess) cs same s f known = absurd s
 known_least flash arena position (r ∷ rs) [] cs same s f known = absurd s
-known_least flash arena position (r ∷ rs) (es ∷ ess) [] same s f known = absurd (omega (arith, same))
 known_least flash arena position (r ∷ rs) (es ∷ ess) (c ∷ cs) same s f known =
     let own = known_head (is_wanted position) es c.place r.count c.head s.0.many f.0.left f.0.ended known.0 in
     let rest = known_least flash arena position rs ess cs (omega (arith, same)) s.1 f.1 known.1 in
     λ i. lesser (own i) (rest i)
+known_least flash arena position _ _ _ same s f known = absurd (omega (arith, same))
 
 -- and what is known of a buffer is its first
 known_top : (es : List Entry) (position : Position) (h : Head) → Shows es position h → entry_in (known_as (first_of (wanted (is_wanted position) es)) h) ≡ first_of (wanted (is_wanted position) es)
@@ -128,11 +125,9 @@ not_below_entry key h n e is = subst (λ (x : Head). NotBelow key (entry_in x)) 
 pub step_follow : (flash : Flash) (position : Position) (key : Key) (rs : List Kept) (ess : List (List Entry)) (cs : List Cursor)
     → T (is_wanted position key) → NoneBelow key (heads_of cs) → AllByRecursion IsKnown cs → FollowEach flash rs ess position cs
     → FollowEach flash rs ess (Above key) (cursors_behind key cs)
-step_follow flash position key [] ess cs one none known f = tt
-step_follow flash position key (r ∷ rs) [] cs one none known f = tt
-step_follow flash position key (r ∷ rs) (es ∷ ess) [] one none known f = tt
 step_follow flash position key (r ∷ rs) (es ∷ ess) (c ∷ cs) one none known f =
     (Follows-above flash r es position c f.0 key one (not_below_entry key c.head none.0) known.0, step_follow flash position key rs ess cs one none.1 known.1 f.1)
+step_follow flash position key _ _ _ one none known f = tt
 
 no_entry : (e : Entry) → ◌≡◌ {A = Option Entry} None (Some e) → ⊥
 no_entry e is = cc
@@ -163,9 +158,8 @@ step_wanted position lists e is = first_wanted (is_wanted position) (firsts (fla
 
 -- the pages that were passed stay so
 behind_read : (key : Key) (rs : List Kept) (cs : List Cursor) → pages_read rs (cursors_behind key cs) ≡ pages_read rs cs
-behind_read key [] cs = refl
-behind_read key (r ∷ rs) [] = refl
 behind_read key (r ∷ rs) (c ∷ cs) = ap (λ (n : ℕ). read_of r.leases c.loaded + n) (behind_read key rs cs)
+behind_read key _ _ = refl
 
 behind_passed : (key : Key) (cs : List Cursor) → AllByRecursion HasPassed cs → AllByRecursion HasPassed (cursors_behind key cs)
 behind_passed key [] passed = tt
@@ -240,10 +234,7 @@ module _ {rs : List Kept} {arena : Frames} {active frozen : List Entry} {shape :
           (subst (λ (x : Tops). FollowEach old.pages rs ess (Above (key_of (seen e))) (cursors_behind (key_of (seen e)) ds)
           × ShowBoth active frozen (Above (key_of (seen e))) x) (sym go.0) (stays_right ess s)));
       same_shape = refl;
-      skips_none = λ none. record {
-        position = tt;
-        passed = subst (AllByRecursion HasPassed) (sym go.1) (behind_passed (key_of (seen e)) ds (at.on.passed none.position none.passed));
-      };
+      skips_none = λ none. search (subst (AllByRecursion HasPassed) (sym go.1) (behind_passed (key_of (seen e)) ds (at.on.passed none.position none.passed)));
     }
 
   -- it stays at its position
@@ -308,36 +299,29 @@ start_shape shape (c ∷ cs) are = (are.0, start_shape shape cs are.1)
 -- a walk whose cursors go back to the start is one
 pub start_walk : (shape : Shape) (position : Position) (tops : Tops) (cs cursors : List Cursor) → cursors ≡ all_at_start cs
     → length cs ≡ 4 → AreOfShape shape cs → IsWalk (record { shape = shape; position = position; tops = tops; cursors = cursors })
-start_walk shape position tops cs cursors same four are = record {
-  four = ap (λ (xs : List Cursor). length xs) same ∙ start_length cs ∙ four;
-  each = subst (AreOfShape shape) (sym same) (start_shape shape cs are);
-}
+start_walk shape position tops cs cursors same four are = search (ap (λ (xs : List Cursor). length xs) same ∙ start_length cs ∙ four, subst (AreOfShape shape) (sym same) (start_shape shape cs are))
 
 start_follow : (flash : Flash) (position : Position) (rs : List Kept) (ess : List (List Entry)) (cs : List Cursor) → FollowEach flash rs ess position (all_at_start cs)
-start_follow flash position [] ess cs = tt
-start_follow flash position (r ∷ rs) [] cs = tt
-start_follow flash position (r ∷ rs) (es ∷ ess) [] = tt
 start_follow flash position (r ∷ rs) (es ∷ ess) (c ∷ cs) = (Follows-start flash r es position c, start_follow flash position rs ess cs)
+start_follow flash position _ _ _ = tt
 
 -- at the start all wanted keys remain
 pub start_left : (w : Walk) (cs : List Cursor) → w.cursors ≡ all_at_start cs → w.tops ≡ none_known
     → (flash : Flash) (arena : Frames) (rs : List Kept) (active frozen : List Entry) (ess : List (List Entry)) → RunsOnFlash flash arena rs ess
     → IsLeft w flash arena rs active frozen (wanted (is_wanted w.position) (visible (active ∷ frozen ∷ ess)))
-start_left w cs same unknown flash arena rs active frozen ess stand = record {
-  ess = ess;
-  stand = stand;
-  follow = subst (FollowEach flash rs ess w.position) (sym same) (start_follow flash w.position rs ess cs);
-  tops = subst (ShowBoth active frozen w.position) (sym unknown) (tt, tt);
-  is = refl;
-}
+start_left w cs same unknown flash arena rs active frozen ess stand = search (
+  ess,
+  stand,
+  subst (FollowEach flash rs ess w.position) (sym same) (start_follow flash w.position rs ess cs),
+  subst (ShowBoth active frozen w.position) (sym unknown) (tt, tt),
+)
 
 none_read_of : (leases : List ℕ) → read_of leases 0 ≡ 0
 none_read_of leases = omega arith
 
 start_reads : (rs : List Kept) (cs : List Cursor) → pages_read rs (all_at_start cs) ≡ 0
-start_reads [] cs = refl
-start_reads (r ∷ rs) [] = refl
 start_reads (r ∷ rs) (c ∷ cs) = let rest = start_reads rs cs in let own = none_read_of r.leases in omega (arith, rest, own)
+start_reads _ _ = refl
 
 -- and nothing was read
 pub start_none : (cursors cs : List Cursor) → cursors ≡ all_at_start cs → (rs : List Kept) → pages_read rs cursors ≡ 0
@@ -349,10 +333,7 @@ start_passed (c ∷ cs) = (omega arith, start_passed cs)
 
 -- from the first key on no page is skipped
 pub start_skips_none : (w : Walk) (cs : List Cursor) → w.cursors ≡ all_at_start cs → w.position ≡ First → SkipsNone w
-start_skips_none w cs same first = record {
-  position = subst SkipsNoPage (sym first) tt;
-  passed = subst (AllByRecursion HasPassed) (sym same) (start_passed cs);
-}
+start_skips_none w cs same first = search (subst SkipsNoPage (sym first) tt, subst (AllByRecursion HasPassed) (sym same) (start_passed cs))
 
 all_wanted : (xs : List (Key × Place)) → wanted (is_wanted First) xs ≡ xs
 all_wanted [] = refl
@@ -415,17 +396,15 @@ module _ {rs : List Kept} {arena : Frames} {active frozen : List Entry} {shape :
     -- one more entry, of a deleted key
     pub Walking-gone : {next : BoardState} {v : Walk} {e : RustEntry} → Comes rs arena active frozen now next w v (Some e) → WalksOn now.pages arena rs active frozen w v
         → is_some (seen e).1 ≡ false → IsReady next shape → Walking rs arena active frozen shape old next first v
-    Walking-gone {next} {v} {e} comes on gone ready = record {
-      ess = at.ess;
-      stand = at.stand;
-      follow = subst (λ (flash : Flash). FollowEach flash rs at.ess v.position v.cursors) same_pages (on.follow at.ess stand_now).0;
-      tops = (on.follow at.ess stand_now).1;
-      left = sym (passed_gone (all_left w.position lists) (all_left v.position lists) (comes.passes at.ess stand_now)) ∙ at.left;
-      same_shape = on.same_shape ∙ at.same_shape;
-      ready = ready;
-      reads = Reads-more _ _ _ old now next at.reads comes.reads;
-      all = Walking-all comes on;
-    }
+    Walking-gone {next} {v} {e} comes on gone ready = search (
+      subst (λ (flash : Flash). FollowEach flash rs at.ess v.position v.cursors) same_pages (on.follow at.ess stand_now).0,
+      (on.follow at.ess stand_now).1,
+      sym (passed_gone (all_left w.position lists) (all_left v.position lists) (comes.passes at.ess stand_now)) ∙ at.left,
+      on.same_shape ∙ at.same_shape,
+      ready,
+      Reads-more _ _ _ old now next at.reads comes.reads,
+      Walking-all comes on,
+    )
       where
         no_place : (x : Entry) → is_some x.1 ≡ false → (xs : List Entry) → placed (x ∷ xs) ≡ placed xs
         no_place (key, Some place) none xs = cc
@@ -447,13 +426,12 @@ module _ {rs : List Kept} {arena : Frames} {active frozen : List Entry} {shape :
 
     left_next : (next : BoardState) (v : Walk) → next.pages ≡ now.pages → FollowEach now.pages rs at.ess v.position v.cursors
         × ShowBoth active frozen v.position v.tops → IsLeft v next.pages arena rs active frozen (placed (all_left v.position lists))
-    left_next next v pages follow = record {
-      ess = at.ess;
-      stand = subst (λ (flash : Flash). RunsOnFlash flash arena rs at.ess) (sym pages) stand_now;
-      follow = subst (λ (flash : Flash). FollowEach flash rs at.ess v.position v.cursors) (sym pages) follow.0;
-      tops = follow.1;
-      is = sym (left_is v.position lists);
-    }
+    left_next next v pages follow = search (
+      subst (λ (flash : Flash). RunsOnFlash flash arena rs at.ess) (sym pages) stand_now,
+      subst (λ (flash : Flash). FollowEach flash rs at.ess v.position v.cursors) (sym pages) follow.0,
+      follow.1,
+      sym (left_is v.position lists),
+    )
 
     -- one more entry, of a key that exists
     pub Walking-gives : {next : BoardState} {v : Walk} {e : RustEntry} → Comes rs arena active frozen now next w v (Some e) → WalksOn now.pages arena rs active frozen w v
@@ -497,10 +475,7 @@ module _ {rs : List Kept} {arena : Frames} {active frozen : List Entry} {shape :
 
     pub fails_behind : (next : BoardState) (v : Walk) → ReadsFail (pages_read rs w.cursors) (pages_read rs v.cursors) now next
         → ReadsFail (pages_read rs first.cursors) (pages_read rs v.cursors) old next
-    fails_behind next v (k, page, few, failed) =
-        let h = at.reads.1 in
-        let all = ap (λ (b : BoardState). after_reads k b) at.reads.2 ∙ reads_more k at.reads.0 old in
-        (k + at.reads.0, page, omega (arith, h, few), subst (λ (b : BoardState). ReadFailed b next page) all failed)
+    fails_behind next v (k, page, few, failed) = search (arith, reads_more, few)
 
     -- never more than all pages
     pub few_read : {v : Walk} → WalksOn now.pages arena rs active frozen w v → pages_read rs v.cursors ≤ most_read rs
@@ -521,16 +496,4 @@ module _ {rs : List Kept} {arena : Frames} {active frozen : List Entry} {shape :
     -- with each step fewer remain
     pub fewer_left : {next : BoardState} {v : Walk} {e : RustEntry} → Comes rs arena active frozen now next w v (Some e) → next.pages ≡ now.pages
         → many_left next.pages rs active frozen v.position < many_left now.pages rs active frozen w.position
-    fewer_left {next} {v} {e} comes pages =
-        let before = lists_are now.pages arena rs at.ess stand_now in
-        let after = lists_are next.pages arena rs at.ess (subst (λ (flash : Flash). RunsOnFlash flash arena rs at.ess) (sym pages) stand_now) in
-        let old_size : many_left now.pages rs active frozen w.position ≡ length (all_left w.position lists) = ap
-        (λ (ess : List (List Entry)). length (all_left w.position (active ∷ frozen ∷ ess))) before in
-        let new_size : many_left next.pages rs active frozen v.position ≡ length (all_left v.position lists) = ap
-        (λ (ess : List (List Entry)). length (all_left v.position (active ∷ frozen ∷ ess))) after in
-        let less = shorter (all_left w.position lists) (all_left v.position lists) (comes.passes at.ess stand_now) in
-        omega (arith, old_size, new_size, less)
-      where
-        shorter : (xs ys : List Entry) → Passes (Some e) xs ys → length ys < length xs
-        shorter [] ys p = cc
-        shorter (x ∷ xs) ys p = let same = ap (λ (zs : List Entry). length zs) p.1 in omega (arith, same)
+    fewer_left {next} {v} {e} comes pages = search (arith, lists_are, stand_now, next.pages, v.position, comes.passes)

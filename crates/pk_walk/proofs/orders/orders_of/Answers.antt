@@ -50,10 +50,10 @@ returns c =
     let three = lead (a ∷ b ∷ []) c.lower-upper.result.now c.args.first.now c.lower-two.result.now c.kept_order-of_first.result two c.kept_order-of_first.ensures c.lower-two.ensures in
     let four = lead (a ∷ b ∷ d ∷ []) c.lower-two.result.now c.args.second.now c.lower-three.result.now c.kept_order-of_second.result three c.kept_order-of_second.ensures c.lower-three.ensures in
     let five = lead (a ∷ b ∷ d ∷ e ∷ []) c.lower-three.result.now c.args.third.now c.lower-four.result.now c.kept_order-of_third.result four c.kept_order-of_third.ensures c.lower-four.ensures in
-    record {
-      frozen_is = stands_to (a ∷ []) c.args.active.now c.args.frozen.now c.kept_order-of_frozen.result one c.kept_order-of_frozen.ensures;
-      first_is = stands_to (a ∷ b ∷ []) c.lower-upper.result.now c.args.first.now c.kept_order-of_first.result two c.kept_order-of_first.ensures;
-      second_is = stands_to (a ∷ b ∷ d ∷ []) c.lower-two.result.now c.args.second.now c.kept_order-of_second.result three c.kept_order-of_second.ensures;
-      third_is = stands_to (a ∷ b ∷ d ∷ e ∷ []) c.lower-three.result.now c.args.third.now c.kept_order-of_third.result four c.kept_order-of_third.ensures;
-      fourth_is = stands_to (a ∷ b ∷ d ∷ e ∷ f ∷ []) c.lower-four.result.now c.args.fourth.now c.kept_order.result five c.kept_order.ensures;
-    }
+    search (
+      stands_to (a ∷ []) c.args.active.now c.args.frozen.now c.kept_order-of_frozen.result one c.kept_order-of_frozen.ensures,
+      stands_to (a ∷ b ∷ []) c.lower-upper.result.now c.args.first.now c.kept_order-of_first.result two c.kept_order-of_first.ensures,
+      stands_to (a ∷ b ∷ d ∷ []) c.lower-two.result.now c.args.second.now c.kept_order-of_second.result three c.kept_order-of_second.ensures,
+      stands_to (a ∷ b ∷ d ∷ e ∷ []) c.lower-three.result.now c.args.third.now c.kept_order-of_third.result four c.kept_order-of_third.ensures,
+      stands_to (a ∷ b ∷ d ∷ e ∷ f ∷ []) c.lower-four.result.now c.args.fourth.now c.kept_order.result five c.kept_order.ensures,
+    )

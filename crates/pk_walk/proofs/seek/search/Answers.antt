@@ -12,9 +12,7 @@ looked g c = Seeking-looked c.loop-cursor.invariant.seeking c.in-Ok.ensures.stay
 
 -- it is the page of the place
 here : (g : given.Over) (c : In-Ok g) → AtPage c.args.run.now (g.B.Nand.state c.args.board.now).pages c.args.arena.now c.look.new.self
-here g c =
-    looked_page c.loop-cursor.invariant.seeking c.requires.may.shape_is
-    (omega (arith, c.loop-cursor-test.true, c.place.ensures, c.entries.ensures)) c.in-Ok.ensures.stays c.in-Ok.ensures.looks
+here g c = search (arith, looked_page)
 
 pub loop-cursor-init : goal.loop-cursor-init
 loop-cursor-init g c = record {
@@ -48,19 +46,12 @@ returns-then-skip-clause-finds g c =
 pub returns-then-skip-clause-on : goal.returns-then-skip-clause-on
 returns-then-skip-clause-on g c =
     let at = goal.at.returns-then-skip-clause-on g c in
-    record {
-      goes_on = Seeking-goes_on (Seeking-moved (looked g at.In-Ok) c.known.ensures.shape c.known.ensures.kept (here g at.In-Ok) c.skip.ensures);
-      same = search rules;
-      ready = search rules;
-    }
+    search (Seeking-goes_on (Seeking-moved (looked g at.In-Ok) c.known.ensures.shape c.known.ensures.kept (here g at.In-Ok) c.skip.ensures), rules)
 
 pub loop-cursor-preserved : goal.loop-cursor-preserved
 loop-cursor-preserved g c =
     let at = goal.at.loop-cursor-preserved g c in
-    record {
-      ready = c.in-Ok.ensures.ready;
-      seeking = Seeking-moved (looked g at.In-Ok) c.known.ensures.shape c.known.ensures.kept (here g at.In-Ok) c.skip.ensures;
-    }
+    search (Seeking-moved (looked g at.In-Ok) c.known.ensures.shape c.known.ensures.kept (here g at.In-Ok) c.skip.ensures)
 
 pub loop-cursor-smaller : goal.loop-cursor-smaller
 loop-cursor-smaller g c =
@@ -71,17 +62,10 @@ loop-cursor-smaller g c =
 
 pub returns-in-Err-clause-on : goal.returns-in-Err-clause-on
 returns-in-Err-clause-on g c =
-    record {
-      goes_on = Seeking-stays c.loop-cursor.invariant.seeking c.in-Err.ensures.stays c.in-Err.ensures.fails.kept;
-      same = search rules;
-      ready = search rules;
-    }
+    search (Seeking-stays c.loop-cursor.invariant.seeking c.in-Err.ensures.stays c.in-Err.ensures.fails.kept, rules)
 
 pub returns-in-Err-clause-err : goal.returns-in-Err-clause-err
-returns-in-Err-clause-err g c = record {
-  reading = c.in-Err.ensures.reading;
-  reads = Seeking-fails c.loop-cursor.invariant.seeking c.in-Err.ensures.fails;
-}
+returns-in-Err-clause-err g c = search (c.in-Err.ensures.reading, Seeking-fails c.loop-cursor.invariant.seeking c.in-Err.ensures.fails)
 
 pub returns-clause-finds : goal.returns-clause-finds
 returns-clause-finds g c =

@@ -20,10 +20,7 @@ pub returns-then-is_known-clause-on : goal.returns-then-is_known-clause-on
 returns-then-is_known-clause-on g c = record { goes_on = known_goes_on c.requires.may; same = search rules; ready = search rules }
 
 pub hold_next-requires-clause-page : goal.hold_next-requires-clause-page
-hold_next-requires-clause-page g c =
-    let at = goal.at.hold_next-requires-clause-page g c in
-    let here = ready_here c.requires.may c.known.ensures.shape c.known.ensures.kept (sought g at.Else-is_known) (c.is_ready.ensures c.if-is_ready.true) in
-    at_page c.known.ensures.shape c.known.ensures.kept c.requires.may.stands here c.requires.may.ready.flash
+hold_next-requires-clause-page g c = search (ready_here, sought, at_page, c.requires.may, c.known.ensures.shape, c.known.ensures.kept, c.is_ready.ensures, c.requires.may.stands)
 
 pub hold_next-requires-clause-room : goal.hold_next-requires-clause-room
 hold_next-requires-clause-room g c = let inside = (c.is_ready.ensures c.if-is_ready.true).1 in omega (arith, inside, c.entries.ensures)
@@ -40,8 +37,4 @@ returns-then-is_ready-clause-on g c =
     let at = goal.at.returns-then-is_ready-clause-on g c in
     let finds = ready_finds c.requires.may c.known.ensures.shape c.known.ensures.kept (sought g at.Else-is_known)
     (c.is_ready.ensures c.if-is_ready.true) {e = c.hold_next.ensures.0} c.hold_next.ensures.2 in
-    record {
-      goes_on = holding_goes_on finds c.hold_next.ensures.1 c.known.ensures.shape c.requires.may.shape_is (known_goes_on c.requires.may);
-      same = search rules;
-      ready = search rules;
-    }
+    search (holding_goes_on finds c.hold_next.ensures.1 c.known.ensures.shape c.requires.may.shape_is (known_goes_on c.requires.may), rules)

@@ -9,8 +9,4 @@ pub returns-in-Ok-clause-shows : goal.returns-in-Ok-clause-shows
 returns-in-Ok-clause-shows g c = holding_shows c.in-Ok.ensures.finds c.hold.ensures
 
 pub returns-in-Ok-clause-on : goal.returns-in-Ok-clause-on
-returns-in-Ok-clause-on g c = record {
-  goes_on = holding_goes_on c.in-Ok.ensures.finds c.hold.ensures c.known.ensures.shape c.requires.may.shape_is c.in-Ok.ensures.on.goes_on;
-  same = search rules;
-  ready = search rules;
-}
+returns-in-Ok-clause-on g c = search (holding_goes_on c.in-Ok.ensures.finds c.hold.ensures c.known.ensures.shape c.requires.may.shape_is c.in-Ok.ensures.on.goes_on, rules)

@@ -20,10 +20,7 @@ loop-entry-smaller g c = fewer_left c.loop-entry.invariant.walking (rw c.in-Ok-S
 
 pub loop-entry-preserved : goal.loop-entry-preserved
 loop-entry-preserved g c =
-    record {
-      walking = Walking-gone c.loop-entry.invariant.walking (rw c.in-Ok-Some.field-0-is at c.in-Ok-Some.ensures.comes) c.in-Ok-Some.ensures.walks_on
-          (sym c.is_put.ensures ∙ c.if-is_put.false) c.in-Ok-Some.ensures.ready;
-    }
+    search (Walking-gone c.loop-entry.invariant.walking (rw c.in-Ok-Some.field-0-is at c.in-Ok-Some.ensures.comes) c.in-Ok-Some.ensures.walks_on (sym c.is_put.ensures ∙ c.if-is_put.false) c.in-Ok-Some.ensures.ready)
 
 pub returns-in-Ok-None-clause-gives : goal.returns-in-Ok-None-clause-gives
 returns-in-Ok-None-clause-gives g c =
