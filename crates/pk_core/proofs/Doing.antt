@@ -44,7 +44,7 @@ module _ (d : Parts) (old new : BoardState) (r : Request) (o : Outcome) (into : 
       (does_still old new (sight_of d) c (reply_of o into) o.reads l.board_is l.reads l.up l.flash_up
       (λ status. elim l.answered [ inl read ↦ absurd (ok_sound (sym read.0 ∙ status)) | inr unread ↦ unread.2 ])
       (λ sound. elim l.answered [ inl read ↦ read.2 | inr unread ↦ absurd (sound unread.0) ])
-      (for_its_map d old s.agrees (λ x t m. Step x t m c (reply_of o into) m × ReadsWithin x t (sight_of d) m c o.reads) (stepped, λ e. absurd (other e), λ e. absurd (other e))))
+      (for_its_map d old s.agrees (λ x t m. Step x t m c (reply_of o into) m × ReadsWithin x t (sight_of d) m c o.reads) (stepped, (λ e. absurd (other e), λ e. absurd (other e)))))
 
   pub list_executes : (e : Parts) → e ≡ record d { walk = e.walk } → Executes d e old new c o into o.reads
   list_executes e same = executes_walked d e old new r c o into o.reads s same (ap (λ (b : BoardState). b.pages) l.board_is) l.runs list_does

@@ -53,23 +53,23 @@ ok_of : (P : Type 0) (r : Result Unit Fault) → OnRunning P r → OnOk r P
 ok_of P (Ok u) is = is
 ok_of P (Err e) is = tt
 
--- one with this result
-module _ {d e : Parts} {old new : BoardState} {k : Key} {r : Result Unit Fault} {o : Outcome} {reads : ℕ} (told : o ≡ outcome_for r reads) where
-  -- no pair is half made
+-- one with this result makes no pair half made
+module _ (e : Parts) (r : Result Unit Fault) (o : Outcome) (reads : ℕ) (told : o ≡ outcome_for r reads) where
   half_none : OnRunning (is_half e ≡ false) r → o.stopped ≡ false → is_half e ≡ false
   half_none none runs = came_running (λ x. is_half x ≡ false) r e o reads told none runs
 
   made_whole : OnRunning (is_half e ≡ false) r → o.status ≡ 0 → is_half e ≡ false
   made_whole none zero = came_served (λ x. is_half x ≡ false) r e o reads told (ok_of (is_half e ≡ false) r none) zero
 
+module _ {d e : Parts} {old new : BoardState} {k : Key} (r : Result Unit Fault) {o : Outcome} (reads : ℕ) (told : o ≡ outcome_for r reads) where
   pub stores_came : {len size : ℕ} → len ≡ size → OnRunning (is_half e ≡ false) r → OnRunning (StaysOrOpens d e (charge d.log.shape len)) r → OnOk r (IsNoted e k)
       → (is_half d ≡ false → OnOk r (PutsQuietly d k (charge d.log.shape len) old new))
       → (is_half d ≡ false → OnOk r (ReadsNone d k (charge d.log.shape len) old new)) → StoresOver d e old new k (charge d.log.shape size) o
   stores_came {len} sized none opens noted programs quiet =
       let count = charge d.log.shape len in
       subst (λ (n : ℕ). StoresOver d e old new k (charge d.log.shape n) o) sized (record {
-        half = λ runs _. half_none none runs;
-        finishes = made_whole none;
+        half = λ runs _. half_none e r o reads told none runs;
+        finishes = made_whole e r o reads told none;
         opens = λ runs. came_running (λ x. StaysOrOpens d x count) r e o reads told opens runs;
         noted = λ zero. came_served (λ x. IsNoted x k) r e o reads told noted zero;
         programs = λ zero whole. came_served (λ x. PutsQuietly d k count old new) r e o reads told (programs whole) zero;
@@ -79,8 +79,8 @@ module _ {d e : Parts} {old new : BoardState} {k : Key} {r : Result Unit Fault} 
   pub deletes_came : OnRunning (is_half e ≡ false) r → OnRunning (Stays d e) r → (is_half d ≡ false → OnOk r (TakesQuietly d k old new))
       → (is_half d ≡ false → OnOk r (ReadsQuietly d k old new)) → DeletesAt d e old new k o
   deletes_came none moves programs quiet = record {
-    half = λ runs _. half_none none runs;
-    finishes = made_whole none;
+    half = λ runs _. half_none e r o reads told none runs;
+    finishes = made_whole e r o reads told none;
     moves = λ runs. came_running (λ x. Stays d x) r e o reads told moves runs;
     programs = λ zero whole. came_served (λ x. TakesQuietly d k old new) r e o reads told (programs whole) zero;
     quiet = λ zero whole. came_served (λ x. ReadsQuietly d k old new) r e o reads told (quiet whole) zero;
@@ -92,7 +92,7 @@ module _ {d e : Parts} {old new : BoardState} {k : Key} {r : Result Unit Fault} 
 pub executes_behind : {d f : Parts} {old mid new : BoardState} {most : ℕ} {c : Command} {into : List ℕ} {o : Outcome}
     → ReadsOnly old mid most → (op_of c.opcode ≡ Some Retrieve → ⊥) → IsCounted mid new
     → o.reads ≡ new.reads - old.reads → Executes d f mid new c o into (new.reads - mid.reads) → Executes d f old new c o into o.reads
-executes_behind made other count told did = record { stops = did.stops; agrees = did.agrees; does = does_behind made other count told did.does }
+executes_behind {d} {f} {into = into} {o = o} made other count told did = record { stops = did.stops; agrees = did.agrees; does = does_behind d f into o made other count told did.does }
 
 -- it changed nothing
 module _ {d e : Parts} {old new : BoardState} {most : ℕ} (same : e ≡ d) (a : DriveOnFlash d old.shape old.pages) (less : most ≤ 68) where

@@ -329,10 +329,10 @@ module _ {d : Parts} {old : BoardState} {r : Request} {k : Key} {p : Place} {bef
 
 -- ---- after the reads of a lookup
 
-pub does_behind : {d f : Parts} {old mid new : BoardState} {most : ℕ} {c : Command} {into : List ℕ} {o : Outcome} → ReadsOnly old mid most → (op_of c.opcode ≡ Some Retrieve → ⊥)
+pub does_behind : (d f : Parts) {old mid new : BoardState} {most : ℕ} {c : Command} (into : List ℕ) (o : Outcome) → ReadsOnly old mid most → (op_of c.opcode ≡ Some Retrieve → ⊥)
     → IsCounted mid new → o.reads ≡ new.reads - old.reads
     → Does mid new (sight_of d) (sight_of f) c (shown o into) (new.reads - mid.reads) o.stopped → Does old new (sight_of d) (sight_of f) c (shown o into) o.reads o.stopped
-does_behind {d} {f} {old} {mid} {new} {most} {c} {into} {o} made other count told_is does =
+does_behind d f {old} {mid} {new} {most} {c} into o made no_read count told_is does =
     let n : ℕ = mid.reads in
     let few : n ≤ last_count = made.few in
     let up : old.reads ≤ n = made.up in
@@ -348,8 +348,8 @@ does_behind {d} {f} {old} {mid} {new} {most} {c} {into} {o} made other count tol
             stepped = y.stepped;
             reached = reaches_behind shape old new n (CrashFinds shape (change y.left) old.pages m) y.reached;
             stands = y.stands;
-            bounded = λ k. absurd (other k);
-            held_bounded = λ k. absurd (other k);
+            bounded = λ k. absurd (no_read k);
+            held_bounded = λ k. absurd (no_read k);
           };
       cuts_stopped = λ run shape frames m st. goes_behind shape old new n (CrashFinds shape (command_on old c) old.pages m)
           (x.cuts_stopped run shape frames m (record { shape_is = st.shape_is; frames_is = st.frames_is; limits_is = st.limits_is; map_is = st.map_is }));

@@ -103,7 +103,7 @@ pub does_none : (d : Parts) (board : BoardState) (a : DriveOnFlash d board.shape
     → reply.status ≢ 0x88 → Step d.log.shape (terms_of d) a.all c reply a.all → Does board board (sight_of d) (sight_of d) c reply 0 false
 does_none d board a c reply few sound step =
     does_reads board board (sight_of d) c reply 0 0 (reads_none board few) (omega arith) sound
-    (for_its_map d board a (λ s f m. Step s f m c reply m × ReadsWithin s f (sight_of d) m c 0) (step, λ is. omega arith, λ is. omega arith))
+    (for_its_map d board a (λ s f m. Step s f m c reply m × ReadsWithin s f (sight_of d) m c 0) (step, (λ is. omega arith, λ is. omega arith)))
 
 pub does_unread : (old new : BoardState) (s : Sight) (c : Command) (most reads : ℕ) → old.read_faults ≤ last_count
     → ReadsFailing old new most → reads ≡ new.reads - old.reads → AnswersAll old s c (refusal 0x88) reads → Does old new s s c (refusal 0x88) reads false
@@ -232,7 +232,7 @@ told status result len reads = record { status = status; result = result; data_l
 
 module _ {d d' : Parts} {old : BoardState} {r : Request} (s : IsServable d old r) (same : d' ≡ d)
     (unheld : most_looks d + d.levels.pinned ≤ 4) (new : BoardState) (v into : List ℕ) where
-  passes : early (length (drive_limits d)) d.log.shape (command_of r v) ≡ None
+  pub passes : early (length (drive_limits d)) d.log.shape (command_of r v) ≡ None
   passes = same_early (length (drive_limits d)) d.log.shape r v ∙ s.passed
 
   -- the pinned levels are held

@@ -6,6 +6,7 @@ use Rattle.pk_nvme.{specs.Opcode.op_of, specs.declared.opcode.Opcode.TheVariants
 use Rattle.pk_core.{proofs.Early.request_space, proofs.Listing.from_first, proofs.Listing.at_first, proofs.Listing.walks_on, proofs.Listing.starts_may, proofs.Listing.starts_bytes}
 use Rattle.pk_core.proofs.ListReads.{reads_between, reads_until, lists_read, lists_unread, few_listed, few_unlisted}
 use Rattle.pk_core.{proofs.Doing.list_executes, proofs.Doing.list_only, specs.Listed.first_listed, proofs.list.list.Given.Over}
+use Rattle.pk_core.proofs.list.list.Goals.{In-Ok, In-Err}
 use Rattle.pk_core.proofs.list.list.Goals as goal
 
 pub first_key-first-requires-clause-values : goal.first_key-first-requires-clause-values
@@ -21,7 +22,7 @@ put_left-requires-clause-none_read g c = rw c.start_keys.ensures.rest c.start_ke
 -- ---- the keys were written
 
 -- what was read
-read : (g : Over) (c : goal.In-Ok g) → Reads 0 (most_read c.args.parts.now.levels.runs) (g.B.Nand.state c.args.board.now) (g.B.Nand.state c.put_left.new.board)
+read : (g : Over) (c : In-Ok g) → Reads 0 (most_read c.args.parts.now.levels.runs) (g.B.Nand.state c.args.board.now) (g.B.Nand.state c.put_left.new.board)
 read g c = at_first c.args.parts.now c.start_keys.new.self (λ l a x. Reads 0 (most_read l.runs) (g.B.Nand.state c.args.board.now) (g.B.Nand.state c.put_left.new.board))
     c.start_keys.ensures.rest c.in-Ok.ensures.reads
 
@@ -55,7 +56,7 @@ returns-in-Ok g c =
 
 -- ---- a read failed
 
-read_until : (g : Over) (c : goal.In-Err g) → ReadsFail 0 (most_read c.args.parts.now.levels.runs) (g.B.Nand.state c.args.board.now) (g.B.Nand.state c.put_left.new.board)
+read_until : (g : Over) (c : In-Err g) → ReadsFail 0 (most_read c.args.parts.now.levels.runs) (g.B.Nand.state c.args.board.now) (g.B.Nand.state c.put_left.new.board)
 read_until g c = at_first c.args.parts.now c.start_keys.new.self (λ l a x. ReadsFail 0 (most_read l.runs) (g.B.Nand.state c.args.board.now) (g.B.Nand.state c.put_left.new.board))
     c.start_keys.ensures.rest c.in-Err.ensures.err
 

@@ -4,13 +4,14 @@ use Rattle.pk_core.proofs.Unchanging.{Handed, retrieve_found, unread_value, fron
 use Rattle.pk_core.proofs.Callings.{looks_less}
 use Rattle.pk_nvme.{specs.Opcode.op_of, specs.declared.opcode.Opcode.TheVariants.Retrieve}
 use Rattle.pk_core.{proofs.Early.request_space, proofs.LookedUp.only_looked, proofs.LookedUp.only_unread, proofs.quiet.retrieve.Given.Over}
+use Rattle.pk_core.proofs.quiet.retrieve.Goals.{After-min-count}
 use Rattle.pk_core.proofs.quiet.retrieve.Goals as goal
 
 pub key-key-requires-clause-space : goal.key-key-requires-clause-space
 key-key-requires-clause-space g c = request_space c.args.parts.now _ c.args.request.now Retrieve (λ n k. refl) (ap op_of c.requires.opcode) c.requires.servable
 
 -- the lookup found a value
-handed : (g : Over) (c : goal.After-min-count g) → Handed c.args.parts.now c.look.new.self (g.B.Nand.state c.args.board.now) (g.B.Nand.state c.look.new.board) c.args.request.now c.key-key.result
+handed : (g : Over) (c : After-min-count g) → Handed c.args.parts.now c.look.new.self (g.B.Nand.state c.args.board.now) (g.B.Nand.state c.look.new.board) c.args.request.now c.key-key.result
     c.in-Ok-Some.place c.min-count.result
 handed g c = record {
   servable = c.requires.servable;
@@ -23,10 +24,11 @@ handed g c = record {
   reads = c.in-Ok-Some.ensures.reads;
 }
 
-pub hand_over-requires : goal.hand_over-requires
-hand_over-requires g c =
-    let h = handed g (goal.at.hand_over-requires g c).After-min-count in
-    record { value = front_of h; room = room_of h (length c.args.into.now) c.requires.room }
+pub hand_over-requires-clause-value : goal.hand_over-requires-clause-value
+hand_over-requires-clause-value g c = front_of (handed g (goal.at.hand_over-requires-clause-value g c).After-min-count)
+
+pub hand_over-requires-clause-room : goal.hand_over-requires-clause-room
+hand_over-requires-clause-room g c = room_of (handed g (goal.at.hand_over-requires-clause-room g c).After-min-count) (length c.args.into.now) c.requires.room
 
 pub reads_since-requires : goal.reads_since-requires
 reads_since-requires g c =

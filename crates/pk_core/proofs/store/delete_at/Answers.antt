@@ -37,7 +37,7 @@ pub returns-in-Some-clause-deletes : goal.returns-in-Some-clause-deletes
 returns-in-Some-clause-deletes g c =
     let e = c.take_whole-answer.ensures in
     let can = can_take [] (rw c.in-Some.is at c.requires.looked_up) c.requires.opcode c.known.ensures.key c.known.ensures.bytes in
-    deletes_came c.changed.ensures (take_makes_whole _ _ _ _ _ _ _ _ can e.step) e.moves e.programs e.quiet
+    deletes_came c.take_whole-answer.result _ c.changed.ensures (take_makes_whole _ _ _ _ _ _ _ _ can e.step) e.moves e.programs e.quiet
 
 pub returns-in-None-clause-spends : goal.returns-in-None-clause-spends
 returns-in-None-clause-spends g c = spends_same _ _ _ _ refl

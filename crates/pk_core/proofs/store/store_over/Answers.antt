@@ -46,7 +46,7 @@ pub returns-in-None-clause-stores : goal.returns-in-None-clause-stores
 returns-in-None-clause-stores g c =
     let e = c.put_whole-answer.ensures in
     let can = can_put c.args.value.now c.requires.looked_up c.requires.opcode c.requires.whole c.known.ensures.key c.known.ensures.bytes (sym c.fault_of_store.ensures ∙ c.in-None.is) in
-    stores_came c.changed.ensures c.requires.whole (put_makes_whole _ _ _ _ _ _ _ _ _ can e.step) e.opens e.noted e.programs e.quiet
+    stores_came c.put_whole-answer.result _ c.changed.ensures c.requires.whole (put_makes_whole _ _ _ _ _ _ _ _ _ can e.step) e.opens e.noted e.programs e.quiet
 
 pub returns-in-Some-clause-spends : goal.returns-in-Some-clause-spends
 returns-in-Some-clause-spends g c = spends_same _ _ _ _ refl

@@ -4,6 +4,7 @@ use Rattle.pk_background.proofs.ReadSteps.{running_stopped}
 use Rattle.pk_changes.specs.Programming.{PutsQuietly}
 use Rattle.pk_core.{specs.Programming.ReadsNone, proofs.storing.put_whole.Given.Over}
 use Rattle.pk_core.proofs.Whole.{Wholes, wholes, fails_half, unworn_then, can_put_then, stores_whole, stays_whole, opens_whole, put_spends, stores_unmade, unmade_spends, quiet_from}
+use Rattle.pk_core.proofs.storing.put_whole.Goals.{In-Ok}
 use Rattle.pk_core.proofs.storing.put_whole.Goals as goal
 
 pub make_whole-requires : goal.make_whole-requires
@@ -11,17 +12,17 @@ make_whole-requires g c = record { may = record { ready = c.requires.can.0.ready
 
 -- ---- the pair is whole
 
-made : (g : Over) (c : goal.In-Ok g) → Wholes c.args.parts.now c.make_whole.new.parts (g.B.Nand.state c.args.board.now) (g.B.Nand.state c.make_whole.new.board)
+made : (g : Over) (c : In-Ok g) → Wholes c.args.parts.now c.make_whole.new.parts (g.B.Nand.state c.args.board.now) (g.B.Nand.state c.make_whole.new.board)
 made g c = wholes c.args.parts.now c.make_whole.new.parts (g.B.Nand.state c.args.board.now) (g.B.Nand.state c.make_whole.new.board)
     c.requires.can.0.ready c.in-Ok.ensures.finishes c.in-Ok.ensures.rests
 
 pub put_with_space-requires-clause-can : goal.put_with_space-requires-clause-can
 put_with_space-requires-clause-can g c =
-    let w = made g c in
+    let w = made g (goal.at.put_with_space-requires-clause-can g c).In-Ok in
     (can_put_then w c.args.key c.args.value.now c.args.old c.requires.can.0, c.requires.can.1 ∙ ap (λ s. charge s (length c.args.value.now)) (sym w.same_shape))
 
 pub put_with_space-requires-clause-unworn : goal.put_with_space-requires-clause-unworn
-put_with_space-requires-clause-unworn g c = unworn_then (made g c) c.requires.unworn
+put_with_space-requires-clause-unworn g c = unworn_then (made g (goal.at.put_with_space-requires-clause-unworn g c).In-Ok) c.requires.unworn
 
 pub returns-in-Ok : goal.returns-in-Ok
 returns-in-Ok g c =

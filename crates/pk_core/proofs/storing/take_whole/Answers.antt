@@ -3,6 +3,7 @@ use Rattle.pk_background.{proofs.ReadSteps.running_stopped}
 use Rattle.pk_changes.specs.Programming.{TakesQuietly, ReadsQuietly}
 use Rattle.pk_core.proofs.Whole.{Wholes, wholes, fails_half, numbers_then, can_take_then, takes_whole, stays_whole, moves_whole, take_spends, takes_unmade, unmade_spends, quiet_from}
 use Rattle.pk_core.proofs.storing.take_whole.Given.{Over}
+use Rattle.pk_core.proofs.storing.take_whole.Goals.{In-Ok}
 use Rattle.pk_core.proofs.storing.take_whole.Goals as goal
 
 pub make_whole-requires : goal.make_whole-requires
@@ -10,12 +11,14 @@ make_whole-requires g c = record { may = record { ready = c.requires.can.ready; 
 
 -- ---- the pair is whole
 
-made : (g : Over) (c : goal.In-Ok g) → Wholes c.args.parts.now c.make_whole.new.parts (g.B.Nand.state c.args.board.now) (g.B.Nand.state c.make_whole.new.board)
+made : (g : Over) (c : In-Ok g) → Wholes c.args.parts.now c.make_whole.new.parts (g.B.Nand.state c.args.board.now) (g.B.Nand.state c.make_whole.new.board)
 made g c = wholes c.args.parts.now c.make_whole.new.parts (g.B.Nand.state c.args.board.now) (g.B.Nand.state c.make_whole.new.board)
     c.requires.can.ready c.in-Ok.ensures.finishes c.in-Ok.ensures.rests
 
 pub take_out-requires : goal.take_out-requires
-take_out-requires g c = record { can = can_take_then (made g c) c.args.key c.args.old c.requires.can; number = numbers_then (made g c) c.requires.number }
+take_out-requires g c =
+    let w = made g (goal.at.take_out-requires g c).In-Ok in
+    record { can = can_take_then w c.args.key c.args.old c.requires.can; number = numbers_then w c.requires.number }
 
 pub returns-in-Ok : goal.returns-in-Ok
 returns-in-Ok g c =

@@ -1,3 +1,5 @@
+use Rattle.std.proofs.Common.{◌≡◌, false}
+use Rattle.pk_call.specs.Seen.{stopped_by}
 use Rattle.pk_parts.specs.Parts.{sight_of}
 use Rattle.pk_core.{proofs.Steadying.steadies, proofs.Steadying.between_none, proofs.Due.merges_next, proofs.Staying.keeps_fresh, proofs.Stepping.tick_may}
 use Rattle.pk_core.proofs.engine.DriveEngine.tick.Goals as goal
@@ -13,7 +15,7 @@ returns g c = rw (← c.self.view_is) (
     let e = c.step-answer.ensures in
     let t = e.ticks in
     let new = g.B.Nand.state c.step-answer.new.board in
-    let between = λ runs. between_none c.step-answer.new.parts new.shape new.pages (e.agrees runs) e.none in
+    let between = λ (runs : stopped_by c.step-answer.result ≡ false). between_none c.step-answer.new.parts new.shape new.pages (e.agrees runs) e.none in
     record {
       leaves = record { stops = e.stops; agrees = between; rest = t.rest };
       answers = record { none = e.none; stands = t.stands; grows = t.grows; idle = e.idle; idle_rests = t.idle_rests; unmade = t.unmade };
