@@ -101,10 +101,10 @@ pub record IsListSize (c : Command) : Type 0 where
   pub least : 4 ≤ c.size
 
 pub list_sized : (spaces : ℕ) (shape : Shape) (c : Command) → op_of c.opcode ≡ Some ListKeys → early spaces shape c ≡ None → IsListSize c
-list_sized spaces shape c is e = search (
-  leb-true c.key_len 16 (passed_key spaces shape c ListKeys is e),
-  leb-true 4 c.size (check_none (nat_le 4 c.size) 0x02 (passed_size spaces shape c ListKeys is e)),
-)
+list_sized spaces shape c is e = record {
+  key_most = leb-true c.key_len 16 (passed_key spaces shape c ListKeys is e);
+  least = leb-true 4 c.size (check_none (nat_le 4 c.size) 0x02 (passed_size spaces shape c ListKeys is e));
+}
 
 -- ---- a drive with one namespace
 
@@ -136,18 +136,25 @@ module _ (shape : Shape) (terms : Terms) (most : ℕ) (m : Map) (alone : IsAlone
 
   pub late_alone : (k : Opcode) → op_of c.opcode ≡ Some k → early (length terms.limits) shape c ≡ None
       → late_of shape (limit_of terms.limits c.namespace) (in_space c.namespace m) c (Some k) ≡ late_of shape most m c (Some k)
+  late_alone Flush is e = refl
   late_alone Store is e = late_first (first_only Store (λ n k. refl) is e) Store
   late_alone Retrieve is e = late_first (first_only Retrieve (λ n k. refl) is e) Retrieve
+  late_alone ListKeys is e = refl
   late_alone Delete is e = late_first (first_only Delete (λ n k. refl) is e) Delete
   late_alone Exist is e = late_first (first_only Exist (λ n k. refl) is e) Exist
-  late_alone _ is e = refl
+  late_alone Tick is e = refl
+  late_alone Report is e = refl
 
   pub reply_alone : (own : List ℕ) (k : Opcode) → op_of c.opcode ≡ Some k → early (length terms.limits) shape c ≡ None
       → reply_of shape (limit_of terms.limits c.namespace) terms.frames (in_space c.namespace m) own c (Some k) ≡ reply_of shape most terms.frames m own c (Some k)
+  reply_alone own Flush is e = refl
+  reply_alone own Store is e = refl
   reply_alone own Retrieve is e = reply_first (first_only Retrieve (λ n k. refl) is e) own Retrieve
   reply_alone own ListKeys is e = reply_first (first_only ListKeys (λ n k. refl) is e) own ListKeys
+  reply_alone own Delete is e = refl
+  reply_alone own Exist is e = refl
+  reply_alone own Tick is e = refl
   reply_alone own Report is e = reply_first (first_only Report (λ n k. refl) is e) own Report
-  reply_alone own _ is e = refl
 
   -- its reply, and the map that it leaves
   pub record ServesAlone (own : List ℕ) (k : Opcode) : Type 0 where

@@ -44,4 +44,7 @@ lists from bytes count left (k ∷ ks) =
 
 -- how many keys were listed, and they
 pub listed_answer : (from : Key) (left : ℕ) (ks : List Key) (l : Listing) → l ≡ offered_all from (room_left [] 0 left) ks → u32 l.count ++ l.bytes ≡ list_bytes (fitting left (wanted from ks))
-listed_answer from left ks l e = search (arith, lists)
+listed_answer from left ks l e =
+    let all = lists from [] 0 left ks in
+    let count : 0 + length (fitting left (wanted from ks)) ≡ length (fitting left (wanted from ks)) = omega arith in
+    ap (λ (x : Listing). u32 x.count ++ x.bytes) e ∙ (λ i. u32 ((all.1 ∙ count) i) ++ all.0 i)

@@ -71,8 +71,9 @@ both_ok (Err e) P Q R p q f = tt
 -- ---- the live pages
 
 equal : (r : Ordering) → is_eq r ≡ true → r ≡ Equal
+equal Less e = cc
 equal Equal e = refl
-equal _ e = cc
+equal Greater e = cc
 
 -- a key that is put back if it was taken away
 put_back : (m : Map) (k : Key) (v : List ℕ) → get m k ≡ Some v → insert (remove m k) k v ≡ m
@@ -126,7 +127,12 @@ pub live_removed : (shape : Shape) (m : Map) (k : Key) (before held : ℕ) → b
 live_removed shape m k before held b h = let whole = live-remove shape m k in omega (arith, whole, b, h)
 
 ceil_some : (x y : ℕ) → 1 ≤ x → 1 ≤ div_ceil x y
-ceil_some x y some = search (arith)
+ceil_some x y some =
+    let whole = div-add-mod' x y in
+    elim (x / y) as (λ q. q * y + x % y ≡ x → 1 ≤ q + min 1 (x % y)) [
+      | zero ↦ λ e. omega (arith, e, some)
+      | suc q ↦ λ e. omega arith
+    ] whole
 
 length-pages : (shape : Shape) (es : List (Key × List ℕ)) → length es ≤ pages_in shape es
 unfolding charge

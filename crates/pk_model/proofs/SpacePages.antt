@@ -29,9 +29,10 @@ live_of_part shape space m = ap (pages_in shape) (entries_in space m) ∙ pages_
 module _ (shape : Shape) (at : ℕ → Page) (sizes : (k : ℕ) (bytes : List ℕ) → at k ≡ whole bytes → length bytes ≡ shape.page_bytes) (positive : 0 < shape.page_bytes) (named_blocks : List ℕ) where
   pub pages_read : (space : ℕ) (es : List (Key × Place)) (vs : List (Key × List ℕ)) → Reads shape named_blocks at es vs → pages_in_space shape space vs ≡ pages_of_space shape space es
   pages_read space [] [] reads = refl
+  pages_read space [] (v ∷ vs) reads = absurd reads
+  pages_read space (e ∷ es) [] reads = absurd reads
   pages_read space (e ∷ es) (v ∷ vs) reads =
       λ i. (if space_of (reads.0.0 i) == space then charge shape (length-value_at shape at sizes positive e.0 e.1 v.1 reads.0.1 i) else 0) + pages_read space es vs reads.1 i
-  pages_read space _ _ reads = absurd reads
 
   module _ (es : List (Key × Place)) (m : Map) (reads : Reads shape named_blocks at es (entries m)) where
     -- the live pages of a namespace are those of its places

@@ -7,7 +7,9 @@ use Rattle.pk_model.specs.Spaces.{in_space}
 use Rattle.pk_model.proofs.machine.MapMachine.report.Goals as goal
 
 pub overflow_cast-len : goal.overflow_cast-len
-overflow_cast-len c = search (arith, len-live, c.self.inside.shape, c.self.inside.map)
+overflow_cast-len c =
+    let pages = len-live c.self.inside.shape c.self.inside.map in
+    omega (arith, pages, c.len.ensures, c.self.invariant.0, c.self.invariant.1, c.limit-limit.ensures.value, c.limit-limit.type_inv)
 
 pub returns : goal.returns
 returns c =
