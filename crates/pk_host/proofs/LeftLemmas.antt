@@ -48,19 +48,18 @@ module _ (shape : Shape) (terms : Terms) (m : Map) (own : List ℕ) (c : Command
     (refuses : (status : ℕ) → refused shape terms.limits m c ≡ Some status → P (refusal status) m)
     (serves_so : (k : Opcode) → op_of c.opcode ≡ Some k → early (length terms.limits) shape c ≡ None → late_of shape (limit_of terms.limits c.namespace) (in_space c.namespace m) c (Some k) ≡ None
     → P (reply_of shape (limit_of terms.limits c.namespace) terms.frames (in_space c.namespace m) own c (Some k)) (effect m c (Some k))) where
+  same_so : (a a' : Reply) (n n' : Map) → a ≡ a' → n ≡ n' → P a' n' → P a n
+  same_so a a' n n' e f p = subst (λ (x : Reply). P x n) (sym e) (subst (λ (y : Map). P a' y) (sym f) p)
+
   served_by : (o : Option Opcode) → op_of c.opcode ≡ o → early (length terms.limits) shape c ≡ None → late_of shape (limit_of terms.limits c.namespace) (in_space c.namespace m) c o ≡ None
       → P (reply shape terms m own c) (map_after shape terms.limits m c)
   served_by None is passed late =
       absurd (let clash : ◌≡◌ {A = Option ℕ} (Some 1) None = sym (ap (λ (o : Option Opcode). fault_of (length terms.limits) shape c o) is) ∙ passed in cc)
-  served_by (Some k) is passed late =
-      let s = serves shape terms m own c k is passed late in
-      subst (λ (a : Reply). P a (map_after shape terms.limits m c)) (sym s.replied) (subst (λ (n : Map). P _ n) (sym s.leaves) (serves_so k is passed late))
+  served_by (Some k) is passed late = let s = serves shape terms m own c k is passed late in same_so _ _ _ _ s.replied s.leaves (serves_so k is passed late)
 
   pub answered_by : P (reply shape terms m own c) (map_after shape terms.limits m c)
   answered_by = elim (refused shape terms.limits m c) as (λ r. refused shape terms.limits m c ≡ r → P (reply shape terms m own c) (map_after shape terms.limits m c)) [
-    | Some status ↦ λ e.
-        let r = refuses_with shape terms m own c status e in
-        subst (λ (a : Reply). P a (map_after shape terms.limits m c)) (sym r.replied) (subst (λ (n : Map). P _ n) (sym r.leaves) (refuses status e))
+    | Some status ↦ λ e. (let r = refuses_with shape terms m own c status e in same_so _ _ _ _ r.replied r.leaves (refuses status e))
     | None ↦ λ e.
         let both = first_none (early (length terms.limits) shape c) (late_of shape (limit_of terms.limits c.namespace) (in_space c.namespace m) c (op_of c.opcode)) e in
         served_by (op_of c.opcode) refl both.0 both.1
