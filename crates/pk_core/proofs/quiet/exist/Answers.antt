@@ -1,4 +1,4 @@
-use Rattle.std.proofs.Common.{ap, arith, subst, ◌-◌, refl}
+use Rattle.std.proofs.Common.{ap, arith, subst, refl}
 use Rattle.pk_nvme.{specs.Opcode.op_of, specs.declared.opcode.Opcode.TheVariants.Exist}
 use Rattle.pk_parts.{specs.Quiet.Looks}
 use Rattle.pk_core.{proofs.Unchanging.exist_found, proofs.Unchanging.none_found, proofs.Unchanging.unread_look, proofs.LookedUp.only_looked}

@@ -1,10 +1,9 @@
-use Rattle.std.proofs.Common.{◌∙◌, length, ap, arith, subst, ◌-◌, refl}
+use Rattle.std.proofs.Common.{◌∙◌, length, ap, arith, subst, refl}
 use Rattle.pk_parts.{specs.Quiet.Looks}
 use Rattle.pk_core.proofs.Unchanging.{Handed, retrieve_found, unread_value, front_of, room_of, value_reads, value_breaks, few_of, none_found, unread_look}
-use Rattle.pk_core.proofs.Callings.{looks_less}
+use Rattle.pk_core.{proofs.Callings.looks_less, proofs.quiet.retrieve.Goals.After-min-count}
 use Rattle.pk_nvme.{specs.Opcode.op_of, specs.declared.opcode.Opcode.TheVariants.Retrieve}
 use Rattle.pk_core.{proofs.Early.request_space, proofs.LookedUp.only_looked, proofs.LookedUp.only_unread, proofs.quiet.retrieve.Given.Over}
-use Rattle.pk_core.proofs.quiet.retrieve.Goals.{After-min-count}
 use Rattle.pk_core.proofs.quiet.retrieve.Goals as goal
 
 pub key-key-requires-clause-space : goal.key-key-requires-clause-space

@@ -1,4 +1,4 @@
-use Rattle.std.proofs.Common.{◌-◌, [], refl, arith, false}
+use Rattle.std.proofs.Common.{[], refl, arith, false}
 use Rattle.pk_core.{proofs.LookedUp.deletes_none, proofs.LookedUp.deletes_came, proofs.Amounts.room_few, proofs.Amounts.room_last}
 use Rattle.pk_core.{proofs.Served.can_take, proofs.Served.delete_missing, proofs.Served.delete_came, proofs.Whole.take_makes_whole, proofs.Statuses.told_refused}
 use Rattle.pk_background.proofs.Callings.{spends_same}

@@ -1,4 +1,4 @@
-use Rattle.std.proofs.Common.{ap, refl, sym, ◌∙◌, length, ◌-◌, is_some, arith, false}
+use Rattle.std.proofs.Common.{ap, refl, sym, ◌∙◌, length, is_some, arith, false}
 use Rattle.pk_base.{specs.Shape.charge}
 use Rattle.pk_core.{proofs.LookedUp.stores_none, proofs.LookedUp.stores_came, proofs.Amounts.store_few, proofs.Whole.put_makes_whole}
 use Rattle.pk_core.proofs.Served.{short_place, key_within, can_put, store_refused, store_came}
