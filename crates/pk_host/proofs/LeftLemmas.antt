@@ -24,22 +24,22 @@ check_none : (b : Bool) (s : ℕ) → check b s ≡ None → b ≡ true
 check_none true s h = refl
 check_none false s h = cc
 
--- what is chosen is behind a choice that it is not
-behind : {A : Type 0} (b : Bool) (x : A) (y : Option A) (z : A) → (x ≡ z → ⊥) → (if b then Some x else y) ≡ Some z → y ≡ Some z
-behind true x y z other e = absurd (other (some_same x z e))
-behind false x y z other e = e
+-- a choice that is not the first one is of the rest
+otherwise : {A : Type 0} (b : Bool) (x : A) (y : Option A) (z : A) → (x ≡ z → ⊥) → (if b then Some x else y) ≡ Some z → y ≡ Some z
+otherwise true x y z other e = absurd (other (some_same x z e))
+otherwise false x y z other e = e
 
 -- no other number is that of a Store
 store_alone : (n : ℕ) → op_of n ≡ Some Store → (n == STORE) ≡ true
-store_alone n e = by (n == STORE) (behind (n == FLUSH) Flush _ Store (λ h. cc) e)
+store_alone n e = by (n == STORE) (otherwise (n == FLUSH) Flush _ Store (λ h. cc) e)
   where
     by : (b : Bool) → (if b then Some Store else if n == RETRIEVE then Some Retrieve else if n == LIST then Some ListKeys else if n == DELETE then Some Delete
         else if n == EXIST then Some Exist else if n == TICK then Some Tick else if n == REPORT then Some Report else None) ≡ Some Store → b ≡ true
     by true e = refl
     by false e =
-        let last : ◌≡◌ {A = Option Opcode} None (Some Store) = behind (n == REPORT) Report None Store (λ h. cc) (behind (n == TICK) Tick _ Store (λ h. cc)
-        (behind (n == EXIST) Exist _ Store (λ h. cc) (behind (n == DELETE) Delete _ Store (λ h. cc)
-        (behind (n == LIST) ListKeys _ Store (λ h. cc) (behind (n == RETRIEVE) Retrieve _ Store (λ h. cc) e))))) in cc
+        let last : ◌≡◌ {A = Option Opcode} None (Some Store) = otherwise (n == REPORT) Report None Store (λ h. cc) (otherwise (n == TICK) Tick _ Store (λ h. cc)
+        (otherwise (n == EXIST) Exist _ Store (λ h. cc) (otherwise (n == DELETE) Delete _ Store (λ h. cc)
+        (otherwise (n == LIST) ListKeys _ Store (λ h. cc) (otherwise (n == RETRIEVE) Retrieve _ Store (λ h. cc) e))))) in cc
 
 -- ---- the map afterwards
 
@@ -88,10 +88,10 @@ module _ (shape : Shape) (most : ℕ) (m : Map) (c : Command) (good : IsGoodMap 
       let key_length : length (bytes_of (key c)) ≡ c.key_len = length-take-le c.key_len c.key_bytes (omega (arith, sized.most, handed.place_size)) in
       let whole : length c.value ≡ c.size = handed.whole.whole ∙ ap (λ b. if b then c.size else 0) (store_alone c.opcode is) in
       let small = store_sized 1 shape c is passed in
-      let behind = first_none (check (not (must_be_new c && contains_key m (key c))) KEY_EXISTS) (check (nat_le (live_after shape m c) most) CAPACITY_EXCEEDED)
+      let otherwise = first_none (check (not (must_be_new c && contains_key m (key c))) KEY_EXISTS) (check (nat_le (live_after shape m c) most) CAPACITY_EXCEEDED)
       (first_none (check (not (must_exist c) || contains_key m (key c)) KEY_DOES_NOT_EXIST)
       (or_else (check (not (must_be_new c && contains_key m (key c))) KEY_EXISTS) (check (nat_le (live_after shape m c) most) CAPACITY_EXCEEDED)) late).1 in
-      let within = leb-true (live_after shape m c) most (check_none (nat_le (live_after shape m c) most) CAPACITY_EXCEEDED behind.1) in
+      let within = leb-true (live_after shape m c) most (check_none (nat_le (live_after shape m c) most) CAPACITY_EXCEEDED otherwise.1) in
       let is_live : live_after shape m c ≡ live shape (insert m (key c) c.value) =
       live_stored shape m (key c) c.value (live shape m) (pages_if_some shape (get m (key c))) (charge shape c.size) refl refl (ap (charge shape) (sym whole)) in
       let is_key : IsKey (key c) =
