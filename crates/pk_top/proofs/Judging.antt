@@ -86,8 +86,9 @@ pub spared_none : (rest : List (List ℕ)) (spares : ℕ) → spares < 1 → Non
 spared_none rest spares low = rw (lt-leb 1 spares low)
 
 pub spared_many : (rest : List (List ℕ)) (spares : ℕ) → MOST_SPARES < spares → None ≡ spared_with rest spares
-spared_many rest spares many = rw (lt-leb spares MOST_SPARES many) (beyond (nat_le 1 spares))
+spared_many rest spares many = beyond (nat_le 1 spares) _ (lt-leb spares MOST_SPARES many)
   where
-    beyond : (low : Bool) → None ≡ (if low && false then Some (form_of rest spares) else None)
-    beyond true = refl
-    beyond false = refl
+    beyond : (low : Bool) (fits : Bool) → nat_le spares MOST_SPARES ≡ false
+        → None ≡ (if low && nat_le spares MOST_SPARES && fits then Some (form_of rest spares) else None)
+    beyond true fits none = rw none refl
+    beyond false fits none = refl
