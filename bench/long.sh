@@ -36,11 +36,9 @@ for crate in "$top"/crates/*/; do
     mkdir "$folder/crates/$name/out"
     cp -rl "${crate}out/rlib" "$folder/crates/$name/out/" 2>/dev/null || cp -rf "${crate}out/rlib" "$folder/crates/$name/out/"
 done
-tests=$folder/crates/pk_test_stress_run
-rm "$tests"/src/*
-# the trial of a reclaim is in pk_test_program, whose other dependencies it does not need
+tests=$folder/crates/pk_test_program
+rm -r "$tests"/src/*
 cp "$top/crates/pk_test_program/src/reclaims.rt" "$top/crates/pk_test_program/src/steps.rt" "$tests/src/"
-sed -i 's/^pk_test_stress_run: /&pk_nand pk_nvme /' "$folder/crates.txt"
 cat > "$tests/src/lib.rt" <<'RT'
 //! The trials that take long.
 #![tactic(auto)]
@@ -96,8 +94,8 @@ rt test -- "no trial" >log 2>&1 || {
     cat log >&2
     exit 1
 }
-./out/pk_test_stress_run_tests --list | sed -n "s/^tests::\\(.*$word.*\\): test\$/\\1/p" | while read -r name; do
+./out/pk_test_program_tests --list | sed -n "s/^tests::\\(.*$word.*\\): test\$/\\1/p" | while read -r name; do
     start=$(date +%s)
-    ./out/pk_test_stress_run_tests "tests::$name"
+    ./out/pk_test_program_tests "tests::$name"
     echo "$name: $(($(date +%s) - start)) seconds"
 done

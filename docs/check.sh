@@ -74,9 +74,10 @@ for document in README.md docs/TESTS.md; do
 done
 tried=$(find bench/wrong-bodies -name '*.edit' | wc -l)
 grep -q "| $tried | .bench/wrong.sh. |" docs/TESTS.md || fault "docs/TESTS.md: there are $tried wrong bodies in bench"
-sed -n 's/^| tests .* | \([0-9]*\) | `\(pk_test_[a-z_]*\)` .*/\1 \2/p' docs/TESTS.md | while read -r count crate; do
-    found=$(grep -r '^#\[test\]' "crates/$crate/src" | wc -l)
-    [ "$found" -eq "$count" ] || fault "docs/TESTS.md: $crate has $found tests"
+# The tests of a crate are those of its files, those of a module of it those of the folder that has the module's name.
+sed -n 's/^| tests .* | \([0-9]*\) | `\(pk_test_[a-z_]*\)`\(, `\([a-z]*\)`\)\{0,1\} .*/\1 \2 \4/p' docs/TESTS.md | while read -r count crate module; do
+    found=$(cat "crates/$crate/src/$module"/*.rt | grep -c '^#\[test\]')
+    [ "$found" -eq "$count" ] || fault "docs/TESTS.md: $crate $module has $found tests"
 done
 
 for document in README.md docs/*.md clients/python/README.md; do
@@ -130,7 +131,7 @@ sed -n 's/^| .* | \(`.*\|the test.*\) |$/\1/p' docs/WRONG-BODIES.md | while IFS=
             pk_*) crate=$name ;;
             *)
                 echo "$crate $name" >>"$named"
-                refused "$crate" "$name" || grep -rqw "fn $name" crates/pk_test_program/src crates/pk_test_stress_run/src \
+                refused "$crate" "$name" || grep -rqw "fn $name" crates/pk_test_program/src \
                     || fault "docs/WRONG-BODIES.md: neither a wrong body nor a test $name"
                 ;;
         esac

@@ -3,8 +3,10 @@
 //!
 //! An image goes from session to session, is cut at every mark, fails at calls, is damaged and is
 //! worn. Each trial compares the status and the posted bytes with the records of the answers that
-//! it lists. The crate has nothing but these tests. They see words, scripts and records alone, and
-//! the board in memory.
+//! it lists. They see words, scripts and records alone, and the board in memory.
+//!
+//! Modules of their own have the hard cases and drives in heaps (`stress`), a mirrored pair
+//! (`mirror`) and spare blocks (`spare`). The crate has nothing but tests.
 #![tactic(auto)]
 
 #[cfg(test)]
@@ -34,6 +36,8 @@ mod machine;
 #[cfg(test)]
 mod merges;
 #[cfg(test)]
+mod mirror;
+#[cfg(test)]
 mod reclaims;
 #[cfg(test)]
 mod recut;
@@ -50,7 +54,11 @@ mod space_cuts;
 #[cfg(test)]
 mod spaces;
 #[cfg(test)]
+mod spare;
+#[cfg(test)]
 mod steps;
+#[cfg(test)]
+mod stress;
 #[cfg(test)]
 mod ways;
 #[cfg(test)]

@@ -228,6 +228,16 @@ pub fn pages_left(rt: &impl Abort, alloc: Global, flash: &Flash) -> Vec<PageStat
     done(rt, pk_test_scripts::boards::pages_left(alloc, flash))
 }
 
+/// Copies of these pages.
+pub fn copies(rt: &impl Abort, alloc: Global, pages: &[PageState]) -> Vec<PageState> {
+    let mut own = Vec::new(alloc);
+    for page in pages {
+        own.push(pk_test_scripts::boards::copied(alloc, page).expect(rt, "memory"))
+            .expect(rt, "memory");
+    }
+    own
+}
+
 // Whether a page is in the same state as another.
 fn is_same(page: &PageState, other: &PageState) -> bool {
     match (page, other) {

@@ -1,6 +1,6 @@
 //! The worked rows: a program that fails in a session moves its block to a spare block, and five that fail use the spare blocks up.
 
-use crate::spared::{
+use crate::spare::spared::{
     BLOCK_PAGES, FIRST_TABLE_BLOCK, Failing, Image, LIST, call_after_opening, left, made, one,
     said, serve, serve_failing,
 };

@@ -1,6 +1,6 @@
 //! Each call of the inner flash in a session fails. What was answered is kept, and the drive serves on.
 
-use crate::spared::{
+use crate::spare::spared::{
     Failing, Image, call_after_opening, left, made, one, serve, serve_failing, serves_on, way,
 };
 use pk_flash::Flash;

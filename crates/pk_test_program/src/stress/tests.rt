@@ -1,24 +1,14 @@
 //! The trials of hard cases, one test for each.
 
+use crate::steps::Pink;
 use pk_core::{Drive, OpenError};
 use pk_drive::Engine;
 use pk_flash::Flash;
-use pk_test_scripts::Program;
 use pk_test_stress::deep::SHAPES;
 use pk_test_stress::merged::MERGES;
 use pk_test_stress::{Opened, Opens};
-use pk_top::run;
 use std::alloc::Global;
 use std::test::*;
-
-/// The program whose parts this repository proves.
-pub struct Pink;
-
-impl Program for Pink {
-    fn run(alloc: Global, words: &[&str], flash: &mut Flash) -> u8 {
-        run(alloc, words, flash).0
-    }
-}
 
 // How many keys the first namespace of a drive has.
 fn first_keys<D: Engine>(drive: &D) -> u32 {

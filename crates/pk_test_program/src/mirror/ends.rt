@@ -1,9 +1,10 @@
 //! Drives that are worn, damaged or full.
 
-use crate::pairs::{
-    Images, MAKE_SMALL, MAKE_WORKED, alone, board_of, done, empty, images_of, left, made, run_over,
+use crate::mirror::pairs::{
+    Images, MAKE_SMALL, MAKE_WORKED, alone, board_of, empty, images_of, made, run_over,
     said, same_alone, shape_of,
 };
+use crate::steps::{done, pages_left};
 use pk_nand::{PageBytes, PageState};
 use pk_test_scripts::script::{Ask, Value};
 use std::alloc::Global;
@@ -23,7 +24,7 @@ fn numbered(rt: &impl Abort, alloc: Global, page: &PageState, number: u64) -> Pa
 
 // A made drive of 64 blocks whose root, the only one, has this number in both of its pages.
 fn made_with_number(rt: &impl Abort, alloc: Global, number: u64) -> Vec<PageState> {
-    let mut pages = left(rt, alloc, &made(rt, alloc, MAKE_WORKED));
+    let mut pages = pages_left(rt, alloc, &made(rt, alloc, MAKE_WORKED));
     for page in 0..2usize {
         match pages.get_mut(page) {
             Some(state) => *state = numbered(rt, alloc, state, number),
@@ -71,7 +72,7 @@ fn worn_drives(rt: HostRuntime) {
 
 // These pages, of which the one of the first value is torn.
 fn torn(rt: &impl Abort, alloc: Global, images: &Images, pages: &[PageState]) -> Vec<PageState> {
-    let mut torn = left(rt, alloc, &board_of(rt, alloc, images.shape, pages));
+    let mut torn = pages_left(rt, alloc, &board_of(rt, alloc, images.shape, pages));
     match torn.get_mut(32) {
         Some(page) => *page = PageState::Torn,
         None => panic!(rt; "a page"),
@@ -89,7 +90,7 @@ fn damaged_drives(rt: HostRuntime) {
         let first = Images {
             shape: images.shape,
             first: torn(&rt, alloc, &images, &images.first),
-            second: left(
+            second: pages_left(
                 &rt,
                 alloc,
                 &board_of(&rt, alloc, images.shape, &images.second),
@@ -98,7 +99,7 @@ fn damaged_drives(rt: HostRuntime) {
         refused(&rt, alloc, &first, text, 8);
         let second = Images {
             shape: images.shape,
-            first: left(
+            first: pages_left(
                 &rt,
                 alloc,
                 &board_of(&rt, alloc, images.shape, &images.first),
@@ -121,10 +122,10 @@ fn full(rt: &impl Abort, alloc: Global, keys: [u8; 6]) -> Vec<PageState> {
     }
     let input = pk_test_scripts::script::script(alloc, &asks).expect(rt, "memory");
     let shape = shape_of(rt, &made);
-    let pages = left(rt, alloc, &made);
+    let pages = pages_left(rt, alloc, &made);
     let mut flash = done(rt, pk_test_scripts::board(alloc, shape, pages, input));
     assert!(rt; pk_top::run(alloc, &["serve", "36"], &mut flash).0 == 0);
-    left(rt, alloc, &flash)
+    pages_left(rt, alloc, &flash)
 }
 
 /// A second drive that is full of other keys is made equal to a full first; a store that the first refuses for want of space is not

@@ -1,6 +1,6 @@
 //! Images whose tables are missing, wrong or more than one, and words that are refused.
 
-use crate::spared::{
+use crate::spare::spared::{
     BLOCK_PAGES, FIRST_TABLE_BLOCK, GET, LIST, MAKE, board_of, inner, left, made, made_by,
     run_over, said, serve,
 };

@@ -1,7 +1,7 @@
 //! The marks that a flash with spare blocks records itself: one for each program, erase and post of the drive, and none for the calls that
 //! move a block. Without room for the next one it refuses the call.
 
-use crate::spared::{
+use crate::spare::spared::{
     Failing, Image, MAKE, Ran, SERVE, call_after_opening, failing_board, made, one, run_logged,
     serve,
 };

@@ -1,10 +1,11 @@
 //! Each cut of either flash, in some ways, followed by a run over both: nothing that was completed is lost, the word that was cut off is
 //! done or not done at all, and both drives hold the same.
 
-use crate::pairs::{
-    Change, DELETE, Half, Images, PUT, RESYNC, Ran, board_of, different, images_of, left, mended,
+use crate::mirror::pairs::{
+    Change, DELETE, Half, Images, PUT, RESYNC, Ran, board_of, different, images_of, mended,
     mended_to_either, run_over,
 };
+use crate::steps::pages_left;
 use pk_flash::{Flash, Left};
 use pk_nand::PageState;
 use pk_test_scripts::ways::few_ways;
@@ -18,7 +19,7 @@ fn copy_of(rt: &impl Abort, alloc: Global, images: &Images, half: Half) -> Vec<P
         Half::First => &images.first,
         Half::Second => &images.second,
     };
-    left(rt, alloc, &board_of(rt, alloc, images.shape, pages))
+    pages_left(rt, alloc, &board_of(rt, alloc, images.shape, pages))
 }
 
 // The pages of a board after a cut of the mark with this number.

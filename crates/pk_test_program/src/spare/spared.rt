@@ -1,5 +1,6 @@
 //! Boards with four spare blocks, and runs of the program over them. Whatever fails ends the test.
 
+use crate::steps::{copies, done};
 use pk_base::Shape;
 use pk_flash::{Flash, Left, PageLeft, Room};
 use pk_nand::PageState;
@@ -67,14 +68,6 @@ pub fn way(number: u8) -> Left {
     }
 }
 
-/// The value of a step that did not fail.
-pub fn done<T>(rt: &impl Abort, step: Result<T, Fail>) -> T {
-    match step {
-        Ok(value) => value,
-        Err(_) => panic!(rt; "a step that fails"),
-    }
-}
-
 /// The shape of the inner flash under the drive of 64 blocks: its blocks, four spare blocks and two for tables.
 pub fn inner(rt: &impl Abort) -> Shape {
     match Shape::new(512, 16, 70) {
@@ -114,16 +107,6 @@ pub fn left(rt: &impl Abort, alloc: Global, flash: &Flash) -> Image {
         },
         None => panic!(rt; "a board without an image"),
     }
-}
-
-/// Copies of these pages.
-fn copies(rt: &impl Abort, alloc: Global, pages: &[PageState]) -> Vec<PageState> {
-    let mut own = Vec::new(alloc);
-    for page in pages {
-        own.push(boards::copied(alloc, page).expect(rt, "memory"))
-            .expect(rt, "memory");
-    }
-    own
 }
 
 /// An inner board with copies of these pages, and this input.

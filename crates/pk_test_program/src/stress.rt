@@ -1,13 +1,8 @@
 //! The trials of hard cases of `pk_test_stress`, run on the program; and whole drives in regions of
 //! fixed size: trials run on drives that have all their memory in a heap of their own, and each of
-//! the allocations of an opening refused. The crate has nothing but these tests.
-#![tactic(auto)]
+//! the allocations of an opening refused.
 
-#[cfg(test)]
 mod bounds;
-#[cfg(test)]
 mod heap_tests;
-#[cfg(test)]
 mod heaps;
-#[cfg(test)]
 mod tests;

@@ -1,7 +1,7 @@
 //! A session in which a block moves to a spare block is cut off at each call of the inner flash: what was answered is kept, and the drive
 //! serves on.
 
-use crate::spared::{
+use crate::spare::spared::{
     Failing, Image, MOST_CALLS, left, made, moving, one, serve_failing, serves_on, way,
 };
 use pk_flash::Left;

@@ -2,7 +2,7 @@
 //! and together with each later one. Which calls there are is a list, by the rules of a session and of a move; the counts of the flash
 //! have to agree with it.
 
-use crate::spared::{
+use crate::spare::spared::{
     Failing, Image, MAKE_SMALL, Ran, left, made_by, one, serve, serve_failing, way,
 };
 use pk_flash::Left;

@@ -1,6 +1,6 @@
 //! The worked rows, and the words of a pair.
 
-use crate::pairs::{
+use crate::mirror::pairs::{
     Half, MAKE_SMALL, MAKE_WORKED, alone, blank, empty, images_of, made, pair_status, run_failing,
     run_over, said,
 };

@@ -1,5 +1,6 @@
 //! Two boards that the program uses as one, and each of them alone. Whatever fails ends the test.
 
+use crate::steps::{copies, done, pages_left};
 use pk_base::Shape;
 use pk_flash::{Flash, Left, Room};
 use pk_nand::PageState;
@@ -62,14 +63,6 @@ impl Ran {
     }
 }
 
-/// The value of a step that did not fail.
-pub fn done<T>(rt: &impl Abort, step: Result<T, Fail>) -> T {
-    match step {
-        Ok(value) => value,
-        Err(_) => panic!(rt; "a step that fails"),
-    }
-}
-
 /// The words of a text, which single blanks divide.
 fn words_of<'t>(rt: &impl Abort, alloc: Global, text: &'t str) -> Vec<&'t str> {
     let mut words = Vec::new(alloc);
@@ -117,21 +110,6 @@ pub fn shape_of(rt: &impl Abort, flash: &Flash) -> Shape {
     }
 }
 
-/// The pages that a board has now.
-pub fn left(rt: &impl Abort, alloc: Global, flash: &Flash) -> Vec<PageState> {
-    done(rt, boards::pages_left(alloc, flash))
-}
-
-/// Copies of these pages.
-fn copies(rt: &impl Abort, alloc: Global, pages: &[PageState]) -> Vec<PageState> {
-    let mut own = Vec::new(alloc);
-    for page in pages {
-        own.push(boards::copied(alloc, page).expect(rt, "memory"))
-            .expect(rt, "memory");
-    }
-    own
-}
-
 /// A board with copies of these pages, and no input.
 pub fn board_of(rt: &impl Abort, alloc: Global, shape: Shape, pages: &[PageState]) -> Flash {
     let own = copies(rt, alloc, pages);
@@ -143,8 +121,8 @@ pub fn board_of(rt: &impl Abort, alloc: Global, shape: Shape, pages: &[PageState
 pub fn images_of(rt: &impl Abort, alloc: Global, first: &Flash, second: &Flash) -> Images {
     Images {
         shape: shape_of(rt, first),
-        first: left(rt, alloc, first),
-        second: left(rt, alloc, second),
+        first: pages_left(rt, alloc, first),
+        second: pages_left(rt, alloc, second),
     }
 }
 

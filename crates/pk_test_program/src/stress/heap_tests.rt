@@ -1,6 +1,6 @@
 //! Sessions of drives in heaps, and openings that find no memory.
 
-use crate::heaps::{Large, Small, TooSmall};
+use crate::stress::heaps::{Large, Small, TooSmall};
 use linked_list_allocator::LocalHeap;
 use pk_core::{Drive, OpenError};
 use pk_flash::Flash;
