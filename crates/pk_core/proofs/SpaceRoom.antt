@@ -8,7 +8,7 @@ use Rattle.pk_model.{specs.Spaces.AreInSpaces, specs.Spaces.in_space, specs.Spac
 use Rattle.pk_parts.{specs.Parts.Parts, specs.Parts.drive_limits, specs.Agreeing.DriveOnFlash, proofs.OwnLimits.limits_on, proofs.OwnLimits.limits_sum, proofs.Unchanging.held_own}
 use Rattle.pk_changes.specs.Changes.{HasRoomFor}
 
--- a key of one of so many namespaces
+-- a key of one of k namespaces
 in_spaces_put : (spaces : ℕ) (m : Map) (key : Key) (value : List ℕ) → 1 ≤ space_of key → space_of key ≤ spaces → AreInSpaces spaces m → AreInSpaces spaces (insert m key value)
 in_spaces_put spaces m key value some most all =
     let In : Key × List ℕ → Type 0 = λ e. (1 ≤ space_of e.0) × (space_of e.0 ≤ spaces) in

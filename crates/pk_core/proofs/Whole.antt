@@ -258,7 +258,7 @@ module _ {a b : Parts} {s0 s1 : BoardState} (w : Wholes a b s0 s1) where
         running_says (StaysOrOpens b c (charge a.log.shape len)) (StaysOrOpens a c (charge a.log.shape len)) r (opens_behind a b c (charge a.log.shape len) w.stays w.same_shape w.values)
         (subst (λ (s : Shape). OnRunning (StaysOrOpens b c (charge s len)) r) w.same_shape second)
 
-  -- the calls of what comes after it, which are so many by the shape
+  -- the calls of what comes after it, whose number the shape gives
   spends_whole : (calls : Shape → ℕ) (k : ℕ) (s2 : BoardState) → Spends (calls b.log.shape) k s1 s2 → Spends (pair_calls + calls a.log.shape) k s0 s2
   spends_whole calls k s2 second =
       let same = w.same_roots in

@@ -136,6 +136,3 @@ pub half_in : (p : Phase) (x : ReclaimParts) (flash : Flash) (top : ℕ × Root)
 half_in (Commits victim) x flash top found m moves epoch = absurd cc
 half_in p x flash top found m moves epoch = epoch
 
-pub half_out : (p : Phase) (x : ReclaimParts) (flash : Flash) (top : ℕ × Root) (found : Found) (m : Map) → commits_in p ≡ false → HalfIn p x flash top found m → x.log.epoch.half ≡ false
-half_out (Commits victim) x flash top found m moves is = absurd cc
-half_out p x flash top found m moves is = is

@@ -1,5 +1,5 @@
 //! The data blocks of a drive.
-ghost use Rattle.std.specs.Prelude.{◌≡◌, ℕ, List, [], ◌+◌, ◌<◌, ◌≤◌, ◌⊎◌, false, true, sum, length, slice_get, Some, None, IfOk, IfErr, OnOk, OnErr, MatchOption, if◌then◌else◌};
+ghost use Rattle.std.specs.Prelude.{◌≡◌, ℕ, List, [], ◌+◌, ◌<◌, ◌≤◌, false, true, length, slice_get, Some, None, IfOk, IfErr, OnOk, OnErr, MatchOption, if◌then◌else◌};
 ghost use Rattle.std.specs.FinMap.Entries.{put};
 ghost use Rattle.pk_base.specs.Key.{Key, key_cmp};
 ghost use Rattle.pk_base.specs.Shape as spec;
@@ -9,7 +9,6 @@ ghost use Rattle.pk_nand.specs.Calls.{IsReady};
 ghost use Rattle.pk_nand.specs.declared.types.Fault.TheVariants.{Stopped};
 ghost use Rattle.pk_pool.specs.Blocks.{Blocks};
 ghost use Rattle.pk_pool.specs.Taking.{FailsToErase};
-ghost use Rattle.pk_model.specs.Values.{all_pages};
 ghost use Rattle.pk_values.specs.State.{ValuesState, IsSmall, with_none_open, block_opened, more_used, with_written, with_head, with_heads};
 ghost use Rattle.pk_values.specs.State as state;
 ghost use Rattle.pk_values.specs.Placed.{ValuesOnFlash, HasPlaced, StayPlaced, FoundAtOpening, without};
@@ -84,16 +83,6 @@ impl<A: Allocator> Values<A> {
             live,
             open_block: None,
         }
-    }
-
-    /// All live pages.
-    pub fn total(&self) -> u32
-        ensures value { result ≡ sum self.now.live.heads }
-        ensures placed { (shape : spec.Shape) (pool : Blocks) (outputs : List ℕ) (flash : Flash)
-            (es : List (Key × Place)) → ValuesOnFlash shape self.now pool outputs flash es
-            → result ≡ length (all_pages shape es) }
-    {
-        self.live.total()
     }
 
     /// The live values, with the blocks that are closed.
