@@ -88,7 +88,13 @@ def causes(folder, image):
     says([junk, 'make', *shape], 8, 'is no image of a drive: remove it, or name another file')
     says([cut, 'list'], 8, 'has 300000 bytes, and by its head it should have 525344')
     says([damaged, 'list'], 8, 'is damaged, or its making was broken off: see pinkctl check')
-    says([older, 'list'], 8, 'has version 1 of the format, and this program opens version 2')
+    says([older, 'list'], 8, 'has version 1 of the format, and this program opens versions 2 and 3')
+    limited = folder + '/limited'
+    check('a drive with limits is made', run(PINK, limited, 'make', *shape, '100', '392')[0] == 0)
+    with open(limited, 'r+b') as it:
+        it.seek(40)
+        it.write(b'\3')
+    says([limited, 'list'], 8, 'is damaged, or its making was broken off: see pinkctl check')
     says([image, 'make', *shape], 9, 'there is an image already: remove')
     launcher, program = serving(image)
     says([image, 'list'], 6, f'is in use by process {program} (')

@@ -394,8 +394,8 @@ drive_fault() { # IMAGE WORD [SHAPE]: why there is no drive in it, by its file, 
     fi
     version=$(version_of "$@")
     case $version in
-        '' | 2) ;;
-        *) echo "$1 has version $version of the format, and this program opens version 2; docs/LIVING.md says how to move it" ;;
+        '' | 2 | 3) ;;
+        *) echo "$1 has version $version of the format, and this program opens versions 2 and 3; docs/LIVING.md says how to move it" ;;
     esac
 }
 

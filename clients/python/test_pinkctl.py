@@ -27,7 +27,7 @@ HERE = os.path.dirname(os.path.abspath(__file__))
 sys.path.insert(0, HERE)
 
 import pinkdrive
-from pinkctl import image, keys, layout
+from pinkctl import image, keys, layout, rescue
 from pinkctl.__main__ import main as pinkctl
 from pinkctl.status import MEANINGS, Exit
 from pinkdrive import Drive, make
@@ -732,6 +732,16 @@ class Namespaces(unittest.TestCase):
     def test_limits_outside_the_grammar(self):
         for limits in [0], [493], [100, 393], [100, 0, 1]:
             self.assertIsNone(self.read(limits, [(1, b"a", b"x")]).root)
+
+    def test_a_repaired_root_with_limits(self):
+        for limits in [100, 392], []:
+            whole = bytearray(self.image(limits, [(1, b"a", b"x")]))
+            first = 32 + self.N * self.M
+            whole[first + 8] = 7  # another version
+            whole[first + 500] = 1  # padding that is not zeros
+            root = rescue.repaired(image.load_image(whole), 0, bytes(whole[first : first + self.P]))
+            self.assertEqual((root.limits, root.newest, root.number), (tuple(limits), (2, 3), 1))
+
 
 
 class Shapes(OnImage):

@@ -124,13 +124,15 @@ def image_of(data: Buffer) -> tuple[Optional[Image], Optional[str]]:
 def repaired(image: Image, page: int, data: bytes) -> Optional[Root]:
     """The root of a page if only bytes are wrong that are the same in every root of the drive."""
     shape = image.shape
-    for version in it.RULES:
+    for version, rules in it.RULES.items():
         fields = list(it.ROOT_HEAD.unpack_from(data))
         fields[:5] = it.ROOT_TEXT, version, shape.block_pages, shape.page_bytes, shape.blocks
-        fields[6], fields[13] = 0, bytes(8)
+        fields[13] = bytes(8)
+        if not rules.has_limits:
+            fields[6] = 0
         layout = Layout(shape, version)
         blocks = min(fields[5], 4) + sum(layout.run_blocks(min(count, 1 << 20)) for count in fields[9:13])
-        end = it.ROOT_LIST_FROM + 2 * blocks
+        end = layout.root_list_from + 2 * blocks
         head = it.ROOT_HEAD.pack(*fields)
         root = root_in(shape, page, (head + data[len(head) : end]).ljust(shape.page_bytes, b"\0")[: shape.page_bytes])
         if root:
