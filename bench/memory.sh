@@ -1,7 +1,7 @@
 #!/bin/sh
 # Refuses each allocation of a run in turn, by a library that the program is started with and whose malloc fails once: whatever is
-# refused, the run ends with status 7, with nothing taken, posted or written, or as it ends without the refusal. It is not part of the
-# gate. A C compiler makes the library.
+# refused, the run ends with status 7, with nothing taken, posted or written, or as it ends without the refusal, or with 5 or 6 where the
+# output or the file failed for lack of memory. It is not part of the gate. A C compiler makes the library.
 #
 #   bench/memory.sh
 set -eu

@@ -85,12 +85,12 @@ def is_empty(label, letters):
     return set(letters) == {"."} and label.split()[1] in ("free", "unknown")
 
 
-def folded(blocks):
-    """The blocks, with a row for each stretch of three or more erased ones that no root names."""
+def folded(blocks, failing):
+    """The blocks, with a row for each stretch of three or more erased ones that no root names, without the one at which reading fails."""
     rows, at = [], 0
     while at < len(blocks):
         end = at
-        while end < len(blocks) and is_empty(*blocks[end]):
+        while end < len(blocks) and is_empty(*blocks[end]) and end != failing:
             end += 1
         if end - at > 2:
             first, last = blocks[at][0].split()[0], blocks[end - 1][0].split()[0]
@@ -137,7 +137,7 @@ def drawn(heading, spaces, blocks, failing):
     for line in spaces:
         words.append(text(10, y - 4, line))
         y += CELL + 2
-    for number, label, letters in folded(blocks):
+    for number, label, letters in folded(blocks, None if failing is None else failing // pages):
         words.append(text(10, y + CELL - 4, label))
         if letters:
             parts += row(y, letters, number * pages)

@@ -8,7 +8,6 @@ pip calls these functions (PEP 517). The name, the version and the rest are in p
 """
 
 import base64
-import glob
 import hashlib
 import io
 import os
@@ -27,7 +26,7 @@ def project() -> dict:
 
 def sources() -> list:
     """The files of the client and of the tools."""
-    return ["pinkdrive.py", "pinkmirror.py", *sorted(glob.glob("pinkctl/*.py", root_dir=HERE))]
+    return ["pinkdrive.py", "pinkmirror.py", *sorted(f"pinkctl/{it}" for it in os.listdir(os.path.join(HERE, "pinkctl")) if it.endswith(".py"))]
 
 
 def metadata() -> bytes:

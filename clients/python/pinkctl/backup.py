@@ -12,7 +12,7 @@ from .files import NewFile, add_wait, file_error, locked, refuse_existing
 from .status import Exit, ToolError
 
 DESCRIPTION = """\
-Copies an image while no program has it open; a copy of an image in use (cp) does not open. The copy
+Copies an image while no program has it open; a copy of an image in use (cp) mostly does not open. The copy
 is sparse as the image is, synced to the disk, compared with the image byte for byte, checked as
 `pinkctl check` does, and gets its name when all of this is done. Other readers may go on; `pink` on
 this image ends with 6 meanwhile. To restore, copy the copy: pinkctl backup COPY IMAGE."""

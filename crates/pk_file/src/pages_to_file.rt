@@ -149,8 +149,9 @@ pub fn create_image(
     Ok(ImageFile::new(file, len, is_durable))
 }
 
-/// The bytes of a page that a file may lack at its place, if it has zeros from the extent on: no
-/// byte is written that it has. Only zeros follow the first `front` bytes of the page.
+/// The bytes of a page that a file may lack at its place, if it has zeros from the extent on: the
+/// zeros that end the page are not written there. Only zeros follow the first `front` bytes of the
+/// page.
 fn unlike(bytes: &[u8], front: usize, extent: usize) -> &[u8]
     requires { ZerosFrom front bytes.now }
     ensures { Restores result.now extent bytes.now }

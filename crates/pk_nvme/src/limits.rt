@@ -1,6 +1,6 @@
 //! Bounds of the fields of a command.
 
-/// The namespace of the drive.
+/// The first namespace of a drive, which each drive has; a drive without limits has no other.
 pub const NAMESPACE: u32 = 1;
 /// All namespaces: a Flush may name them.
 pub const ALL_NAMESPACES: u32 = 0xFFFF_FFFF;

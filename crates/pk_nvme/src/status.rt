@@ -18,7 +18,7 @@ pub const INVALID_VALUE_SIZE: u8 = 0x85;
 pub const INVALID_KEY_SIZE: u8 = 0x86;
 /// The key is not there.
 pub const KEY_DOES_NOT_EXIST: u8 = 0x87;
-/// A flash operation failed.
+/// A read of the flash failed.
 pub const UNRECOVERED_ERROR: u8 = 0x88;
 /// The key exists, and the Store asked for a new one.
 pub const KEY_EXISTS: u8 = 0x89;
