@@ -32,11 +32,11 @@ pub enum Ticked {
 pub struct Counts {
     /// Live pages of the namespace.
     pub live: u32,
-    /// Most live pages.
+    /// Most live pages of the namespace.
     pub limit: u32,
     /// Keys of the namespace.
     pub keys: u32,
-    /// Levels whose pages are all kept in frames.
+    /// Levels that always have all their pages in frames, by the number of frames alone.
     pub pinned: u32,
     /// Frames of the arena.
     pub frames: u32,

@@ -18,8 +18,8 @@ use pk_pair::write_pair;
 use pk_rootfmt::first;
 use pk_space::Limits;
 
-/// What the root of a drive with these limits has of them: none if they are the one limit of the
-/// shape.
+/// The limits that the root of a drive that is made with these ones has: none if they are the one
+/// limit of the shape.
 fn limits_in_root<'a>(shape: &Shape, limits: &'a Limits) -> &'a [u32]
     requires { limits.now.shape ≡ shape.now }
     ensures value { result.now ≡ written_limits shape.now limits.now.each }

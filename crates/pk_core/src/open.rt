@@ -28,8 +28,8 @@ impl<A: Region> Drive<A> {
     ///
     /// `NotFormatted` exactly if the flash has no root, `Damaged` exactly if it has one and holds
     /// no map, with the page at which its reading fails; `Fault` if a read failed. `Memory` if the
-    /// allocator has none, before a read or between two. Whatever is returned, nothing but reads
-    /// was done, of which one failed exactly at `Fault`.
+    /// allocator has none, before a read, between two or after the last. Whatever is returned,
+    /// nothing but reads was done, of which one failed exactly at `Fault`.
     pub fn open<B: Nand>(
         alloc: A,
         board: &mut B,

@@ -124,7 +124,8 @@ pub trait Engine {
 
     /// The numbers of a Report in this namespace. On a drive that is not stopped the first five are
     /// those of its part of the map, of its limit and of the frames; of the others those of the
-    /// lists and of the journal are those of the flash, and those of blocks are bounds.
+    /// buffers and of the runs are those of the flash, those of blocks are bounds, and of the
+    /// commits of the epoch nothing is said.
     fn counts(&self, space: u8) -> Counts
         requires { 1 ≤ space × space ≤ length (sight self.now).spaces }
 

@@ -1,6 +1,6 @@
 //! Bounds of the fields of a command.
 
-/// The first namespace of a drive, which each drive has; a drive without limits has no other.
+/// Namespace 1, which each drive has: that of the words, of a host and of a mirrored pair.
 pub const NAMESPACE: u32 = 1;
 /// All namespaces: a Flush may name them.
 pub const ALL_NAMESPACES: u32 = 0xFFFF_FFFF;

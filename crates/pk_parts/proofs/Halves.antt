@@ -135,4 +135,3 @@ may_commit d board may = record { ready = may.ready; stands = (may.stands.0, bet
 pub half_in : (p : Phase) (x : ReclaimParts) (flash : Flash) (top : ℕ × Root) (found : Found) (m : Map) → commits_in p ≡ false → x.log.epoch.half ≡ false → HalfIn p x flash top found m
 half_in (Commits victim) x flash top found m moves epoch = absurd cc
 half_in p x flash top found m moves epoch = epoch
-

@@ -1,5 +1,5 @@
 //! A flash with spare blocks over another flash: a block whose program or erase failed is copied to a spare block, so that the drive
-//! above meets no fault. A table page says which spare block each block is in. Wherever one of the steps that copy a block is cut, and
+//! above meets no fault, unless no spare block is left or the move fails itself. A table page says which spare block each block is in. Wherever one of the steps that copy a block is cut, and
 //! where one fails, the outer flash is as it was before the call that failed, or what this call may leave.
 #![tactic(auto)]
 

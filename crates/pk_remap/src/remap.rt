@@ -11,7 +11,8 @@ use pk_nand::{LoadFault, Nand, NandFault};
 use std::alloc::{AllocError, Global};
 
 /// A flash of some blocks over one with more: the spare blocks, and at its end two blocks for tables. A program or an erase that fails there
-/// moves the block to a spare block, and the drive above meets no fault. The counts are those of the calls of this flash.
+/// moves the block to a spare block, and the drive above meets no fault, unless no spare block is left, a page of the block is Torn, or
+/// the move fails itself. The counts are those of the calls of this flash.
 #[derive(Drop)]
 pub struct Remap<N: Nand> {
     pub(crate) inner: N,

@@ -141,7 +141,7 @@ fn fill_values<B: Nand, A: Region>(board: &mut B, memory: &mut Memory<A>) -> Res
 }
 
 /// Opens the flash of a board of this shape, with this many frames for the pages of runs: reads all
-/// that is on it, and gives each block its owner. Nothing is written. The memory of the drive is
+/// that is on it, and gives each block its owner. Nothing is written. The memory of what is found is
 /// taken before the first read, except that of a run, which is taken when the run is read.
 ///
 /// `NotFormatted` exactly if the flash has no root, `Damaged` exactly if it has one and holds no

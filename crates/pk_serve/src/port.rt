@@ -14,7 +14,8 @@ use pk_drive::Engine;
 use pk_nand::{Nand, NandFault};
 use pk_nvme::Request;
 
-/// Executes one command on a drive with nothing pending, and commits it.
+/// Executes one command on a drive with nothing pending, and commits it. `NandFault` if a program
+/// or an erase failed; the drive is stopped then.
 pub fn submit<D: Engine, B: Nand>(
     drive: &mut D,
     board: &mut B,

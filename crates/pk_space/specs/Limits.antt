@@ -35,7 +35,7 @@ limits_checked shape limits =
     else Ok limits
 
 -- limits of a drive: not too many, none of them zero, and together no more than the limit of the shape; a root page has room for
--- them, or they are the one limit of the shape, which no root page has
+-- them, or they are the one limit of the shape, which `make` writes to no root page
 pub record AcceptsLimits (shape : Shape) (limits : List ℕ) : Type 0 where
   pub some : 1 ≤ length limits
   pub most : length limits ≤ MOST_SPACES

@@ -1,6 +1,6 @@
 //! Tests of boards, in memory and over a file; of the parts of a drive in memory: plans, frames, buffers, live maps and queues, over
-//! heaps of a fixed size; of the memory of an engine's parts, each of which is made in heaps of every size, up to the first that has
-//! enough; and of merges, one page over another, step by step, with a read that fails among them.
+//! heaps of a fixed size; of the memory of an engine's parts, each of which is made in heaps that grow by 16 bytes, up to the first
+//! that has enough; and of merges, one page over another, step by step, with a read that fails among them.
 #![tactic(auto)]
 
 #[cfg(test)]

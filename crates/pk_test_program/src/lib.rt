@@ -3,7 +3,7 @@
 //!
 //! An image goes from session to session, is cut at every mark, fails at calls, is damaged and is
 //! worn. Each trial compares the status and the posted bytes with the records of the answers that
-//! it lists. They see words, scripts and records alone, and the board in memory.
+//! it lists. They see words, scripts and records alone, and the board in memory (`image`: a file).
 //!
 //! Modules of their own have the hard cases and drives in heaps (`stress`), a mirrored pair
 //! (`mirror`) and spare blocks (`spare`). The crate has nothing but tests.

@@ -1,4 +1,5 @@
-//! Pages read plainly, as docs/FORMATS.md has them: what the trials of damage compare the program with. Nothing of the program is used.
+//! Pages read plainly, as docs/FORMATS.md has them: what the trials of damage compare the program with. Of the
+//! program only the types of shapes and pages are used.
 
 use pk_base::Shape;
 use pk_nand::PageState;

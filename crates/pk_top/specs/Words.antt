@@ -115,19 +115,3 @@ plain_of name operands =
 unfoldable pub word_of : List (List ℕ) → Option Word
 word_of [] = None
 word_of (name ∷ operands) = if bytes_eq name (codes "put") then put_of operands else plain_of name operands
-
--- with how many frames a word serves an input, if it serves one
-abbrev pub frames_in : Word → Option ℕ
-frames_in (make shape limits) = None
-frames_in (serve frames) = Some frames
-frames_in (ask task) = None
-frames_in assemble = None
-frames_in show = None
-
-abbrev pub frames_if : Option Word → Option ℕ
-frames_if None = None
-frames_if (Some word) = frames_in word
-
--- the same of words
-abbrev pub frames_of : List (List ℕ) → Option ℕ
-frames_of words = frames_if (word_of words)

@@ -1,8 +1,8 @@
 //! Drives that are worn, damaged or full.
 
 use crate::mirror::pairs::{
-    Images, MAKE_SMALL, MAKE_WORKED, alone, board_of, empty, images_of, made, run_over,
-    said, same_alone, shape_of,
+    Images, MAKE_SMALL, MAKE_WORKED, alone, board_of, empty, images_of, made, run_over, said,
+    same_alone, shape_of,
 };
 use crate::steps::{done, pages_left};
 use pk_nand::{PageBytes, PageState};

@@ -1,5 +1,5 @@
-//! Each call of either flash that fails, in each way, followed by a run over both: nothing that was completed is lost, the word that was
-//! not completed is done or not done at all, and both drives hold the same.
+//! Each call of either flash that fails, a program in each way and an erase in three, followed by a run over both: nothing that was
+//! completed is lost, the word that was not completed is done or not done at all, and both drives hold the same.
 
 use crate::mirror::pairs::{
     Change, DELETE, Half, PUT, RESYNC, Ran, different, images_of, mended, mended_to_either,

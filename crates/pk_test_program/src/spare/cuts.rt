@@ -22,7 +22,7 @@ fn cut_at(rt: &impl Abort, alloc: Global, fault: u64, cut: u64, number: u8) -> V
     all
 }
 
-// The session with a fault is cut off at this call, which is undone, Torn or done, and the drive is used after it.
+// The session with a fault is cut off at this call, in each of six ways, and the drive is used after it.
 fn check_cut(rt: &impl Abort, alloc: Global, image: &Image, fault: u64, cut: u64) {
     for number in 0..6u8 {
         let failing = cut_at(rt, alloc, fault, cut, number);

@@ -44,7 +44,7 @@ fn one_call_that_fails(rt: HostRuntime) {
     }
 }
 
-/// Each call after the opening, all programs and erases among them, fails alone, in each way.
+/// Each call after the opening, all programs and erases among them, fails alone, a program in each way and an erase in three.
 #[test]
 fn each_way_of_a_failure(rt: HostRuntime) {
     let alloc = rt.alloc();

@@ -258,7 +258,8 @@ fn number_of(at: usize) -> u64 {
     OPENING.saturating_add(at as u64)
 }
 
-// The call at this place fails alone, in each way. If it is a program or an erase, the session is as without the fault.
+// The call at this place fails alone, in each way. If it is a program or an erase, the session ends
+// well, and at most the Retrieve is answered that its read failed.
 fn check_alone(rt: &impl Abort, alloc: Global, image: &Image, at: usize, failed: Call) {
     let calls = calls_with(alloc, at, failed).expect(rt, "memory");
     for number in 0..failed.ways() {
