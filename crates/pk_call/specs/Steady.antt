@@ -8,7 +8,7 @@ use Rattle.pk_rootfmt.specs.Root.{Root, named, differ}
 use Rattle.pk_nand.specs.BoardState.{BoardState}
 use Rattle.pk_model.{specs.Spaces.Terms, specs.Found.Found, specs.Found.entries_in_order, specs.Values.placed, specs.Values.blocks_with, specs.Values.all_pages, specs.Laws.AnyByRecursion}
 use Rattle.pk_model.specs.Tree.{Tree, IsTree}
-use Rattle.pk_call.{specs.Sight.Sight, specs.Sight.Counts, specs.Sight.entries_of_runs, specs.Sight.most_work, specs.Sight.pages_of_each, specs.Drive.HoldsMap, specs.Exec.IsNextMerge}
+use Rattle.pk_call.{specs.Sight.Sight, specs.Sight.Counts, specs.Sight.entries_of_runs, specs.Sight.most_work, specs.Sight.pages_of_each, specs.Sight.AreHeldTo, specs.Drive.HoldsMap, specs.Exec.IsNextMerge}
 
 -- A block that may be taken as it is: after the root blocks, named by no root, not the one that takes values, and wholly Erased.
 pub record IsReadyBlock (shape : Shape) (flash : Flash) (root : Root) (taking : Option ℕ) (b : ℕ) : Type 0 where
@@ -47,6 +47,7 @@ pub record IsSteady (shape : Shape) (flash : Flash) (drive : Sight) : Type 0 whe
   pub runs : entries_of_runs drive.counts ≡ map length tree.found.runs
   pub merge : IsNextMerge shape drive.counts
   -- frames: each page of the pinned levels has one, and besides only pages of other levels that may have frames, and of a merge's output
+  pub pinned_held : AreHeldTo (pinned shape drive.counts.frames) drive
   pub leased_least : pages_of_runs shape (pinned shape drive.counts.frames) (entries_of_runs drive.counts) ≤ drive.counts.leased
   pub leased_most :
       drive.counts.leased

@@ -26,7 +26,7 @@ use Rattle.pk_law_work.{specs.Rest.whole_merge, specs.Rest.whole_reclaim, specs.
 use Rattle.pk_schedule.{specs.Steps.backlog_of as backlog_of_index, specs.declared.phase.Phase.Phase, specs.Index.Index, specs.Index.MergeStands, specs.Index.merging}
 use Rattle.pk_schedule.specs.declared.phase.Phase.TheVariants.{Idle, Running, Ready as ReadyToInstall}
 use Rattle.pk_schedule.proofs.Backlogs.{index_backlog, four, entries_are}
-use Rattle.pk_parts.{proofs.Reclaiming.reclaim_within, specs.Agreeing.DriveOnFlashWith, specs.Agreeing.DriveOnFlash, proofs.Holding.counts_of_four}
+use Rattle.pk_parts.{proofs.Reclaiming.reclaim_within, specs.Agreeing.DriveOnFlashWith, specs.Agreeing.DriveOnFlash, proofs.Holding.counts_of_four, proofs.Holding.pinned_all}
 use Rattle.pk_parts.specs.Parts.{Parts, IsParts, sight_of, counts_of, block_if_open, frames_of, index_of, outputs_of, backlog_of, is_reclaim_due, reclaim_left, settled_parts}
 use Rattle.pk_core.{specs.Agreeing.DriveOnFlashBetween, proofs.Leased.leased_least, proofs.Leased.leased_most, proofs.Seen.seen_same}
 use Rattle.pk_core.proofs.Places.{blocks_from, many_blocks, has_state, blocks_differ, block_in, all_in}
@@ -191,6 +191,7 @@ module _ (d : Parts) (shape : Shape) (flash : Flash) (top : ℕ × Root) (found 
     frozen = frozen_is;
     runs = runs_are;
     merge = next_is;
+    pinned_held = pinned_all d shape flash top found without all a keeps.levels;
     leased_least = least_leased;
     leased_most = most_leased;
     ready = has_ready;

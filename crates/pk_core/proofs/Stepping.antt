@@ -1,6 +1,6 @@
 -- Background steps one after another.
 use Rattle.std.proofs.Common.{◌≡◌, ◌≢◌, inl, inr, ℕ, ◌+◌, ◌-◌, ◌<◌, ◌≤◌, refl, sym, ap, subst, ◌∙◌, arith, true, false, List, [], ◌++◌, Some, None, Ok, length}
-use Rattle.std.proofs.lemmas.Bool.{leb-false}
+use Rattle.std.proofs.lemmas.Bool.{le-leb, leb-false}
 use Rattle.pk_base.{specs.Shape.Shape, specs.Page.Flash, specs.Page.page_at, specs.Map.Map, specs.Mark.all_posted}
 use Rattle.pk_nvme.{specs.Reply.Reply, specs.Reply.refusal, specs.Seen.command_of, specs.declared.request.Request.Request, specs.Opcode.op_of}
 use Rattle.pk_nvme.{specs.declared.opcode.Opcode.TheVariants.Tick}
@@ -263,16 +263,26 @@ not_failed o (Fault stopped) reads told e = absurd (other_status (sym (ap (λ x.
 
 -- ---- the numbers of roots
 
--- the numbers of roots are not used up on a board that is not worn
-pub number_low : (d : Parts) (board : BoardState) → DriveOnFlash d board.shape board.pages → is_worn board ≡ false → d.log.root.number < 9223372036854775808
+-- the number of the newest root is that of the journal's root
+number_seen : (d : Parts) (board : BoardState) → DriveOnFlash d board.shape board.pages → roots board ≡ d.log.root.number
 unfolding root_number
-number_low d board a unworn =
-    let least = leb-false 9223372036854775808 (roots board) unworn in
+number_seen d board a =
     let told : newest_root (shape_or_none board.shape) (page_at board.pages) ≡ Some a.top = subst
     (λ o. newest_root (shape_or_none o) (page_at board.pages) ≡ Some a.top) (sym a.told_is) a.with.committed.is_top in
     let newest : roots board ≡ a.top.1.number = ap number_of told in
     let kept = ap (λ (r : Root). r.number) a.with.index.logs.root_is in
-    omega (arith, least, newest, kept)
+    omega (arith, newest, kept)
+
+-- the numbers of roots are not used up on a board that is not worn
+pub number_low : (d : Parts) (board : BoardState) → DriveOnFlash d board.shape board.pages → is_worn board ≡ false → d.log.root.number < 9223372036854775808
+number_low d board a unworn =
+    let least = leb-false 9223372036854775808 (roots board) unworn in
+    let seen = number_seen d board a in
+    omega (arith, least, seen)
+
+-- they are used up if the newest root has such a number
+pub number_high : (d : Parts) (board : BoardState) → DriveOnFlash d board.shape board.pages → 9223372036854775808 ≤ d.log.root.number → is_worn board ≡ true
+number_high d board a many = let seen = number_seen d board a in le-leb 9223372036854775808 (roots board) (omega (arith, many, seen))
 
 pub tick_may : (d : Parts) (board : BoardState) → DriveOnFlash d board.shape board.pages → d.stopped ≡ false
     → d.log.pending ≡ [] → is_worn board ≡ false → board.read_faults ≤ last_count → MayTick d board

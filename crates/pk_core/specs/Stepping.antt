@@ -1,5 +1,6 @@
 -- Background steps one after another, and the answer of the command that requests them.
 use Rattle.std.specs.Prelude.{◌≡◌, ℕ, ◌+◌, ◌≤◌, ◌⊎◌, Bool, true, false}
+use Rattle.pk_model.specs.declared.wear.TheConstants.{WORN_FROM}
 use Rattle.pk_nvme.specs.declared.status.TheConstants.{SUCCESSFUL_COMPLETION, UNRECOVERED_ERROR}
 use Rattle.pk_nand.{specs.BoardState.BoardState, specs.Calls.Rose, specs.Calls.last_count, specs.Effects.OnlyFlash, specs.Effects.NoFault}
 use Rattle.pk_call.{specs.Sight.Sight, specs.Call.KeepsMap, specs.Running.FoundAfterCrash, specs.Seen.stopped_by, specs.declared.types.Ticked.Ticked, specs.declared.types.Outcome.Outcome}
@@ -36,6 +37,10 @@ outcome_of Worked reads = record { status = SUCCESSFUL_COMPLETION; result = 0; d
 outcome_of Idle reads = record { status = SUCCESSFUL_COMPLETION; result = 0; data_len = 0; reads = reads; stopped = false }
 outcome_of (Fault stopped) reads = record { status = UNRECOVERED_ERROR; result = 0; data_len = 0; reads = reads; stopped = stopped }
 
--- this many steps fewer remain, or nothing does
+-- no step remains, or none is made any more, as the drive is worn
+abbrev pub MakesNoMore : Parts → Type 0
+MakesNoMore after = HasNoStep after ⊎ (WORN_FROM ≤ after.log.root.number)
+
+-- this many steps fewer remain, or none is made any more
 abbrev pub Lessens : Parts → Parts → ℕ → Type 0
-Lessens before after steps = ((sight_of after).work + steps ≤ (sight_of before).work) ⊎ HasNoStep after
+Lessens before after steps = ((sight_of after).work + steps ≤ (sight_of before).work) ⊎ MakesNoMore after

@@ -17,6 +17,7 @@ ghost use Rattle.pk_parts.specs.Staying.{StaysOrFrees};
 use crate::counts::reads_since;
 use pk_background::advance;
 use pk_call::{Outcome, Ticked};
+use pk_model::wear::WORN_FROM;
 use pk_nand::Nand;
 use pk_nvme::Request;
 use pk_nvme::status::UNRECOVERED_ERROR;
@@ -40,8 +41,8 @@ fn answer_of(last: Ticked, reads: u32) -> Outcome
     }
 }
 
-// Makes this many background steps, fewer if nothing remains to be done, or a call fails. The last
-// one answers.
+// Makes this many background steps, fewer if nothing remains to be done, the drive becomes worn, or
+// a call fails. The last one answers.
 fn work<B: Nand, A: Region>(parts: &mut Parts<A>, board: &mut B, steps: u32) -> Ticked
     requires may { MayTick parts.old (B.state board.old) }
     requires count { (B.state board.old).reads ≤ last_count }
@@ -63,7 +64,11 @@ fn work<B: Nand, A: Region>(parts: &mut Parts<A>, board: &mut B, steps: u32) -> 
 {
     for made in 0..steps {
         match advance(parts, board) {
-            Ticked::Worked => {}
+            Ticked::Worked => {
+                if parts.root_number() >= WORN_FROM {
+                    return Ticked::Worked;
+                }
+            }
             Ticked::Idle => return Ticked::Idle,
             Ticked::Fault { stopped } => return Ticked::Fault { stopped },
         }
@@ -71,7 +76,8 @@ fn work<B: Nand, A: Region>(parts: &mut Parts<A>, board: &mut B, steps: u32) -> 
     Ticked::Worked
 }
 
-/// Makes as many background steps as the command requests, fewer if a further one would do nothing.
+/// Makes as many background steps as the command requests, fewer if a further one would do nothing or
+/// the drive is worn.
 pub(crate) fn tick_command<B: Nand, A: Region>(
     parts: &mut Parts<A>,
     board: &mut B,

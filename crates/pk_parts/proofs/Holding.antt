@@ -75,6 +75,14 @@ held_filled last level (r ∷ rs) zero none low inside =
     ap (λ (held : Bool). Some held) (le-leb (length r.firsts) (length r.leases) (omega (arith, none, here)))
 held_filled last level (r ∷ rs) (suc i) none low inside = held_filled last (suc level) rs i (omega (arith, none)) (omega (arith, low)) (omega (arith, inside))
 
+-- the pinned ones have all theirs
+pinned_filled : (shape : Shape) (k level : ℕ) (rs : List Kept) (i : ℕ) → AreOfLevels shape k level rs → level + i ≤ k → i < length rs → slice_get (map is_pinned rs) i ≡ Some true
+pinned_filled shape k level [] i are low inside = absurd (omega (arith, inside))
+pinned_filled shape k level (r ∷ rs) zero are low inside =
+    let all : length r.leases ≡ length r.firsts = are.0.frames (omega (arith, low)) in
+    ap (λ (held : Bool). Some held) (le-leb (length r.firsts) (length r.leases) (omega (arith, all)))
+pinned_filled shape k level (r ∷ rs) (suc i) are low inside = pinned_filled shape k (suc level) rs i are.1 (omega (arith, low)) (omega (arith, inside))
+
 -- and the other way round
 pub filled_held : (last level : ℕ) (rs : List Kept) → ((i : ℕ) → level + i ≤ last → i < length rs → slice_get (map is_pinned rs) i ≡ Some true) → unfilled_from last level rs ≡ 0
 filled_held last level [] all = refl
@@ -131,6 +139,14 @@ module _ (d : Parts) (shape : Shape) (flash : Flash) (top : ℕ × Root) (found 
 
   pub last_few : adapted shape (frames_of d) (pages_of_each shape (counts_of d)) ≤ 4
   last_few = (is_adapted shape (frames_of d) (pages_of_each shape (counts_of d)) refl (few_pinned shape (frames_of d))).most
+
+  -- every pinned level has all its pages in frames
+  pub pinned_all : IsLevels d.levels → AreHeldTo (pinned shape (frames_of d)) (sight_of d)
+  pinned_all known level least most =
+      let same : pinned shape (frames_of d) ≡ d.levels.pinned = ap (λ (s : Shape). pinned s (frames_of d)) (sym a.shape_is) ∙ sym a.index.levels_pinned in
+      let few = few_pinned shape (frames_of d) in
+      let long = runs_four in
+      pinned_filled d.levels.shape d.levels.pinned 1 d.levels.runs (level - 1) known.each (omega (arith, least, most, same)) (omega (arith, least, most, few, long))
 
   -- every level that may have frames for all its pages has them if no page lacks one
   pub held_if : unfilled d.levels (frames_of d) ≡ 0 → AreHeldTo (adapted shape (frames_of d) (pages_of_each shape (counts_of d))) (sight_of d)

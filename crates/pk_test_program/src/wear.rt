@@ -1,6 +1,9 @@
 //! Drives whose roots have great numbers.
 
-use crate::steps::{MAKE_WORKED, ask, copied, made, posted, records};
+use crate::steps::{
+    MAKE_WORKED, answered, ask, copied, holds, made, pages_left, posted, records, same,
+};
+use pk_base::get_u64;
 use pk_nand::{PageBytes, PageState};
 use pk_test_scripts::Place;
 use pk_test_scripts::exits::{DONE, WORN};
@@ -33,16 +36,26 @@ fn root_with(
     PageState::Whole(PageBytes::of(root))
 }
 
-// A made drive whose root, the only one, has this number in both of its pages.
-fn made_with_number(rt: &impl Abort, alloc: Global, number: u64) -> Vec<PageState> {
-    let mut pages = made(rt, alloc, &MAKE_WORKED);
-    for at in 0..2usize {
+// These pages with this number in the root of the pair that begins here.
+fn with_number(
+    rt: &impl Abort,
+    alloc: Global,
+    mut pages: Vec<PageState>,
+    first: usize,
+    number: u64,
+) -> Vec<PageState> {
+    for at in [first, first.saturating_add(1)] {
         let root = root_with(rt, alloc, &pages, at, number);
         if let Some(page) = pages.get_mut(at) {
             *page = root;
         }
     }
     pages
+}
+
+// A made drive whose root, the only one, has this number in both of its pages.
+fn made_with_number(rt: &impl Abort, alloc: Global, number: u64) -> Vec<PageState> {
+    with_number(rt, alloc, made(rt, alloc, &MAKE_WORKED), 0, number)
 }
 
 // By the number of the newest root and the commands that come: the status, and how many records are posted.
@@ -120,4 +133,30 @@ fn numbers(rt: HostRuntime) {
     for case in &CASES {
         check(&rt, rt.alloc(), case);
     }
+}
+
+// The number of the root in this page.
+fn number_in(rt: &impl Abort, pages: &[PageState], at: usize) -> u64 {
+    let Some(PageState::Whole(bytes)) = pages.get(at) else {
+        panic!(rt; "a root");
+    };
+    assert!(rt; bytes.bytes().len() >= 32, "a root");
+    get_u64(bytes.bytes(), 24)
+}
+
+/// The key of one session is merged by a Tick of the next one. The Tick ends at the first program of the root 2^63: the second page of
+/// its pair remains Erased, and a later session ends with 10.
+#[test]
+fn tick_ends_at_the_last_root(rt: HostRuntime) {
+    let (alloc, place) = (rt.alloc(), Place::Root(1 << 63));
+    let first = ask(&rt, alloc, made(&rt, alloc, &MAKE_WORKED), &STORES[..1]);
+    let pages = pages_left(&rt, alloc, &first.flash);
+    let pages = with_number(&rt, alloc, pages, 2, (1 << 63) - 2);
+    let session = ask(&rt, alloc, pages, &[STORES[1], Ask::Tick(1000)]);
+    answered(&rt, alloc, &session, &ANSWERS, place);
+    let left = pages_left(&rt, alloc, &session.flash);
+    same(&rt, number_in(&rt, &left, 6), 1 << 63, "the number");
+    let is_erased = matches!(left.get(7), Some(PageState::Erased));
+    holds(&rt, is_erased, "the second page is Erased", place);
+    posted(&rt, &ask(&rt, alloc, left, &STORES[..1]), WORN, &[], place);
 }
