@@ -1,4 +1,4 @@
-use Rattle.std.proofs.Common.{inr, arith}
+use Rattle.std.proofs.Common.{inl, inr, arith}
 use Rattle.pk_core.proofs.Stepping.{ongoing_none, ongoing_may, ongoing_more, ongoing_last, ongoing_done, ongoing_stays, ongoing_no_more}
 use Rattle.pk_core.proofs.ticks.work.Goals as goal
 
@@ -15,7 +15,7 @@ pub returns-in-Idle-clause-steps : goal.returns-in-Idle-clause-steps
 returns-in-Idle-clause-steps g c = ongoing_last c.loop-made.invariant c.in-Idle.ensures c.args.steps (omega (arith, c.loop-made-test.true))
 
 pub returns-in-Idle-clause-done : goal.returns-in-Idle-clause-done
-returns-in-Idle-clause-done g c = λ _. inr (ongoing_done c.in-Idle.ensures)
+returns-in-Idle-clause-done g c = λ _. inr (inl (ongoing_done c.in-Idle.ensures))
 
 pub returns-in-Idle-clause-no_more : goal.returns-in-Idle-clause-no_more
 returns-in-Idle-clause-no_more g c = ongoing_no_more c.loop-made.invariant c.in-Idle.ensures
@@ -34,3 +34,14 @@ returns-in-Fault-clause-steps g c = ongoing_last c.loop-made.invariant c.in-Faul
 
 pub returns-clause-steps : goal.returns-clause-steps
 returns-clause-steps g c = c.loop-made.invariant.steps c.args.steps (omega (arith, c.loop-made.auto.made-end))
+
+-- the drive became worn
+
+pub returns-then-root_number-ge-WORN_FROM-clause-steps : goal.returns-then-root_number-ge-WORN_FROM-clause-steps
+returns-then-root_number-ge-WORN_FROM-clause-steps g c = ongoing_last c.loop-made.invariant c.in-Worked.ensures c.args.steps (omega (arith, c.loop-made-test.true))
+
+pub returns-then-root_number-ge-WORN_FROM-clause-moves : goal.returns-then-root_number-ge-WORN_FROM-clause-moves
+returns-then-root_number-ge-WORN_FROM-clause-moves g c = ongoing_stays c.loop-made.invariant c.in-Worked.ensures
+
+pub returns-then-root_number-ge-WORN_FROM-clause-no_more : goal.returns-then-root_number-ge-WORN_FROM-clause-no_more
+returns-then-root_number-ge-WORN_FROM-clause-no_more g c = ongoing_no_more c.loop-made.invariant c.in-Worked.ensures
