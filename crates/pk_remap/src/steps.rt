@@ -331,8 +331,8 @@ impl Relocation {
         }
     }
 
-    /// Makes one step, by one call of the inner flash. The answer is true if the table was written: the call of the outer flash is done.
-    /// Wherever the inner call is cut, and if it fails, the outer flash is what the call that it serves may leave.
+    /// Makes one step, by one call of the inner flash. The answer is true if both pages of a pair have the table: the call of the outer flash
+    /// is done. Wherever the inner call is cut, and if it fails, the outer flash is what the call that it serves may leave.
     pub fn step<N: Nand>(&mut self, inner: &mut N) -> Result<bool, NandFault>
         requires { (before : Flash) × RelocationRuns self.old before (N.state inner.old) }
         ensures steps { RelocationSteps self.old (N.state inner.old) result self.new
