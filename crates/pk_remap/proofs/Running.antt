@@ -19,7 +19,8 @@ use Rattle.pk_remap.proofs.Stepping.{erases_table, fails_to_erase_table, writes_
 use Rattle.pk_remap.{specs.declared.relocation.Call.TheVariants.Program, specs.declared.relocation.Call.TheVariants.Erase, specs.Table.SpareTable, specs.Table.table_bytes, specs.Table.is_table}
 use Rattle.pk_remap.{specs.Places.inner_shape, specs.Places.place, specs.Places.placed_page, specs.Newest.IsTablePage, specs.Newest.IsNewest, specs.Through.MayShow, specs.Through.IsMarkWithin}
 use Rattle.pk_remap.{proofs.Placing.div-of, proofs.Placing.mod-of, proofs.Placing.place-below, proofs.Lifting.placed_page-inside}
-use Rattle.pk_nand.{specs.BoardState.BoardState, specs.Calls.Rose, specs.Calls.after_program, specs.Calls.ProgramFailed, specs.Crash.Reached, specs.Crash.Went, proofs.Leaving.page_at-slice_set_same}
+use Rattle.pk_nand.{specs.BoardState.BoardState, specs.Calls.Rose, specs.Calls.after_program, specs.Calls.ProgramFailed, specs.Crash.Reached, specs.Crash.Went}
+use Rattle.pk_nand.proofs.Leaving.{page_at-slice_set, page_at-slice_set_same}
 use Rattle.pk_nand.specs.Operations.{InOrder, filled, after_read, after_erase, ReadFailed, EraseFailed}
 use Rattle.pk_nand.specs.declared.types.PageRead.TheVariants.{Whole, Erased as ReadErased, Torn as ReadTorn}
 use Rattle.pk_nand.{specs.declared.types.NandFault.NandFault, proofs.Reaching.Reached-start, proofs.Reaching.Went-reached, proofs.Writing.shape_is, proofs.Writing.mod-next, specs.Seen.answer}
@@ -494,6 +495,9 @@ module _ (r : InMemory) (before : Flash) (old : BoardState) (runs : RelocationRu
             room = fits;
           };
           table_is = table_is;
+          first = ap (λ (f : Flash). page_at f pair) pages ∙ page_at-slice_set old.pages (suc pair) pair (whole bytes) (λ e. omega (arith, e)) ∙ half.first;
+          second = ap (λ (f : Flash). page_at f (suc pair)) pages ∙ page_at-slice_set_same old.pages (suc pair) (whole bytes) (table_inside' (suc pair) half.pair.second)
+              ∙ ap (λ (b : List ℕ). whole b) same;
           done = own.done;
         },
         record { shape = refl; spares = refl; call = refl; bytes = refl; taken = omega arith; most = omega (arith, left); room = fits },

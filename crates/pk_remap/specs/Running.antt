@@ -115,10 +115,12 @@ pub record IsAtRest (r : InMemory) (board : BoardState) : Type 0 where
   pub turn : HasTurn r board.pages
   pub room : HasPageBuffers r
 
--- The call of the outer flash is done: the next table is the newest, and is in memory.
+-- The call of the outer flash is done: the next table is the newest, in both pages of its pair, and is in memory.
 pub record IsRelocated (r : InMemory) (before : Flash) (r' : InMemory) (board : BoardState) : Type 0 where
   pub rests : IsAtRest r' board
   pub table_is : (relocation_of r').table ≡ next_table (relocation_of r)
+  pub first : page_at board.pages r'.top ≡ whole (table_bytes r.shape r.spares (next_table (relocation_of r)))
+  pub second : page_at board.pages (suc r'.top) ≡ whole (table_bytes r.shape r.spares (next_table (relocation_of r)))
   pub done : through r.shape r.spares board.pages ≡ Some (after r.shape (relocation_of r).mark before)
 
 -- the relocation serves the same call, with at least as many spares taken

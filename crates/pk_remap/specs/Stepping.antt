@@ -1,14 +1,20 @@
 -- What the steps of a relocation do, call by call: each cut of the one call, and what is known after it.
-use Rattle.std.specs.Prelude.{◌≡◌, ◌≢◌, ℕ, suc, ◌+◌, ◌*◌, ◌/◌, ◌<◌, ◌≤◌, List, length, Some}
+use Rattle.std.specs.Prelude.{◌≡◌, ◌≢◌, ◌⊎◌, ℕ, suc, ◌+◌, ◌*◌, ◌/◌, ◌<◌, ◌≤◌, List, length, Some}
 use Rattle.pk_base.{specs.Shape.Shape, specs.Page.Flash, specs.Page.page_at, specs.Page.erased, specs.Page.whole, specs.Page.IsPage, specs.Mark.after}
 use Rattle.pk_nand.{specs.BoardState.BoardState, specs.Calls.IsReady, specs.Calls.Rose, specs.Calls.after_program, specs.Calls.ProgramFailed, specs.Crash.Reached, specs.Crash.Went}
-use Rattle.pk_nand.specs.Operations.{InOrder, after_erase, EraseFailed}
+use Rattle.pk_nand.specs.Operations.{InOrder, after_read, after_erase, ReadFailed, EraseFailed}
 use Rattle.pk_remap.{specs.Table.table_bytes, specs.Places.inner_shape, specs.Places.placed_page, specs.Newest.IsNewest, specs.Through.through, specs.Through.MayShow}
 use Rattle.pk_remap.specs.Relocating.{Relocation, block, copies_of, fill_of, spare_block, spare_page, next_table, IsSpareFilled, IsSpareFull, IsRelocating, IsTop, SameTables, IsNextPair, IsTablePair}
 
 -- the same with the next spare
 abbrev pub with_next_spare : Relocation → Relocation
 with_next_spare r = record r { taken = r.taken + 1 }
+
+-- One call of the inner flash was made, a read, a program or an erase: the board is what this call leaves, done or failed.
+pub data OneCall (old new : BoardState) : Type 0 where
+  one_read : (at : ℕ) → (new ≡ after_read old) ⊎ ReadFailed old new at → OneCall old new
+  one_program : (at : ℕ) (bytes : List ℕ) → (new ≡ after_program old at bytes) ⊎ ProgramFailed old new at bytes → OneCall old new
+  one_erase : (block : ℕ) → (new ≡ after_erase old block) ⊎ EraseFailed old new block → OneCall old new
 
 -- at every cut the outer flash is what the call that is served may leave
 abbrev pub ReachedSafely : Relocation → Flash → BoardState → BoardState → Type 0

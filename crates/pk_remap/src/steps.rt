@@ -10,6 +10,7 @@ ghost use Rattle.pk_remap.specs.declared.phase.Phase.TheVariants.{EraseSpare, Re
 ghost use Rattle.pk_remap.specs.declared.layout.TheConstants.{MOST_SPARES};
 ghost use Rattle.pk_remap.specs.Relocating.{block as block_of, next_table};
 ghost use Rattle.pk_remap.specs.Counting.{StepCounts};
+ghost use Rattle.pk_remap.specs.Stepping.{OneCall};
 ghost use Rattle.pk_remap.specs.Running.{relocation_of, copies as copies_of, is_kept as kept_at, bytes_for as bytes_at, phase_after, table_phase as table_phase_of, with_table, is_program as is_program_of, RelocationRuns, RelocationSteps};
 
 use crate::layout::FAILED;
@@ -123,6 +124,7 @@ impl Relocation {
         ensures steps { RelocationSteps self.old (N.state inner.old) result self.new
             (N.state inner.new) }
         ensures counts { StepCounts self.old (N.state inner.old) result self.new (N.state inner.new) }
+        ensures calls { OneCall (N.state inner.old) (N.state inner.new) }
     {
         self.shape.known();
         let spare = self.shape.blocks() + self.taken as u32;
@@ -141,6 +143,7 @@ impl Relocation {
         ensures steps { RelocationSteps self.old (N.state inner.old) result self.new
             (N.state inner.new) }
         ensures counts { StepCounts self.old (N.state inner.old) result self.new (N.state inner.new) }
+        ensures calls { OneCall (N.state inner.old) (N.state inner.new) }
     {
         self.shape.known();
         let size = self.shape.page_bytes() as usize;
@@ -181,6 +184,7 @@ impl Relocation {
         ensures steps { RelocationSteps self.old (N.state inner.old) result self.new
             (N.state inner.new) }
         ensures counts { StepCounts self.old (N.state inner.old) result self.new (N.state inner.new) }
+        ensures calls { OneCall (N.state inner.old) (N.state inner.new) }
     {
         self.shape.known();
         let spare = self.shape.blocks() + self.taken as u32;
@@ -216,6 +220,7 @@ impl Relocation {
         ensures steps { RelocationSteps self.old (N.state inner.old) result self.new
             (N.state inner.new) }
         ensures counts { StepCounts self.old (N.state inner.old) result self.new (N.state inner.new) }
+        ensures calls { OneCall (N.state inner.old) (N.state inner.new) }
     {
         self.shape.known();
         let other = self.other_table();
@@ -277,6 +282,7 @@ impl Relocation {
         ensures steps { RelocationSteps self.old (N.state inner.old) result self.new
             (N.state inner.new) }
         ensures counts { StepCounts self.old (N.state inner.old) result self.new (N.state inner.new) }
+        ensures calls { OneCall (N.state inner.old) (N.state inner.new) }
     {
         self.shape.known();
         let serves = self.next_serves();
@@ -304,6 +310,7 @@ impl Relocation {
         ensures steps { RelocationSteps self.old (N.state inner.old) result self.new
             (N.state inner.new) }
         ensures counts { StepCounts self.old (N.state inner.old) result self.new (N.state inner.new) }
+        ensures calls { OneCall (N.state inner.old) (N.state inner.new) }
     {
         self.shape.known();
         let serves = self.next_serves();
@@ -324,13 +331,14 @@ impl Relocation {
         }
     }
 
-    /// Makes one step, by one call of the inner flash. The answer is true if the table was written: the call of the outer flash is done.
-    /// Wherever the inner call is cut, and if it fails, the outer flash is what the call that it serves may leave.
+    /// Makes one step, by one call of the inner flash. The answer is true if both pages of a pair have the table: the call of the outer flash
+    /// is done. Wherever the inner call is cut, and if it fails, the outer flash is what the call that it serves may leave.
     pub fn step<N: Nand>(&mut self, inner: &mut N) -> Result<bool, NandFault>
         requires { (before : Flash) × RelocationRuns self.old before (N.state inner.old) }
         ensures steps { RelocationSteps self.old (N.state inner.old) result self.new
             (N.state inner.new) }
         ensures counts { StepCounts self.old (N.state inner.old) result self.new (N.state inner.new) }
+        ensures calls { OneCall (N.state inner.old) (N.state inner.new) }
     {
         match self.phase {
             Phase::EraseSpare => self.erase_spare(inner),

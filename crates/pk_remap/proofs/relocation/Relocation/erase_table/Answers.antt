@@ -1,6 +1,6 @@
-use Rattle.std.proofs.Common.{◌≡◌, ◌+◌, ◌*◌, refl, arith}
+use Rattle.std.proofs.Common.{◌≡◌, ◌+◌, ◌*◌, refl, inl, inr, arith}
 use Rattle.pk_nand.{specs.BoardState.BoardState, proofs.Effects.works_erase}
-use Rattle.pk_remap.{specs.Stepping.IsOtherTable, specs.Running.relocation_of, proofs.Running.table_erased, proofs.Running.table_erase_failed, proofs.Running.stopped_as}
+use Rattle.pk_remap.{specs.Stepping.IsOtherTable, specs.Stepping.one_erase, specs.Running.relocation_of, proofs.Running.table_erased, proofs.Running.table_erase_failed, proofs.Running.stopped_as}
 use Rattle.pk_remap.{proofs.Stopping.step_done, proofs.Stopping.erase_stops, proofs.relocation.Relocation.erase_table.Given.Over}
 use Rattle.pk_remap.proofs.relocation.Relocation.erase_table.Goals.{After-other_table-other}
 use Rattle.pk_remap.proofs.relocation.Relocation.erase_table.Goals as goal
@@ -20,6 +20,7 @@ returns-in-Ok g c =
       steps = λ before runs. rw (c.page_in.ensures, none)
           (table_erased r before board runs c.requires.phase other (other_is g (goal.at.returns-in-Ok g c).After-other_table-other) end c.in-Ok.ensures.ok);
       counts = step_done r c.requires.runs.0 board c.requires.runs.1 _ end works.rest works.no_fault.2 refl;
+      calls = one_erase other (inl c.in-Ok.ensures.ok);
     }
 
 pub returns-in-Err : goal.returns-in-Err
@@ -35,4 +36,5 @@ returns-in-Err g c =
           (table_erase_failed r before board runs c.requires.phase other is_other end c.in-Err.ensures.err));
       counts = rw c.fail_table.ensures.taken
           (erase_stops r c.requires.runs.0 board c.requires.runs.1 c.requires.phase other is_other c.fail_table.result c.fail_table.ensures.fails end c.in-Err.ensures.err);
+      calls = one_erase other (inr c.in-Err.ensures.err);
     }

@@ -1,6 +1,6 @@
-use Rattle.std.proofs.Common.{ℕ, List, length, take, refl, ap, ◌∙◌}
+use Rattle.std.proofs.Common.{ℕ, List, length, take, refl, ap, ◌∙◌, inl, inr}
 use Rattle.pk_nand.{specs.BoardState.BoardState, proofs.Writing.shape_is, proofs.Effects.works_program}
-use Rattle.pk_remap.{proofs.Stopping.step_done, proofs.Stopping.first_stops}
+use Rattle.pk_remap.{specs.Stepping.one_program, proofs.Stopping.step_done, proofs.Stopping.first_stops}
 use Rattle.pk_remap.proofs.Running.{first_in_order, first_written, first_failed, stopped_as, refilled, next_bytes}
 use Rattle.pk_remap.proofs.relocation.Relocation.first.Goals as goal
 
@@ -23,6 +23,7 @@ returns-in-Ok g c =
       steps = λ before runs. first_written r before board runs c.args.page c.requires.phase end (take r.shape.page_bytes new)
           c.program_table.ensures.page same c.in-Ok.ensures.ok _ (rw buffer.0 buffer.1);
       counts = step_done r c.requires.runs.0 board c.requires.runs.1 _ end works.rest works.no_fault.2 refl;
+      calls = one_program _ _ (inl c.in-Ok.ensures.ok);
     }
 
 pub returns-in-Err : goal.returns-in-Err
@@ -41,4 +42,5 @@ returns-in-Err g c =
       counts = rw c.fail_table.ensures.taken
           (first_stops r c.requires.runs.0 board c.requires.runs.1 c.args.page c.requires.phase c.fail_table.result c.fail_table.ensures.fails
           end (take r.shape.page_bytes new) c.program_table.ensures.page same c.in-Err.ensures.err _);
+      calls = one_program _ _ (inr c.in-Err.ensures.err);
     }

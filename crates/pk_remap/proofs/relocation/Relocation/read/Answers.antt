@@ -1,10 +1,10 @@
-use Rattle.std.proofs.Common.{◌≡◌, ◌+◌, ◌*◌, ℕ, List, length, take, refl, sym, ap, ◌∙◌, arith}
+use Rattle.std.proofs.Common.{◌≡◌, ◌+◌, ◌*◌, ℕ, List, length, take, refl, sym, ap, ◌∙◌, inl, inr, arith}
 use Rattle.pk_base.specs.Page.{page_at}
 use Rattle.pk_nand.specs.BoardState.{BoardState}
 use Rattle.pk_remap.{specs.Places.place, specs.Places.placed_page, specs.Relocating.block, specs.Running.relocation_of, proofs.Counting.only_read, proofs.Counting.only_read_failed}
 use Rattle.pk_remap.proofs.Running.{read_place, page_read, page_torn, page_written_before, page_read_failed, refilled, answer_whole, answer_erased, answer_torn}
 use Rattle.pk_remap.proofs.relocation.Relocation.read.Goals.{After-page_in-at}
-use Rattle.pk_remap.{proofs.Stopping.step_done, proofs.Stopping.step_read, proofs.relocation.Relocation.read.Given.Over}
+use Rattle.pk_remap.{specs.Stepping.one_read, proofs.Stopping.step_done, proofs.Stopping.step_read, proofs.relocation.Relocation.read.Given.Over}
 use Rattle.pk_remap.proofs.relocation.Relocation.read.Goals as goal
 
 -- the inner page of the page to copy
@@ -43,6 +43,7 @@ returns-in-Ok-Whole g c =
       steps = λ before runs. page_read r before board runs c.args.page c.requires.phase _ found.0 end done here
           (ap (λ (x : List ℕ). take r.shape.page_bytes x) buffer.0 ∙ taken) (rw buffer.0 buffer.1);
       counts = step_done r c.requires.runs.0 board c.requires.runs.1 _ end (only_read board end done) (ap (λ s. s.stop_faults) done) refl;
+      calls = one_read c.page_in-at.result (inl done);
     }
 
 pub returns-in-Ok-Erased : goal.returns-in-Ok-Erased
@@ -66,6 +67,7 @@ returns-in-Ok-Torn g c =
       steps = λ before runs. page_torn r before board runs c.args.page c.requires.phase _ (rw buffer.0 buffer.1) end is found;
       counts = step_read r c.requires.runs.0 board c.requires.runs.1 _ c.args.page c.requires.phase end
           (only_read board end is) (ap (λ s. s.stop_faults) is) (ap (λ s. s.shape) is) (ap (λ s. s.pages) is);
+      calls = one_read c.page_in-at.result (inl is);
     }
 
 pub returns-in-Err : goal.returns-in-Err
@@ -80,4 +82,5 @@ returns-in-Err g c =
       steps = λ before runs. page_read_failed r before board runs c.args.page c.requires.phase _ (rw buffer.0 buffer.1) end c.page_in-at.result failed;
       counts = step_read r c.requires.runs.0 board c.requires.runs.1 _ c.args.page c.requires.phase end
           (only_read_failed board end _ failed) (ap (λ s. s.stop_faults) failed.rest) (ap (λ s. s.shape) failed.rest) (ap (λ s. s.pages) failed.rest);
+      calls = one_read c.page_in-at.result (inr failed);
     }

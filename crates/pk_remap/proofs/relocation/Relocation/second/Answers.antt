@@ -1,6 +1,6 @@
-use Rattle.std.proofs.Common.{◌≡◌, ◌+◌, ℕ, suc, List, length, take, ap, ◌∙◌, arith}
+use Rattle.std.proofs.Common.{◌≡◌, ◌+◌, ℕ, suc, List, length, take, ap, ◌∙◌, inl, inr, arith}
 use Rattle.pk_nand.{specs.BoardState.BoardState, specs.Calls.after_program, proofs.Writing.shape_is, proofs.Effects.works_program}
-use Rattle.pk_remap.{proofs.Counting.counted_done, proofs.Stopping.second_stops}
+use Rattle.pk_remap.{specs.Stepping.one_program, proofs.Counting.counted_done, proofs.Stopping.second_stops}
 use Rattle.pk_remap.proofs.Running.{second_in_order, second_written, second_failed, stopped_as, refilled, next_bytes}
 use Rattle.pk_remap.proofs.relocation.Relocation.second.Goals as goal
 
@@ -28,6 +28,7 @@ returns-in-Ok g c =
           c.program_table.ensures.page same (c.in-Ok.ensures.ok ∙ ap (λ (k : ℕ). after_program board k (take r.shape.page_bytes new)) next) _ (rw buffer.0 buffer.1)
           serves.result serves.ensures.front serves.ensures.len);
       counts = rw c.take_table.ensures (counted_done r _ board end works.rest 1 works.no_fault.2 (omega arith));
+      calls = one_program _ _ (inl c.in-Ok.ensures.ok);
     }
 
 pub returns-in-Err : goal.returns-in-Err
@@ -48,4 +49,5 @@ returns-in-Err g c =
       counts = rw c.fail_table.ensures.taken
           (second_stops r c.requires.runs.0 board c.requires.runs.1 c.args.page c.requires.phase c.fail_table.result c.fail_table.ensures.fails
           end (take r.shape.page_bytes new) c.program_table.ensures.page same failed _);
+      calls = one_program _ _ (inr failed);
     }

@@ -1,6 +1,6 @@
-use Rattle.std.proofs.Common.{◌≡◌, ◌+◌, suc, refl, ◌∙◌, arith}
+use Rattle.std.proofs.Common.{◌≡◌, ◌+◌, suc, refl, ◌∙◌, inl, inr, arith}
 use Rattle.pk_nand.{specs.BoardState.BoardState, specs.Calls.after_program, proofs.Writing.shape_is, proofs.Effects.works_program, proofs.Effects.stops_program}
-use Rattle.pk_remap.{specs.Relocating.spare_page, specs.Running.relocation_of, proofs.Stopping.step_done, proofs.Stopping.step_next}
+use Rattle.pk_remap.{specs.Relocating.spare_page, specs.Stepping.one_program, specs.Running.relocation_of, proofs.Stopping.step_done, proofs.Stopping.step_next}
 use Rattle.pk_remap.proofs.Running.{page_written, page_write_failed, next_or_stop, write_order, write_less}
 use Rattle.pk_remap.proofs.relocation.Relocation.write.Goals as goal
 
@@ -24,6 +24,7 @@ returns-in-Ok g c =
           (page_written r before board runs c.args.page c.requires.phase (write_less r before board runs c.args.page c.requires.phase) new
           (c.in-Ok.ensures.ok ∙ (λ i. after_program board (at i) (c.bytes_for.ensures i))));
       counts = step_done r c.requires.runs.0 board c.requires.runs.1 _ new works.rest works.no_fault.2 refl;
+      calls = one_program _ _ (inl c.in-Ok.ensures.ok);
     }
 
 pub returns-in-Err : goal.returns-in-Err
@@ -42,4 +43,5 @@ returns-in-Err g c =
           (step_next r c.requires.runs.0 board c.requires.runs.1 c.take_next.result new (stops_program board new _ _ failed).rest
           (page_write_failed r c.requires.runs.0 board c.requires.runs.1 c.args.page c.requires.phase
           (write_less r c.requires.runs.0 board c.requires.runs.1 c.args.page c.requires.phase) new failed) next.ok);
+      calls = one_program _ _ (inr failed);
     }
