@@ -274,14 +274,12 @@ module _ (task : PairTask) (shape : Shape) (m other : Map) (cs ds : List Command
     told-unposted last failed =
         let same : last.read_faults ≡ b.read_faults = ap (λ (s : BoardState). s.read_faults) failed.rest in
         let same_stop : last.stop_faults ≡ b.stop_faults = ap (λ (s : BoardState). s.stop_faults) failed.rest in
+        let out : Rose a.out_faults last.out_faults = subst (λ (k : ℕ). Rose k last.out_faults) (ap (λ (s : BoardState). s.out_faults) w.asked.rest) failed.faults in
         let F : ℕ → Type 0 = λ k. Goes shape a last (KeptFirst task (Rose a.read_faults k ⊎ Rose c.read_faults d.read_faults) shape limits m) in
         told last Output
         (subst F (sym same) (weaker a last word (KeptFirst task (EitherUnread a b c d) shape limits m) (posting (meter a) (meter b))
         (asked-post_failed Says shape p.on.terms m cs a b w.asked text says last failed)))
-        (
-          subst (λ (k : ℕ). Rose k last.out_faults) (ap (λ (s : BoardState). s.out_faults) w.asked.rest) failed.faults,
-          record { unposted = b; first = one_served; posts = failed.rest; second = two_served },
-        )
+        (out, record { unposted = b; first = one_served; posts = failed.rest; second = two_served })
         (elim used_first [
           | inl stop ↦ inl (subst (λ (k : ℕ). Rose a.stop_faults k) (sym same_stop) stop)
           | inr most ↦ inr (let same_roots : roots last ≡ roots b = ap roots failed.rest in omega (arith, most, same_roots))
