@@ -1,5 +1,5 @@
 -- Two drives that are lent as ports to a pair.
-use Rattle.std.proofs.Common.{◌≡◌, ◌≤◌, inl, inr, ℕ, List, true, false, is_some, [], Ok, refl, sym, ap, subst, ◌∙◌, ◌∷◌}
+use Rattle.std.proofs.Common.{◌≡◌, ◌≤◌, inl, inr, ℕ, List, true, false, is_some, [], Ok, sym, ap, subst, ◌∙◌}
 use Rattle.pk_base.{specs.Entry.Entry, specs.Shape.Shape, specs.Shape.limit, specs.Map.Map}
 use Rattle.pk_nand.{specs.BoardState.BoardState, specs.Calls.IsReady}
 use Rattle.pk_model.{specs.Reading.reading, specs.Reading.Holds, specs.Spaces.limit_of, specs.Spaces.in_space}

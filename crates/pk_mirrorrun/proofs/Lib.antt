@@ -1,3 +1,4 @@
 pub mod Commands
 pub mod PairTelling
 pub mod Lending
+pub mod Unworn

@@ -10,15 +10,19 @@ use Rattle.pk_call.{specs.Sight.Sight, specs.Meter.Meter, specs.Meter.meter}
 use Rattle.pk_words.specs.Lines.{failed_line}
 use Rattle.pk_serve.{proofs.Counting.metered-unworn, proofs.Counting.few_unworn, proofs.Limiting.limits_some}
 use Rattle.pk_mirror.specs.Causes.{NotEmpty}
-use Rattle.pk_port.{specs.Asking.KeptSilently, specs.Asking.KeptWord, specs.Steps.Standing, specs.Steps.HasCause, specs.Steps.standing, specs.Steps.seen, proofs.Serving.mounted_limits}
+use Rattle.pk_port.{specs.Asking.KeptSilently, specs.Asking.KeptWord, specs.Steps.Standing, specs.Steps.HasCause, specs.Steps.Chain, specs.Steps.standing, specs.Steps.seen}
+use Rattle.pk_port.proofs.Serving.{mounted_limits}
 use Rattle.pk_port.{proofs.Stepping.part_of, proofs.Stepping.part_held, specs.Chained.installs, specs.Chained.AllServed, specs.Chained.HaltedAt, specs.Chained.Chained, specs.declared.halt.Halt.Halt}
 use Rattle.pk_port.{specs.declared.halt.Halt.TheVariants.Stopped, specs.declared.halt.Halt.TheVariants.Worn as UsedUp, proofs.Growing.asked-posts, proofs.Growing.asked-post_failed}
 use Rattle.pk_port.proofs.Chaining.{chained}
 use Rattle.pk_wordrun.{specs.Ends.end_of, specs.Told.KeepsInput, specs.declared.end.WordEnd.WordEnd, specs.declared.end.WordEnd.TheVariants.Done, specs.declared.end.WordEnd.TheVariants.Output}
 use Rattle.pk_wordrun.{proofs.Telling.keeps-flash}
-use Rattle.pk_mirrorwords.{specs.PairTasks.PairTask, specs.PairTasks.map_left, specs.PairAnswers.PairSaid, specs.PairAnswers.PairFault, specs.PairAnswers.AreOfFirst, specs.PairAnswers.AreOfSecond}
+use Rattle.pk_mirrorwords.specs.PairTasks.{PairTask, map_left}
+use Rattle.pk_mirrorwords.specs.PairAnswers.{PairSaid, PairFault, AreOfFirst, AreOfPair, AreOfSecond}
 use Rattle.pk_mirrorrun.specs.PairTold.{IsServing, EitherUnread, text_by, Walk, BothWalked, end_by, KeptFirst, KeptSecond, PairAnswered, PairEnds, most_pair_roots, UsedRoots, PairTold}
+use Rattle.pk_mirrorrun.specs.PairTold.{ServedUnworn, WornBefore, PairWorn}
 use Rattle.pk_mirrorrun.proofs.Commands.{ran_first, kept_first, change_keeps_others, part_left, same_parts, first_installs, second_installs}
+use Rattle.pk_mirrorrun.proofs.Unworn.{all_unworn, worn_before}
 
 -- ---- one drive
 
@@ -158,23 +162,30 @@ module _ (task : PairTask) (shape : Shape) (m other : Map) (cs ds : List Command
   ended : (end : WordEnd) → PairEnds task shape m a b c d end → PairTold task shape m other a b c d end
   ended end ends = told b end (first_silent (EitherUnread a b c d)) ends used_first (keeps-flash a b (only_flash shape m cs p p' walk))
 
-  first_halted : (h : HaltedAt shape m cs p p') (halt : Halt) → h.halt ≡ halt → PairEnds task shape m a b c d (end_of halt)
-  first_halted h Stopped is = inl (stopped_by shape m cs p p' h (subst (λ (x : Halt). HasCause p'.on x) is h.cause))
-  first_halted h UsedUp is = inl (subst (λ (x : Halt). HasCause p'.on x) is h.cause)
+  -- a drive is worn
+  worn_by : WornBefore (AreOfFirst task) shape a b ⊎ WornBefore AreOfPair shape c d → PairWorn task shape a b c d
+  worn_by worn = record { worn = worn; silent = ap (λ (s : BoardState). s.posted) (only_flash shape m cs p p' walk) }
 
-  second_halted : (h : HaltedAt shape other ds q q') (halt : Halt) → h.halt ≡ halt → PairEnds task shape m a b c d (end_of halt)
-  second_halted h Stopped is = inr (stopped_by shape other ds q q' h (subst (λ (x : Halt). HasCause q'.on x) is h.cause))
-  second_halted h UsedUp is = inr (subst (λ (x : Halt). HasCause q'.on x) is h.cause)
+  first_halted : (h : HaltedAt shape m cs p p') (halt : Halt) → h.halt ≡ halt → p.halt ≡ None → Chain shape p cs p' → PairEnds task shape m a b c d (end_of halt)
+  first_halted h Stopped is none chain = inl (stopped_by shape m cs p p' h (subst (λ (x : Halt). HasCause p'.on x) is h.cause))
+  first_halted h UsedUp is none chain =
+      worn_by (inl (worn_before (AreOfFirst task) shape p cs p' h.halt are none h.is chain (subst (λ (x : Halt). HasCause p'.on x) is h.cause)))
+
+  second_halted : (h : HaltedAt shape other ds q q') (halt : Halt) → h.halt ≡ halt → q.halt ≡ None → AreOfPair ds → Chain shape q ds q' → PairEnds task shape m a b c d (end_of halt)
+  second_halted h Stopped is none pair chain = inr (stopped_by shape other ds q q' h (subst (λ (x : Halt). HasCause q'.on x) is h.cause))
+  second_halted h UsedUp is none pair chain =
+      worn_by (inr (worn_before AreOfPair shape q ds q' h.halt pair none h.is chain (subst (λ (x : Halt). HasCause q'.on x) is h.cause)))
 
   -- a drive halted
-  pub told-halted : (one two : Option Halt) (end : WordEnd) → p.halt ≡ None → q.halt ≡ None → p'.halt ≡ one → q'.halt ≡ two → end_by one two ≡ Some end → PairTold task shape m other a b c d end
-  told-halted None None end first second is also by = absurd (let clash : ◌≡◌ {A = Option WordEnd} None (Some end) = by in cc)
-  told-halted None (Some halt) end first second is also by =
+  pub told-halted : (one two : Option Halt) (end : WordEnd) → p.halt ≡ None → q.halt ≡ None → p'.halt ≡ one → q'.halt ≡ two → end_by one two ≡ Some end
+      → AreOfPair ds → Chain shape p cs p' → Chain shape q ds q' → PairTold task shape m other a b c d end
+  told-halted None None end first second is also by pair chain chain' = absurd (let clash : ◌≡◌ {A = Option WordEnd} None (Some end) = by in cc)
+  told-halted None (Some halt) end first second is also by pair chain chain' =
       let (h, same) = halted_at shape other ds q q' halt second also too in
-      ended end (subst (λ (e : WordEnd). PairEnds task shape m a b c d e) (some_same (end_of halt) end by) (second_halted h halt same))
-  told-halted (Some halt) two end first second is also by =
+      ended end (subst (λ (e : WordEnd). PairEnds task shape m a b c d e) (some_same (end_of halt) end by) (second_halted h halt same second pair chain'))
+  told-halted (Some halt) two end first second is also by pair chain chain' =
       let (h, same) = halted_at shape m cs p p' halt first is walk in
-      ended end (subst (λ (e : WordEnd). PairEnds task shape m a b c d e) (some_same (end_of halt) end by) (first_halted h halt same))
+      ended end (subst (λ (e : WordEnd). PairEnds task shape m a b c d e) (some_same (end_of halt) end by) (first_halted h halt same first chain))
 
   -- if neither did, no port failed
   pub no_fault : p.halt ≡ None → q.halt ≡ None → p'.halt ≡ None → q'.halt ≡ None → p.faults ≡ 0 → q.faults ≡ 0
@@ -189,7 +200,8 @@ module _ (task : PairTask) (shape : Shape) (m other : Map) (cs ds : List Command
   -- ---- the text
 
   module _ (w : AllServed shape m cs p p') (v : AllServed shape other ds q q') (text : List ℕ)
-      (said : PairSaid (BothUnworn a c) task (seen shape p.on p.faults) (seen shape p'.on p'.faults) (seen shape q.on q.faults) (seen shape q'.on q'.faults) (in_space 1 m) text) where
+      (said : PairSaid (BothUnworn a c) task (seen shape p.on p.faults) (seen shape p'.on p'.faults) (seen shape q.on q.faults) (seen shape q'.on q'.faults) (in_space 1 m) text)
+      (one_served : ServedUnworn (AreOfFirst task) shape a b) (two_served : ServedUnworn AreOfPair shape c d) where
     -- what the text says of the map that the first drive holds
     abbrev Says : List Exchange → List ℕ → Map → Type 0
     Says all t left = ((left ≡ map_left shape limits task m) × (t ≡ text_by shape limits task m)) ⊎ (EitherUnread a b c d × (t ≡ failed_line))
@@ -249,6 +261,7 @@ module _ (task : PairTask) (shape : Shape) (m other : Map) (cs ds : List Command
           no_output = ap (λ (s : BoardState). s.out_faults) w.asked.rest;
           first_sound = w.asked.no_stop;
           second_sound = v.asked.no_stop;
+          began = record { unposted = b; first = one_served; posts = refl; second = two_served };
         })
         used_first
         (record { input = ap (λ (s : BoardState). s.input) w.asked.rest; in_faults = ap (λ (s : BoardState). s.in_faults) w.asked.rest })
@@ -261,11 +274,12 @@ module _ (task : PairTask) (shape : Shape) (m other : Map) (cs ds : List Command
     told-unposted last failed =
         let same : last.read_faults ≡ b.read_faults = ap (λ (s : BoardState). s.read_faults) failed.rest in
         let same_stop : last.stop_faults ≡ b.stop_faults = ap (λ (s : BoardState). s.stop_faults) failed.rest in
+        let out : Rose a.out_faults last.out_faults = subst (λ (k : ℕ). Rose k last.out_faults) (ap (λ (s : BoardState). s.out_faults) w.asked.rest) failed.faults in
         let F : ℕ → Type 0 = λ k. Goes shape a last (KeptFirst task (Rose a.read_faults k ⊎ Rose c.read_faults d.read_faults) shape limits m) in
         told last Output
         (subst F (sym same) (weaker a last word (KeptFirst task (EitherUnread a b c d) shape limits m) (posting (meter a) (meter b))
         (asked-post_failed Says shape p.on.terms m cs a b w.asked text says last failed)))
-        (subst (λ (k : ℕ). Rose k last.out_faults) (ap (λ (s : BoardState). s.out_faults) w.asked.rest) failed.faults)
+        (out, record { unposted = b; first = one_served; posts = failed.rest; second = two_served })
         (elim used_first [
           | inl stop ↦ inl (subst (λ (k : ℕ). Rose a.stop_faults k) (sym same_stop) stop)
           | inr most ↦ inr (let same_roots : roots last ≡ roots b = ap roots failed.rest in omega (arith, most, same_roots))
@@ -309,7 +323,13 @@ module _ {task : PairTask} {shape : Shape} {m other : Map} {p p' q q' : Standing
       (ap part_of h.holds) (ap part_of h.holds') h.too.1
 
   pub tells-halted : (end : WordEnd) → Some end ≡ end_by p'.halt q'.halt → PairTold task shape m other p.on.board p'.on.board q.on.board q'.on.board end
-  tells-halted end by = told-halted task shape m other h.walk.0 h.too.0 p p' q q' h.walk.1 few_roots h.begun h.begun' one two p'.halt q'.halt end h.first h.second refl refl (sym by)
+  tells-halted end by = told-halted task shape m other h.walk.0 h.too.0 p p' q q' h.walk.1 few_roots h.begun h.begun' one two p'.halt q'.halt end h.first h.second refl refl (sym by) h.too.1.only h.walk.2 h.too.2
+
+  one_unworn : p'.halt ≡ None → ServedUnworn (AreOfFirst task) shape p.on.board p'.on.board
+  one_unworn none = all_unworn (AreOfFirst task) shape p h.walk.0 p' h.walk.1 none h.walk.2
+
+  two_unworn : q'.halt ≡ None → ServedUnworn AreOfPair shape q.on.board q'.on.board
+  two_unworn nor = all_unworn AreOfPair shape q h.too.0 q' h.too.1.only nor h.too.2
 
   -- what was said after commands was said of drives that were not worn
   unworn : p'.halt ≡ None → q'.halt ≡ None → (text : List ℕ)
@@ -326,7 +346,7 @@ module _ {task : PairTask} {shape : Shape} {m other : Map} {p p' q q' : Standing
   tells-posted by text said last is =
       let (none, nor) = both_none p'.halt q'.halt by in
       told-posted task shape m other h.walk.0 h.too.0 p p' q q' h.walk.1 few_roots h.begun h.begun' one two (all_served shape m h.walk.0 p p' h.first none one)
-      (all_served shape other h.too.0 q q' h.second nor two) text (unworn none nor text said) last is
+      (all_served shape other h.too.0 q q' h.second nor two) text (unworn none nor text said) (one_unworn none) (two_unworn nor) last is
 
   pub tells-unposted : end_by p'.halt q'.halt ≡ None → (text : List ℕ)
       → PairSaid (BothWalked shape p p' q q') task (seen shape p.on p.faults) (seen shape p'.on p'.faults) (seen shape q.on q.faults) (seen shape q'.on q'.faults) (in_space 1 m) text
@@ -334,7 +354,7 @@ module _ {task : PairTask} {shape : Shape} {m other : Map} {p p' q q' : Standing
   tells-unposted by text said last failed =
       let (none, nor) = both_none p'.halt q'.halt by in
       told-unposted task shape m other h.walk.0 h.too.0 p p' q q' h.walk.1 few_roots h.begun h.begun' one two (all_served shape m h.walk.0 p p' h.first none one)
-      (all_served shape other h.too.0 q q' h.second nor two) text (unworn none nor text said) last failed
+      (all_served shape other h.too.0 q q' h.second nor two) text (unworn none nor text said) (one_unworn none) (two_unworn nor) last failed
 
   pub faults-never : end_by p'.halt q'.halt ≡ None → p.faults ≡ 0 → q.faults ≡ 0
       → PairFault (seen shape p.on p.faults) (seen shape p'.on p'.faults) (seen shape q.on q.faults) (seen shape q'.on q'.faults) → ⊥

@@ -1,17 +1,18 @@
 -- What a word of a pair did to both boards, from the opened drives on.
-use Rattle.std.specs.Prelude.{◌≡◌, ◌⊎◌, ℕ, ◌+◌, ◌*◌, ◌≤◌, List, [], ◌++◌, Option, Some, None, true, false}
+use Rattle.std.specs.Prelude.{◌≡◌, ◌⊎◌, ℕ, ◌+◌, ◌*◌, ◌≤◌, List, [], ◌∷◌, ◌++◌, Option, Some, None, true, false}
 use Rattle.std.specs.FinMap.{len}
 use Rattle.pk_base.{specs.Shape.Shape, specs.Page.Flash, specs.Map.Map}
 use Rattle.pk_nand.{specs.BoardState.BoardState, specs.Calls.Rose, specs.Calls.longer}
 use Rattle.pk_nvme.{specs.Command.Command, specs.declared.limits.TheConstants.NAMESPACE}
-use Rattle.pk_model.{specs.Growth.Goes, specs.Spaces.limits_at, specs.Spaces.limit_of, specs.Spaces.in_space, specs.Reading.Holds, specs.Wear.is_worn, specs.Wear.roots}
+use Rattle.pk_model.{specs.Growth.Goes, specs.Spaces.limits_at, specs.Spaces.limit_of, specs.Spaces.in_space, specs.Reading.Holds, specs.Run.Exchange}
+use Rattle.pk_model.specs.Wear.{is_worn, roots}
 use Rattle.pk_call.specs.Sight.{Sight}
-use Rattle.pk_port.{specs.Steps.Standing, specs.Steps.Chain, specs.declared.halt.Halt.Halt}
+use Rattle.pk_port.{specs.Steps.Mounted, specs.Steps.Standing, specs.Steps.Serves, specs.Steps.Chain, specs.declared.halt.Halt.Halt}
 use Rattle.pk_words.specs.Lines.{failed_line}
 use Rattle.pk_wordrun.{specs.Ends.end_of, specs.Told.KeepsInput, specs.declared.end.WordEnd.WordEnd}
 use Rattle.pk_wordrun.specs.declared.end.WordEnd.TheVariants.{Done, Output, Flash as FlashFailed, Worn}
 use Rattle.pk_mirror.specs.Causes.{NotEmpty}
-use Rattle.pk_mirrorwords.specs.PairTasks.{PairTask, map_left, text_of}
+use Rattle.pk_mirrorwords.{specs.PairTasks.PairTask, specs.PairTasks.map_left, specs.PairTasks.text_of, specs.PairAnswers.AreOfFirst, specs.PairAnswers.AreOfPair}
 
 -- a read of either drive failed
 abbrev pub EitherUnread : BoardState → BoardState → BoardState → BoardState → Type 0
@@ -69,6 +70,43 @@ pub record KeptSecond (shape : Shape) (limits : List ℕ) (flash : Flash) (poste
   pub same_limits : limits_at shape flash ≡ limits
   pub silent : posted ≡ []
 
+-- ---- the commands that began
+
+-- These commands were served one after another, and nothing else was done: each began on a drive that was neither stopped nor worn.
+abbrev pub EachServed : Shape → Mounted → List Command → Mounted → Type 0
+EachServed shape old [] new = new ≡ old
+EachServed shape old (c ∷ cs) new = (mid : Mounted) × (x : Exchange) × Serves shape old mid c x × EachServed shape mid cs new
+
+-- From one state of a board to a later one commands of this kind were served, and none of them began on a worn drive.
+pub record ServedUnworn (Are : List Command → Type 0) (shape : Shape) (a b : BoardState) : Type 0 where
+  pub asked : List Command
+  pub are : Are asked
+  pub before : Mounted
+  pub behind : Mounted
+  pub before_is : before.board ≡ a
+  pub behind_is : behind.board ≡ b
+  pub served : EachServed shape before asked behind
+
+-- the same board but for what was posted
+abbrev pub OnlyPosts : BoardState → BoardState → Type 0
+OnlyPosts old new = new ≡ record old { trail = new.trail; posted = new.posted; out_faults = new.out_faults }
+
+-- All commands of a word were served, and none began on a worn drive: on the first board from a on, before its posts, and on the second from c to d.
+pub record BothServed (task : PairTask) (shape : Shape) (a b c d : BoardState) : Type 0 where
+  pub unposted : BoardState
+  pub first : ServedUnworn (AreOfFirst task) shape a unposted
+  pub posts : OnlyPosts unposted b
+  pub second : ServedUnworn AreOfPair shape c d
+
+-- these commands and at least one more are of this kind
+abbrev pub SomeRemain : (List Command → Type 0) → List Command → Type 0
+SomeRemain Are cs = (next : Command) × (more : List Command) × Are (cs ++ next ∷ more)
+
+-- The drive is worn, and a command remains. No command began on it then, unless a program or an erase failed.
+pub record WornBefore (Are : List Command → Type 0) (shape : Shape) (a b : BoardState) : Type 0 where
+  pub worn : is_worn b ≡ true
+  pub served : ServedUnworn (SomeRemain Are) shape a b ⊎ Rose a.stop_faults b.stop_faults
+
 -- ---- ends
 
 -- The text is the definition's, and both drives hold the map after the word: the second has its first namespace. Neither drive was worn when the
@@ -80,7 +118,8 @@ pub record PairAnswered (task : PairTask) (shape : Shape) (m : Map) (a b c d : B
   pub first_unworn : is_worn a ≡ false
   pub second_unworn : is_worn c ≡ false
 
--- The word is done: its text was posted on the first board, and both drives hold the map after it; or a read failed, and the text says that.
+-- The word is done: its text was posted on the first board, and both drives hold the map after it; or a read failed, and the text says that. Either
+-- way no command began on a worn drive.
 pub record PairFinished (task : PairTask) (shape : Shape) (m : Map) (a b c d : BoardState) : Type 0 where
   pub text : List ℕ
   pub posted : b.posted ≡ longer a.posted text
@@ -88,13 +127,19 @@ pub record PairFinished (task : PairTask) (shape : Shape) (m : Map) (a b c d : B
   pub no_output : b.out_faults ≡ a.out_faults
   pub first_sound : b.stop_faults ≡ a.stop_faults
   pub second_sound : d.stop_faults ≡ c.stop_faults
+  pub began : BothServed task shape a b c d
+
+-- A drive is worn, a command for it remains, and nothing was posted.
+pub record PairWorn (task : PairTask) (shape : Shape) (a b c d : BoardState) : Type 0 where
+  pub worn : WornBefore (AreOfFirst task) shape a b ⊎ WornBefore AreOfPair shape c d
+  pub silent : b.posted ≡ a.posted
 
 -- how it ended, and why: the first board from a to b, the second from c to d
 abbrev pub PairEnds : PairTask → Shape → Map → BoardState → BoardState → BoardState → BoardState → WordEnd → Type 0
 PairEnds task shape m a b c d Done = PairFinished task shape m a b c d
-PairEnds task shape m a b c d Output = Rose a.out_faults b.out_faults
+PairEnds task shape m a b c d Output = Rose a.out_faults b.out_faults × BothServed task shape a b c d
 PairEnds task shape m a b c d FlashFailed = Rose a.stop_faults b.stop_faults ⊎ Rose c.stop_faults d.stop_faults
-PairEnds task shape m a b c d Worn = (is_worn b ≡ true) ⊎ (is_worn d ≡ true)
+PairEnds task shape m a b c d Worn = PairWorn task shape a b c d
 
 -- most roots that the commands of a word install on a drive, each at most ten: a Delete of each key of the second, a Store of each of the first, and the
 -- word's own command, in the first namespace

@@ -193,7 +193,7 @@ module _ (old new old' new' : BoardState) (status : ℕ) where
   abbrev PairMeans : ℕ → Type 0
   PairMeans n =
       When (n == 5) (Rose old.out_faults new.out_faults) × When (n == 6) (PairFlashFailed old new old' new') × When (n == 7) (Untouched old new × Untouched old' new')
-      × When (n == 8) (HasNoPair new new' × Untouched old new × Untouched old' new') × When (n == 10) ((is_worn new ≡ true) ⊎ (is_worn new' ≡ true))
+      × When (n == 8) (HasNoPair new new' × Untouched old new × Untouched old' new') × When (n == 10) (((is_worn new ≡ true) ⊎ (is_worn new' ≡ true)) × (new.posted ≡ old.posted))
 
   tells_by : (n : ℕ) → status ≡ n → (status ≡ 0) ⊎ ((status ≡ 5) ⊎ ((status ≡ 6) ⊎ ((status ≡ 7) ⊎ ((status ≡ 8) ⊎ (status ≡ 10))))) → PairMeans n → PairTells old new old' new' status
   tells_by n is one h =
@@ -280,7 +280,7 @@ module _ (task : PairTask) (shape : Shape) (old loaded new old' loaded' new' : B
       → PairEnds task shape start (behind_opening shape WORD_FRAMES loaded) new (behind_opening shape WORD_FRAMES loaded') new' end → PairTells old new old' new' status
   end_tells start other Done status is ends = tells_by old new old' new' status 0 is (inl is) (tt, tt, tt, tt, tt)
   end_tells start other Output status is ends =
-      tells_by old new old' new' status 5 is (inr (inl is)) (subst (λ (n : ℕ). Rose n new.out_faults) (ap (λ (s : BoardState). s.out_faults) found.rest) ends, tt, tt, tt, tt)
+      tells_by old new old' new' status 5 is (inr (inl is)) (subst (λ (n : ℕ). Rose n new.out_faults) (ap (λ (s : BoardState). s.out_faults) found.rest) ends.0, tt, tt, tt, tt)
   end_tells start other FlashFailed status is ends =
       tells_by old new old' new' status 6 is (inr (inr (inl is))) (
         tt,
@@ -292,7 +292,13 @@ module _ (task : PairTask) (shape : Shape) (old loaded new old' loaded' new' : B
         tt,
         tt,
       )
-  end_tells start other Worn status is ends = tells_by old new old' new' status 10 is (inr (inr (inr (inr (inr is))))) (tt, tt, tt, tt, ends)
+  end_tells start other Worn status is ends = tells_by old new old' new' status 10 is (inr (inr (inr (inr (inr is))))) (
+    tt,
+    tt,
+    tt,
+    tt,
+    (elim ends.worn [ inl w ↦ inl w.worn | inr w ↦ inr w.worn ], ends.silent ∙ ap (λ (s : BoardState). s.posted) found.rest),
+  )
 
   asks_tells : (status : ℕ) → AsksPair task shape loaded new loaded' new' status → PairTells old new old' new' status
   asks_tells status asks = elim asks.outcome [
@@ -475,9 +481,9 @@ module _ (task : PairTask) (old new old' new' : BoardState) (status : ℕ) (shap
       where
         by : (end : WordEnd) → status ≡ word_status end → AskedPair task shape loaded new loaded' new' end → IsDone
         by Done is asked = done_by asked.start (same_start asked.start asked.holds) is asked.ends
-        by Worn is asked = absurd (elim asked.ends [
-          | inl worn ↦ worn_not old loaded new shape asked.start asked.other has found far none asked.few asked.first_used worn
-          | inr worn ↦ worn_not old' loaded' new' shape asked.start asked.other has' found' far' none' asked.few asked.second_used worn
+        by Worn is asked = absurd (elim asked.ends.worn [
+          | inl w ↦ worn_not old loaded new shape asked.start asked.other has found far none asked.few asked.first_used w.worn
+          | inr w ↦ worn_not old' loaded' new' shape asked.start asked.other has' found' far' none' asked.few asked.second_used w.worn
         ])
         by Output is asked = absurd (omega (arith, one, is))
         by FlashFailed is asked = absurd (omega (arith, one, is))

@@ -117,7 +117,7 @@ pub record PairTells (old new old' new' : BoardState) (status : ℕ) : Type 0 wh
   pub flash : status ≡ FLASH.0 → PairFlashFailed old new old' new'
   pub memory : status ≡ MEMORY.0 → Untouched old new × Untouched old' new'
   pub no_drive : status ≡ NO_DRIVE.0 → HasNoPair new new' × Untouched old new × Untouched old' new'
-  pub worn : status ≡ WORN.0 → (is_worn new ≡ true) ⊎ (is_worn new' ≡ true)
+  pub worn : status ≡ WORN.0 → ((is_worn new ≡ true) ⊎ (is_worn new' ≡ true)) × (new.posted ≡ old.posted)
 
 -- the boards hold no pair: their shapes differ, or the flash of one holds no map, or their limits differ
 abbrev pub LacksPair : Shape → Shape → BoardState → BoardState → Type 0
