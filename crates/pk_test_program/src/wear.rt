@@ -144,19 +144,19 @@ fn number_in(rt: &impl Abort, pages: &[PageState], at: usize) -> u64 {
     get_u64(bytes.bytes(), 24)
 }
 
-/// The key of one session is merged by a Tick of the next one. The Tick ends at the first program of the root 2^63: the second page of
-/// its pair remains Erased, and a later session ends with 10.
+/// The key of one session is merged by a Tick of the next one, whose roots go to the other root block from its first pair on. The Tick
+/// ends at the first program of the root 2^63: the second page of its pair remains Erased, and a later session ends with 10.
 #[test]
 fn tick_ends_at_the_last_root(rt: HostRuntime) {
     let (alloc, place) = (rt.alloc(), Place::Root(1 << 63));
     let first = ask(&rt, alloc, made(&rt, alloc, &MAKE_WORKED), &STORES[..1]);
     let pages = pages_left(&rt, alloc, &first.flash);
-    let pages = with_number(&rt, alloc, pages, 2, (1 << 63) - 2);
+    let pages = with_number(&rt, alloc, pages, 16, (1 << 63) - 2);
     let session = ask(&rt, alloc, pages, &[STORES[1], Ask::Tick(1000)]);
     answered(&rt, alloc, &session, &ANSWERS, place);
     let left = pages_left(&rt, alloc, &session.flash);
-    same(&rt, number_in(&rt, &left, 6), 1 << 63, "the number");
-    let is_erased = matches!(left.get(7), Some(PageState::Erased));
+    same(&rt, number_in(&rt, &left, 2), 1 << 63, "the number");
+    let is_erased = matches!(left.get(3), Some(PageState::Erased));
     holds(&rt, is_erased, "the second page is Erased", place);
     posted(&rt, &ask(&rt, alloc, left, &STORES[..1]), WORN, &[], place);
 }
