@@ -293,12 +293,12 @@ module _ (task : PairTask) (shape : Shape) (old loaded new old' loaded' new' : B
         tt,
       )
   end_tells start other Worn status is ends = tells_by old new old' new' status 10 is (inr (inr (inr (inr (inr is))))) (
-        tt,
-        tt,
-        tt,
-        tt,
-        (elim ends.worn [ inl w ↦ inl w.worn | inr w ↦ inr w.worn ], ends.silent ∙ ap (λ (s : BoardState). s.posted) found.rest),
-      )
+    tt,
+    tt,
+    tt,
+    tt,
+    (elim ends.worn [ inl w ↦ inl w.worn | inr w ↦ inr w.worn ], ends.silent ∙ ap (λ (s : BoardState). s.posted) found.rest),
+  )
 
   asks_tells : (status : ℕ) → AsksPair task shape loaded new loaded' new' status → PairTells old new old' new' status
   asks_tells status asks = elim asks.outcome [
