@@ -191,6 +191,28 @@ class Dump(unittest.TestCase):
         done = self.run_dump("lines")
         self.assertIn(f"fails page={pages[0]}", done.stdout)
 
+    def test_spare_blocks(self):
+        os.remove(self.image)
+        for words in (["make", "512", "16", "64"], ["put", "61", "616263"]):
+            done = subprocess.run([PINK, self.image, "spared", "4", *words], capture_output=True)
+            self.assertEqual(done.returncode, 0)
+        done = self.run_dump("spared", "4", "lines")
+        self.assertEqual((done.returncode, done.stderr), (0, ""))
+        lines = [fields(line) for line in done.stdout.splitlines()]
+        of = lambda name: [it for found, it in lines if found == name]
+        self.assertEqual(of("spares"), [{"all": "4", "left": "4"}])
+        self.assertEqual(of("table"), [{"number": "1", "page": str(68 * 16)}])
+        self.assertEqual((of("spare"), of("map")), ([], [{"keys": "1"}]))
+        self.assertEqual([(it["key"], it["len"]) for it in of("entry")], [("61", "3")])
+        self.assertEqual(len(of("block")), 64)
+        text = self.run_dump("spared", "4").stdout
+        self.assertIn("4 spare blocks, 4 left\n", text)
+        self.assertIn("table 1 in page 1088\n", text)
+        for words in (["spared", "3", "lines"], ["spared", "5", "lines"]):
+            self.assertEqual(self.run_dump(*words).returncode, 8)
+        for words in (["spared"], ["spared", "0"], ["spared", "65"], ["spared", "4", "what"]):
+            self.assertEqual(self.run_dump(*words).returncode, 2)
+
     def test_words(self):
         for words in (["what"], ["lines", "more"]):
             self.assertEqual(self.run_dump(*words).returncode, 2)

@@ -7,7 +7,7 @@
 #
 # Words and sessions store and delete values until every bad block was written. Each answer has to be that of a drive without a fault,
 # and the content has to be the same when the drive is opened without the library. If all spare blocks are used the status is 6, and
-# what was answered before is there.
+# what was answered before is there. pinkdump prints the used spare blocks as the newest table in the file has them.
 set -eu
 
 top=$(CDPATH='' cd -- "$(dirname -- "$0")/.." && pwd)
@@ -15,6 +15,8 @@ folder=$(mktemp -d)
 trap 'rm -rf "$folder"' EXIT
 program=${PINK:-$top/crates/pink/out/pink}
 [ -x "$program" ] || { "$top/pink" 2>/dev/null || true; }
+dump=${PINKDUMP:-$top/crates/pinkdump/out/pinkdump}
+[ -x "$dump" ] || { "$top/pinkdump" 2>/dev/null || true; }
 
 cat >"$folder/bad.c" <<'C'
 #define _GNU_SOURCE
@@ -50,10 +52,10 @@ ssize_t pwrite64(int fd, const void *bytes, size_t len, off_t at) { return write
 C
 cc -shared -fPIC -O1 -o "$folder/bad.so" "$folder/bad.c" -ldl
 
-python3 - "$program" "$folder" "${1:-20}" <<'PY'
+python3 - "$program" "$dump" "$folder" "${1:-20}" <<'PY'
 import os, random, subprocess, sys
 
-program, folder, times = sys.argv[1], sys.argv[2], int(sys.argv[3])
+program, dump, folder, times = sys.argv[1], sys.argv[2], sys.argv[3], int(sys.argv[4])
 image = folder + '/d.img'
 PAGE, PAGES, BLOCKS, SPARES = 512, 16, 64, 4
 INNER = BLOCKS + SPARES + 2
@@ -83,6 +85,16 @@ def used():                                             # the used spare blocks 
     newest = max(tables, key=lambda table: int.from_bytes(table[8:16], 'little'))
     count = int.from_bytes(newest[26:28], 'little')
     return [int.from_bytes(newest[32 + 2 * i:34 + 2 * i], 'little') for i in range(count)]
+
+def told():                                             # the used spare blocks, as pinkdump prints them
+    done = subprocess.run([dump, image, 'spared', str(SPARES), 'lines'], capture_output=True)
+    lines = [line.split() for line in done.stdout.decode().splitlines()]
+    rows = [dict(it.split('=') for it in fields) for name, *fields in lines if name == 'spare']
+    expect('the numbers of spare blocks', [int(it['number']) for it in rows], list(range(len(rows))))
+    expect('the places of spare blocks', [int(it['block']) for it in rows], [BLOCKS + i for i in range(len(rows))])
+    left = [line for line in lines if line[0] == 'spares']
+    expect('the spare blocks left', left, [['spares', f'all={SPARES}', f'left={SPARES - len(rows)}']])
+    return [0xffff if it['serves'] == 'failed' else int(it['serves']) for it in rows]
 
 def make():
     if os.path.exists(image):
@@ -118,6 +130,7 @@ def drive(seed):                                        # up to four bad blocks
     for _ in range(120):
         expect('a word', step(content, bad), 0)
     check_content(content)
+    expect('what pinkdump prints', told(), used())
     for block in used():
         expect('a block that was moved', block in bad, True)
         moved += 1
@@ -135,6 +148,7 @@ def used_up():                                          # more bad blocks than s
     expect('list', run(['list'])[0], 0)
     for key, value in content.items():
         expect('get', run(['get', key]), (0, f'ok {value}\n'))
+    expect('what pinkdump prints', told(), used())
 
 for seed in range(times):
     drive(seed)

@@ -16,9 +16,7 @@ use std::alloc::{AllocError, Global};
 fn copied(alloc: Global, bytes: &[u8]) -> Result<PageBytes, AllocError>
     ensures { IfOk result (λ b. b ≡ bytes.now) }
 {
-    let mut own = Vec::with_capacity(alloc, bytes.len())?;
-    own.extend_from_slice(bytes)?;
-    Ok(PageBytes::of(own))
+    Ok(PageBytes::of(bytes.to_vec(alloc)?))
 }
 
 /// A page that was read, with its bytes in the buffer if it is Whole.
