@@ -1,10 +1,11 @@
 #!/bin/sh
-# Checks the documents beside the sources, in a second or two. It is run by hand, before a landing. Each fault is a line.
+# Checks the documents beside the sources, in a second or two; the gate runs it too. Each fault is a line.
 #
-# The index of lemma files, the lists of definitions and the map of the crates are those that docs/lemmas.sh, docs/definitions.py and
-# docs/crates.py write; README keeps to its size; README and TESTS have the right counts; every link leads to a file; every crate,
-# every path of a function, every file of definitions, every clause of GUARANTEES and every wrong body that a document names exists;
-# every wrong body is named; the crates above each one that WORKING counts are those of crates.txt.
+# Each file of lemmas says what it is about; the table of definitions and the map of the crates are those that docs/definitions.py and
+# docs/crates.py write, and each list of definitions is complete; README keeps to its size; README and TESTS have the right counts;
+# every link leads to a file; every crate, every path of a function, every type with a method, every file of definitions, every clause
+# of GUARANTEES and every wrong body that a document names exists; every wrong body says what is wrong, and those of the gate are in
+# WRONG-BODIES; the crates above each one that WORKING counts are those of crates.txt.
 set -u
 
 top=$(CDPATH='' cd -- "$(dirname -- "$0")/.." && pwd) || exit 1
@@ -58,7 +59,7 @@ leads() { # crate, rest of the path
     esac
 }
 
-docs/lemmas.sh --check >/dev/null || fault "docs/PROOFS.md: the index is not what docs/lemmas.sh prints"
+docs/lemmas.sh --check >>"$faults"
 docs/definitions.py --check 2>>"$faults"
 docs/crates.py --check 2>>"$faults"
 
@@ -66,7 +67,7 @@ docs/crates.py --check 2>>"$faults"
 LC_ALL=C.UTF-8 awk '{ gsub(/[\200-\277]/, "") } length($0) > 100 { print "README.md:" FNR ": wider than 100 columns" }' README.md >>"$faults"
 
 # Numbers that README and TESTS repeat: the lines of the definitions, the wrong bodies, the tests of the gate.
-lines=$(sed -n 's/^\([0-9]*\) lines in .*/\1/p' docs/DEFINITIONS.md | head -n 1)
+lines=$(sed -n 's/^| 1 | .* | \([0-9]*\) | [0-9]* |$/\1/p' docs/DEFINITIONS.md)
 grep -q " $lines lines for the claim" README.md || fault "README.md: the claim has $lines lines of definitions"
 edits=$(find crates -path '*/must-fail/*.edit' | wc -l)
 for document in README.md docs/TESTS.md; do
@@ -79,6 +80,12 @@ sed -n 's/^| tests .* | \([0-9]*\) | `\(pk_test_[a-z_]*\)`\(, `\([a-z]*\)`\)\{0,
     found=$(cat "crates/$crate/src/$module"/*.rt | grep -c '^#\[test\]')
     [ "$found" -eq "$count" ] || fault "docs/TESTS.md: $crate $module has $found tests"
 done
+
+# Whether the sources have a type or trait of this name with a function of that name.
+has_method() { # type, function
+    # shellcheck disable=SC2046  # a name of a source has no blank
+    grep -qwE "fn $2" $(grep -rlwE "(impl|trait|struct|enum)(<[^>]*>)? (.* for )?$1" crates/*/src) /dev/null
+}
 
 for document in README.md docs/*.md clients/python/README.md; do
     folder=$(dirname "$document")
@@ -93,6 +100,11 @@ for document in README.md docs/*.md clients/python/README.md; do
     quoted "$document" | grep -oE '^pk_[a-z_]+(::[A-Za-z_]+)+' | sort -u | while IFS= read -r name; do
         crate=${name%%::*}
         { has "$crate" "${name##*::}" && leads "$crate" "${name#*::}"; } || fault "$document: no $name"
+    done
+    # Type::function
+    quoted "$document" | grep -oE '^[A-Z][A-Za-z]+::[a-z_]+' | sort -u | while IFS= read -r name; do
+        case $name in Vec::* | String::* | Option::* | Result::* | Box::* | File::* | OpenOptions::* | BufWriter::* | SmallVec::*) continue ;; esac
+        has_method "${name%%::*}" "${name##*::}" || fault "$document: no $name"
     done
     quoted "$document" | grep -oE '^pk_[a-z_]+/specs/[A-Za-z]+' | sort -u | while IFS= read -r name; do
         [ -f "crates/$name.antt" ] || fault "$document: no definitions $name"
@@ -131,7 +143,7 @@ sed -n 's/^| .* | \(`.*\|the test.*\) |$/\1/p' docs/WRONG-BODIES.md | while IFS=
             pk_*) crate=$name ;;
             *)
                 echo "$crate $name" >>"$named"
-                refused "$crate" "$name" || grep -rqw "fn $name" crates/pk_test_program/src \
+                refused "$crate" "$name" || grep -rqw "fn $name" crates/pk_test_*/src \
                     || fault "docs/WRONG-BODIES.md: neither a wrong body nor a test $name"
                 ;;
         esac
@@ -139,11 +151,13 @@ sed -n 's/^| .* | \(`.*\|the test.*\) |$/\1/p' docs/WRONG-BODIES.md | while IFS=
 done
 
 for edit in crates/*/must-fail/*.edit bench/wrong-bodies/*/*.edit; do
+    head -n 1 "$edit" | grep -q '^body: .' || fault "$edit: its first line does not say what is wrong (body: ..)"
+done
+for edit in crates/*/must-fail/*.edit; do
     crate=${edit#crates/}
-    crate=${crate#bench/wrong-bodies/}
     crate=${crate%%/*}
     name=$(basename "$edit" .edit)
-    grep -qx "$crate $name" "$named" || fault "$crate: neither docs/WRONG-BODIES.md nor docs/GUARANTEES.md names its wrong body $name"
+    grep -qx "$crate $name" "$named" || fault "$crate: neither docs/WRONG-BODIES.md nor docs/GUARANTEES.md names $name, a wrong body of the gate"
 done
 
 # The crates above one, by crates.txt, in which each crate comes after those it needs.
@@ -168,7 +182,7 @@ done
 for crate in $(sed -n 's/^\(pk_[a-z_]*\):.*/\1/p' crates.txt); do
     case $crate in
         pk_test_*) ;;
-        *) grep -qw "$crate" docs/CRATES.md || fault "docs/CRATES.md: nothing of $crate" ;;
+        *) grep -qw "$crate" docs/CRATES.md docs/ARCHITECTURE.md 2>/dev/null || fault "docs: the map of the crates has nothing of $crate" ;;
     esac
 done
 
