@@ -49,6 +49,19 @@ fn check_failing(
     posted(rt, &serve(alloc, flash), status, want, Place::Call(call));
 }
 
+/// The record of a Store is posted if the input ends inside the entry of the next command, after each number of its bytes.
+#[test]
+fn inside_an_entry(rt: HostRuntime) {
+    let alloc = rt.alloc();
+    let next = entry(2, STORE, [0x62, 0], 1, 3);
+    for len in 1..next.len() {
+        let part = next.get(..len).unwrap_or(&[]);
+        let script = joined(&rt, alloc, &[&store(1), part]);
+        let want = records(&rt, alloc, &[Answer::Done]);
+        check(&rt, alloc, script, TRUNCATED, &want);
+    }
+}
+
 // The record of a Store is posted if the input ends inside the value of the next one, of this many
 // bytes.
 fn check_inside(rt: &impl Abort, alloc: Global, size: u32) {
@@ -59,11 +72,15 @@ fn check_inside(rt: &impl Abort, alloc: Global, size: u32) {
 }
 
 /// The record of a Store is posted if the input ends inside the value of the next one, whether that
-/// is too large or not.
+/// is too large or not. A Store whose value lacks a byte has no record.
 #[test]
 fn inside_a_value(rt: HostRuntime) {
-    check_inside(&rt, rt.alloc(), 3);
-    check_inside(&rt, rt.alloc(), 2017);
+    let alloc = rt.alloc();
+    check_inside(&rt, alloc, 3);
+    check_inside(&rt, alloc, 2017);
+    let first = entry(1, STORE, [0x61, 0], 1, 3);
+    let script = joined(&rt, alloc, &[&first, b"ab"]);
+    check(&rt, alloc, script, TRUNCATED, &[]);
 }
 
 // A Store, an unknown command, and a Store.

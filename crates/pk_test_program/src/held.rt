@@ -1,11 +1,14 @@
 //! Spare frames hold further levels: background steps read the pages, and an install gives the
 //! frames back.
 
-use crate::merges::{FOUND_BYTES, REPORT_BYTES, Step, behind_pages, numbers, reads_of};
+use crate::merges::{REPORT_BYTES, Step, behind_pages, numbers, reads_of};
 use crate::steps::{MAKE_WORKED, made, pages_left, same};
 use std::alloc::Global;
 use std::process::Abort;
 use std::test::*;
+
+// The bytes of a Retrieve's record: its buffer has 10 bytes, and the value more.
+const FOUND_BYTES: usize = 24 + 10;
 
 // 361 Stores of 246 keys leave runs of 60, 60, 240 and no entries, which have 4, 4, 16 and no
 // pages.
@@ -81,6 +84,19 @@ fn levels_are_held(rt: HostRuntime) {
         let reads = reads_of(&rt, posted, 0);
         same(&rt, u64::from(reads), u64::from(held.reads), "reads");
     }
+}
+
+/// The flash that a session with 52 frames left is served with 36, which hold no level that is not pinned: a Retrieve of the same key reads
+/// one page more.
+#[test]
+fn fewer_frames_hold_less(rt: HostRuntime) {
+    let alloc = rt.alloc();
+    let pages = made(&rt, alloc, &MAKE_WORKED);
+    let flash = behind_pages(&rt, alloc, pages, &AT_REST, "52");
+    same(&rt, u64::from(reads_of(&rt, flash.posted(), 0)), 1, "reads");
+    let left = pages_left(&rt, alloc, &flash);
+    let later = behind_pages(&rt, alloc, left, &[Step::Retrieve(200)], "36");
+    same(&rt, u64::from(reads_of(&rt, later.posted(), 0)), 2, "reads");
 }
 
 const OPENED: [Step; 6] = [

@@ -65,3 +65,5 @@ mod ways;
 mod wear;
 #[cfg(test)]
 mod words;
+#[cfg(test)]
+mod worked_cuts;

@@ -1,12 +1,18 @@
 //! Scripts that are answered as the machine in memory answers them.
 
-use crate::steps::{add, made_board, posted, serve, worked};
+use crate::steps::{
+    MAKE_WORKED, add, copied, done, ended, holds, made, made_board, posted, roomy_board, same,
+    serve, worked,
+};
+use pk_base::{get_u16, get_u32};
 use pk_model::MapMachine;
 use pk_nvme::opcode::{DELETE, EXIST, FLUSH, LIST, RETRIEVE, STORE, TICK};
 use pk_nvme::{Request, completion, record_head};
 use pk_test_scripts::Place;
 use pk_test_scripts::exits::DONE;
+use pk_test_scripts::overwritten::record_at;
 use pk_test_scripts::script::UNKNOWN;
+use pk_test_scripts::space::full_script;
 use std::alloc::Global;
 use std::process::Abort;
 use std::test::*;
@@ -221,4 +227,80 @@ fn as_the_machine(rt: HostRuntime) {
         &records,
         Place::Named("these commands"),
     );
+}
+
+// One command of a script: its entry, and the bytes that follow it.
+#[derive(Clone, Copy)]
+struct Asked<'s> {
+    entry: &'s [u8],
+    value: &'s [u8],
+}
+
+// The command that begins at this byte of a script. The size of a Store is in the entry's eleventh number.
+fn asked_at(script: &[u8], at: usize) -> Option<Asked<'_>> {
+    let entry = script.get(at..at.checked_add(64)?)?;
+    let size = if entry[0] == STORE {
+        get_u32(entry, 40) as usize
+    } else {
+        0
+    };
+    let start = at.checked_add(64)?;
+    let value = script.get(start..start.checked_add(size)?)?;
+    Some(Asked { entry, value })
+}
+
+// The record that begins at this byte is the answer of the machine, but for the pages that were read: where the next one begins.
+fn check_record(
+    rt: &impl Abort,
+    alloc: Global,
+    machine: &mut MapMachine,
+    asked: &Asked,
+    number: u32,
+    record: &[u8],
+) -> usize {
+    let mut entry = [0u8; 64];
+    entry.copy_from_slice(asked.entry);
+    let answer = machine
+        .step(alloc, &entry, asked.value)
+        .expect(rt, "memory");
+    let data = answer.bytes.bytes();
+    let found = record_at(record, 0).expect(rt, "a record");
+    let head = completion(get_u16(&entry, 2), number, answer.status, answer.result);
+    let size = u32::try_from(data.len()).expect(rt, "a record");
+    let mut wanted = Vec::new(alloc);
+    add(rt, &mut wanted, &record_head(&head, found.reads, size));
+    add(rt, &mut wanted, data);
+    let place = Place::Call(u64::from(number));
+    holds(rt, record.starts_with(&wanted), "the record", place);
+    wanted.len()
+}
+
+/// A drive that becomes full answers as the machine in memory, command by command: with the same statuses, results and data.
+#[test]
+fn full_as_the_machine(rt: HostRuntime) {
+    let alloc = rt.alloc();
+    let script = full_script(alloc).expect(&rt, "memory");
+    let input = copied(&rt, alloc, &script);
+    let pages = made(&rt, alloc, &MAKE_WORKED);
+    let session = serve(alloc, roomy_board(&rt, alloc, worked(&rt), pages, input));
+    ended(
+        &rt,
+        &session,
+        DONE,
+        Place::Named("a drive that becomes full"),
+    );
+    let posted = session.flash.posted();
+    let mut machine = MapMachine::new(alloc, worked(&rt)).expect(&rt, "memory");
+    let mut at = 0usize;
+    let mut end = 0usize;
+    for number in 1..255u32 {
+        if let Some(asked) = asked_at(&script, at) {
+            let record = posted.get(end..).unwrap_or(&[]);
+            let len = check_record(&rt, alloc, &mut machine, &asked, number, record);
+            end = end.saturating_add(len);
+            at = at.saturating_add(64).saturating_add(asked.value.len());
+        }
+    }
+    same(&rt, at as u64, script.len() as u64, "the bytes asked");
+    same(&rt, end as u64, posted.len() as u64, "the bytes posted");
 }

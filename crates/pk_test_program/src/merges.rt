@@ -64,12 +64,18 @@ const ABC: Value = Value {
     len: 3,
 };
 
+// A value of 100 bytes, which has two pages too.
+const HUNDRED: Value = Value {
+    first: 0x61,
+    len: 100,
+};
+
 /// What is asked of a made drive.
 #[derive(Clone, Copy)]
 pub enum Step {
     // Stores of n keys of two bytes, of two pages each.
     Stores(u16),
-    // The first of these numbers of Stores, of the second of these numbers of keys by turns.
+    // The first of these numbers of Stores of 100 bytes, of the second of these numbers of keys by turns.
     StoresOf(u16, u16),
     // With a buffer of 10 bytes.
     Retrieve(u16),
@@ -81,8 +87,8 @@ pub enum Step {
 // Adds what is asked by a step.
 fn add_step(rt: &impl Abort, into: &mut Vec<u8>, step: &Step) {
     match step {
-        Step::Stores(count) => add_stores(rt, into, *count, *count),
-        Step::StoresOf(count, keys) => add_stores(rt, into, *count, *keys),
+        Step::Stores(count) => add_stores(rt, into, *count, *count, &ABC),
+        Step::StoresOf(count, keys) => add_stores(rt, into, *count, *keys, &HUNDRED),
         Step::Retrieve(key) => add(rt, into, &entry(2, RETRIEVE, key_of(*key), 2, 10)),
         Step::Tick(steps) => add(rt, into, &entry(1, TICK, [0, 0], 0, *steps)),
         Step::List => add(rt, into, &entry(1, LIST, [0, 0], 0, 65536)),
@@ -90,11 +96,11 @@ fn add_step(rt: &impl Abort, into: &mut Vec<u8>, step: &Step) {
     }
 }
 
-fn add_stores(rt: &impl Abort, into: &mut Vec<u8>, count: u16, keys: u16) {
+fn add_stores(rt: &impl Abort, into: &mut Vec<u8>, count: u16, keys: u16, value: &Value) {
     for i in 0..count {
         let key = key_of(i.checked_rem(keys).unwrap_or(i));
-        add(rt, into, &entry(i, STORE, key, 2, ABC.len));
-        push_value(into, &ABC).expect(rt, "memory");
+        add(rt, into, &entry(i, STORE, key, 2, value.len));
+        push_value(into, value).expect(rt, "memory");
     }
 }
 
@@ -250,8 +256,8 @@ fn last_erase(flash: &Flash, wanted: u32) -> Option<usize> {
 }
 
 /// Roots fill block 1, and block 0 is erased for the next install: cut there, with its pages
-/// unchanged, Erased and Torn by turns, the newest root is one of block 1, and every key whose
-/// record was posted exists.
+/// unchanged, Erased and Torn by turns, opening takes the newest root, of block 1: the next one is
+/// programmed to block 0. Every key whose record was posted exists.
 #[test]
 fn roots_fill_a_block(rt: HostRuntime) {
     let alloc = rt.alloc();
@@ -264,6 +270,27 @@ fn roots_fill_a_block(rt: HostRuntime) {
     let told = bytes_out(&flash, k).div_ceil(24).min(1000) as u32;
     let is_so = told <= keys && keys <= 240 && keys > 0;
     holds(&rt, is_so, "the keys", Place::Mark(k));
+    let pages = cut(&rt, alloc, &flash, k, &left);
+    let next = behind_pages(&rt, alloc, pages, &[Step::Stores(1)], "36");
+    same(
+        &rt,
+        u64::from(first_root(&rt, &next)),
+        0,
+        "the page of the next root",
+    );
+}
+
+// The page of the first root that a session programs; the two blocks of the roots come first on a flash.
+fn first_root(rt: &impl Abort, flash: &Flash) -> u32 {
+    let block_pages = worked(rt).block_pages();
+    for mark in 0..flash.marks() {
+        if let Mark::Program { page, .. } = flash.mark(mark) {
+            if *page < block_pages.saturating_mul(2) {
+                return *page;
+            }
+        }
+    }
+    panic!(rt; "a root")
 }
 
 // ---- on flashes made by hand

@@ -157,13 +157,14 @@ fn values_on(
 
 // How a first session is cut: of a drive like this, with at most this many commands, from this mark
 // on. Of the cuts of the second session after each one, one of every n is made, none if `every` is
-// 0; which ones goes on from cut to cut.
+// 0; which ones goes on from cut to cut, and `turn`, below n, says with which they begin.
 #[derive(Clone, Copy)]
 struct Cutting {
     full: Full,
     most: u32,
     from: usize,
     every: u32,
+    turn: u32,
 }
 
 // After how many commands, between these two numbers, these are the first bytes of the values of
@@ -296,7 +297,8 @@ fn check_mark(
     for left in &ways {
         let second = second(rt, alloc, cutting, first, k, left);
         if cutting.every > 0 {
-            let taken = check_second(rt, alloc, cutting, &second, cuts.first);
+            let at = cuts.first.wrapping_add(cutting.turn);
+            let taken = check_second(rt, alloc, cutting, &second, at);
             cuts.second = cuts.second.saturating_add(taken);
         }
         cuts.first = cuts.first.saturating_add(1);
@@ -319,7 +321,7 @@ fn check(rt: &impl Abort, alloc: Global, cutting: &Cutting, first: &Flash) -> Cu
 
 // A reclaim of a full drive, cut at every mark: from before it to the end of the command that makes
 // it.
-fn check_one(rt: &impl Abort, alloc: Global, full: &Full, every: u32) -> Cuts {
+fn check_one(rt: &impl Abort, alloc: Global, full: &Full, every: u32, turn: u32) -> Cuts {
     let before = full.commands(rt, alloc, full.before);
     let cutting = Cutting {
         full: *full,
@@ -327,29 +329,48 @@ fn check_one(rt: &impl Abort, alloc: Global, full: &Full, every: u32) -> Cuts {
         // the last commit and its post are those of the end of the input
         from: before.marks().saturating_sub(4),
         every,
+        turn,
     };
     let first = full.commands(rt, alloc, cutting.most);
     check(rt, alloc, &cutting, &first)
 }
 
-/// The first reclaim of a full drive of 64 blocks, cut at every mark, and of the cuts of the session after each one, one of every three.
+// One of every three cuts of the session after each cut of the first reclaim of a full drive of 64 blocks.
+fn check_first_on_full(rt: &impl Abort, alloc: Global, turn: u32) {
+    let cuts = check_one(rt, alloc, &WORKED, 3, turn);
+    at_least(rt, cuts.first, 70, "cuts");
+    at_least(rt, cuts.second, 4_000, "cuts after them");
+}
+
+/// The first reclaim of a full drive of 64 blocks, cut at every mark, and so the session after each one: this test and the two after it
+/// take one of every three cuts of that session in turn, and make all of them together.
 #[test]
 fn first_on_full(rt: HostRuntime) {
-    let cuts = check_one(&rt, rt.alloc(), &WORKED, 3);
-    at_least(&rt, cuts.first, 70, "cuts");
-    at_least(&rt, cuts.second, 4_000, "cuts after them");
+    check_first_on_full(&rt, rt.alloc(), 0);
+}
+
+/// The second third of them.
+#[test]
+fn first_on_full_second_third(rt: HostRuntime) {
+    check_first_on_full(&rt, rt.alloc(), 1);
+}
+
+/// The last third of them.
+#[test]
+fn first_on_full_last_third(rt: HostRuntime) {
+    check_first_on_full(&rt, rt.alloc(), 2);
 }
 
 /// The same, and of the cuts of the session after each one, of every mark in some ways, one in
 /// `every`. This takes minutes.
 pub fn first_on_full_twice(rt: &impl Abort, alloc: Global, every: u32) -> Cuts {
-    check_one(rt, alloc, &WORKED, every)
+    check_one(rt, alloc, &WORKED, every, 0)
 }
 
 /// A reclaim of a full drive of 33 blocks, cut off at every mark, and of the cuts of the session after each one, one of every four.
 #[test]
 fn one_on_small(rt: HostRuntime) {
-    let cuts = check_one(&rt, rt.alloc(), &SMALL, 4);
+    let cuts = check_one(&rt, rt.alloc(), &SMALL, 4, 0);
     at_least(&rt, cuts.first, 40, "cuts");
     at_least(&rt, cuts.second, 500, "cuts after them");
 }
@@ -360,6 +381,7 @@ const OVERWRITES: Cutting = Cutting {
     most: 60,
     from: 0,
     every: 0,
+    turn: 0,
 };
 
 /// A full drive of 33 blocks takes overwrites, of which nearly each makes a reclaim, and some a

@@ -1,15 +1,62 @@
 //! The worked rows, and the words of a pair.
 
 use crate::mirror::pairs::{
-    Half, MAKE_SMALL, MAKE_WORKED, alone, blank, empty, images_of, made, pair_status, run_failing,
-    run_over, said,
+    Half, Images, MAKE_SMALL, MAKE_WORKED, Ran, alone, blank, empty, images_of, made, pair_status,
+    run_failing, run_over, said,
 };
-use pk_flash::Left;
+use pk_flash::{Flash, Left};
+use pk_nand::Mark;
 use std::alloc::Global;
 use std::process::Abort;
 use std::test::*;
 
-/// A store whose first program on the second drive fails is on the first drive, and the next run brings it to the second.
+// The pages of a block of a drive that `MAKE_WORKED` makes.
+const BLOCK_PAGES: u32 = 16;
+
+// The words that make a drive of 512 blocks of 64 pages of 4,096 bytes.
+const MAKE_LARGE: &str = "make 4096 64 512";
+
+// How many programs of roots a session makes before its first program of a value. The two blocks of the roots come first on a flash.
+fn roots_before_a_value(rt: &impl Abort, flash: &Flash) -> u64 {
+    let mut roots = 0u64;
+    for mark in 0..flash.marks() {
+        if let Mark::Program { page, .. } = flash.mark(mark) {
+            if *page >= 2 * BLOCK_PAGES {
+                return roots;
+            }
+            roots = roots.saturating_add(1);
+        }
+    }
+    panic!(rt; "a program of a value")
+}
+
+// The run of a `put` in which the first program of its value on the second drive fails.
+fn put_that_fails(rt: &impl Abort, alloc: Global, images: &Images) -> Ran {
+    // Opening and the resync only read, so the second drive's first program or erase comes after the reads of a `resync`.
+    let quiet = run_over(rt, alloc, images, "resync");
+    assert!(rt; quiet.second.marks() == 0);
+    let put = run_over(rt, alloc, images, "put 62 -");
+    let wanted = roots_before_a_value(rt, &put.second).saturating_add(1);
+    let start = quiet.second.read_count();
+    for call in start..start.saturating_add(30) {
+        let ran = run_failing(
+            rt,
+            alloc,
+            images,
+            "put 62 -",
+            Half::Second,
+            call,
+            Left::Torn,
+        );
+        // a program that failed is counted, and stops the drive
+        if ran.second.program_count() == wanted {
+            return ran;
+        }
+    }
+    panic!(rt; "a call that programs a value")
+}
+
+/// A store whose first program of the value on the second drive fails is on the first drive, and the next run brings it to the second.
 #[test]
 fn a_store_that_the_second_drive_lost(rt: HostRuntime) {
     let alloc = rt.alloc();
@@ -20,36 +67,7 @@ fn a_store_that_the_second_drive_lost(rt: HostRuntime) {
         "put 61 616263",
         b"ok\n",
     );
-    // Opening and the resync only read, so the second drive's first program or erase comes after the reads of a `resync`.
-    let quiet = run_over(&rt, alloc, &images, "resync");
-    assert!(rt; quiet.second.marks() == 0);
-    let mut call = quiet.second.read_count();
-    let mut ran = run_failing(
-        &rt,
-        alloc,
-        &images,
-        "put 62 -",
-        Half::Second,
-        call,
-        Left::Untouched,
-    );
-    // The erases of the blocks that the store takes come before its first program.
-    for _ in 0..16u32 {
-        if ran.second.program_count() > 0 {
-            break;
-        }
-        call = call.saturating_add(1);
-        ran = run_failing(
-            &rt,
-            alloc,
-            &images,
-            "put 62 -",
-            Half::Second,
-            call,
-            Left::Untouched,
-        );
-    }
-    assert!(rt; ran.second.program_count() == 1);
+    let ran = put_that_fails(&rt, alloc, &images);
     assert!(rt; ran.status == 6 && ran.first.posted().is_empty());
     let images = images_of(&rt, alloc, &ran.first, &ran.second);
     let before = alone(&rt, alloc, images.shape, &images.second, "list");
@@ -65,14 +83,18 @@ fn no_pair(rt: HostRuntime) {
     let alloc = rt.alloc();
     let mut worked = made(&rt, alloc, MAKE_WORKED);
     let mut small = made(&rt, alloc, MAKE_SMALL);
+    let mut large = made(&rt, alloc, MAKE_LARGE);
     let mut none = blank(&rt, alloc);
     let (worked_marks, small_marks) = (worked.marks(), small.marks());
+    let large_marks = large.marks();
     let text = "put 61 616263";
+    assert!(rt; pair_status(&rt, alloc, &mut worked, &mut large, text) == 8);
     assert!(rt; pair_status(&rt, alloc, &mut worked, &mut small, text) == 8);
     assert!(rt; pair_status(&rt, alloc, &mut small, &mut worked, text) == 8);
     assert!(rt; pair_status(&rt, alloc, &mut none, &mut worked, text) == 8);
     assert!(rt; pair_status(&rt, alloc, &mut worked, &mut none, text) == 8);
     assert!(rt; worked.marks() == worked_marks && small.marks() == small_marks);
+    assert!(rt; large.marks() == large_marks);
     assert!(rt; none.marks() == 0 && none.shape().is_none());
 }
 

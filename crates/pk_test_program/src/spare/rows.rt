@@ -12,19 +12,22 @@ use std::alloc::Global;
 use std::process::Abort;
 use std::test::*;
 
-// How many erases a session makes before its first program, and the page of this program.
-fn first_program(rt: &impl Abort, flash: &Flash) -> (usize, u32) {
+// How many programs and erases a session makes before the first program of a value, and the page of this program. The two blocks of the
+// roots come first on a flash; the programs of roots are passed over.
+fn first_value(rt: &impl Abort, flash: &Flash) -> (usize, u32) {
     for mark in 0..flash.marks() {
         if let Mark::Program { page, .. } = flash.mark(mark) {
-            return (mark, *page);
+            if *page >= 2 * BLOCK_PAGES {
+                return (mark, *page);
+            }
         }
     }
-    panic!(rt; "a program")
+    panic!(rt; "a program of a value")
 }
 
-// The call of the first program of a value in the worked session: of the calls whose failure uses a spare block, the one after those that
-// erase.
-fn call_of_value(rt: &impl Abort, alloc: Global, image: &Image, erases: usize) -> u64 {
+// The call of the first program of a value in the worked session: of the calls whose failure uses a spare block, which are programs and
+// erases, the one after so many.
+fn call_of_value(rt: &impl Abort, alloc: Global, image: &Image, before: usize) -> u64 {
     let quiet = serve(rt, alloc, image, &SCRIPT);
     let start = call_after_opening(&quiet.flash);
     let mut found = 0usize;
@@ -32,13 +35,13 @@ fn call_of_value(rt: &impl Abort, alloc: Global, image: &Image, erases: usize) -
         let failing = one(rt, alloc, call, Left::Untouched);
         let ran = serve_failing(rt, alloc, image, &SCRIPT, failing);
         if ran.status == Status::DONE && ran.left == 3 {
-            if found == erases {
+            if found == before {
                 return call;
             }
             found = found.saturating_add(1);
         }
     }
-    panic!(rt; "a call that programs")
+    panic!(rt; "a call that programs a value")
 }
 
 // The bytes of a page of the inner flash, if it is Whole.
@@ -85,8 +88,12 @@ fn a_block_that_moves(rt: HostRuntime) {
     let quiet = serve(&rt, alloc, &image, &SCRIPT);
     assert!(rt; quiet.status == Status::DONE && quiet.left == 4);
     assert!(rt; quiet.flash.posted() == RECORDS.as_slice());
-    let (erases, page) = first_program(&rt, &quiet.flash);
-    let call = call_of_value(&rt, alloc, &image, erases);
+    let (before, page) = first_value(&rt, &quiet.flash);
+    assert!(rt;
+        page == 32,
+        "the first page of the first block after those of the roots"
+    );
+    let call = call_of_value(&rt, alloc, &image, before);
     let failing = one(&rt, alloc, call, Left::Torn);
     let ran = serve_failing(&rt, alloc, &image, &SCRIPT, failing);
     assert!(rt; ran.status == Status::DONE && ran.left == 3);
@@ -99,21 +106,21 @@ fn every_second(rt: &impl Abort, alloc: Global, call: u64) -> Vec<Failing> {
     let mut all = Vec::new(alloc);
     for number in 0..5u64 {
         let call = call.saturating_add(2 * number);
-        let left = Left::Untouched;
+        let left = Left::Torn;
         all.push(Failing { call, left }).expect(rt, "memory");
     }
     all
 }
 
-/// Five programs fail one after another, each on the block or the spare block in use: the session stops with nothing posted. The map is
-/// empty when the drive is opened again, and no table was written, so four spare blocks are left.
+/// The first program of a value and four more fail one after another, each on the block or the spare block in use: the session stops with
+/// nothing posted. The map is empty when the drive is opened again, and no table was written, so four spare blocks are left.
 #[test]
 fn spare_blocks_that_are_used_up(rt: HostRuntime) {
     let alloc = rt.alloc();
     let image = made(&rt, alloc);
     let quiet = serve(&rt, alloc, &image, &SCRIPT);
-    let (erases, _) = first_program(&rt, &quiet.flash);
-    let call = call_of_value(&rt, alloc, &image, erases);
+    let (before, _) = first_value(&rt, &quiet.flash);
+    let call = call_of_value(&rt, alloc, &image, before);
     let ran = serve_failing(&rt, alloc, &image, &SCRIPT, every_second(&rt, alloc, call));
     assert!(rt; ran.status == Status::FLASH && ran.left == 0);
     assert!(rt; ran.flash.posted().is_empty());
