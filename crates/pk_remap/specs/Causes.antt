@@ -1,7 +1,7 @@
 -- What a flash with spare blocks does by calls of its inner flash, and why it refuses a call.
 use Rattle.std.specs.Prelude.{◌≡◌, ◌⊎◌, ℕ, ◌+◌, ◌-◌, ◌*◌, ◌<◌, ◌≤◌, length, Option, Some, None, Result, Ok, Err, IsOk, IsErr, OnOk, OnErr, ⊤}
 use Rattle.pk_base.{specs.Shape.Shape, specs.Shape.checked, specs.Page.page_at, specs.Page.torn, specs.Mark.Mark, specs.Mark.after}
-use Rattle.pk_nand.{specs.BoardState.BoardState, specs.Calls.Rose, specs.Calls.last_count, specs.Effects.OnlyFlash, specs.declared.types.LoadFault.LoadFault, specs.declared.types.NandFault.NandFault}
+use Rattle.pk_nand.{specs.BoardState.BoardState, specs.Calls.Rose, specs.Calls.last_count, specs.Calls.Loaded, specs.Calls.LoadFailed, specs.Effects.OnlyFlash, specs.Effects.OnlyReading, specs.declared.types.LoadFault.LoadFault, specs.declared.types.NandFault.NandFault}
 use Rattle.pk_nand.specs.declared.types.LoadFault.TheVariants.{Fault, BadImage, Memory}
 use Rattle.pk_remap.{specs.declared.relocation.Relocation.Relocation as InMemory, specs.declared.mark_log.MarkLog.MarkLog, specs.Logged.HasLogRoom, specs.Table.SpareTable, specs.Stepping.IsTableBlock}
 use Rattle.pk_remap.{specs.Newest.newest_table, specs.Newest.IsNewest, specs.Places.inner_shape, specs.Places.placed_page, specs.Through.through, specs.Through.MayShow, specs.Serving.PassesCalls}
@@ -35,6 +35,12 @@ LoadCause spares old (Ok (Some shape)) left new = ImageOpened spares shape left 
 LoadCause spares old (Err Fault) left new = Rose old.flash_faults new.flash_faults
 LoadCause spares old (Err (BadImage at)) left new = BadImageCause spares at new
 LoadCause spares old (Err Memory) left new = ⊤
+
+-- A load of the inner flash, and after it nothing but reads of it.
+pub record LoadsInner (old new : BoardState) : Type 0 where
+  pub mid : BoardState
+  pub loads : ((found : Option Shape) × Loaded old mid found) ⊎ LoadFailed old mid
+  pub reads : OnlyReading mid new
 
 -- why a make failed: the inner shape is allowed, and the inner flash failed; or it is not allowed, and nothing was done
 pub data MakeFaultCause (spares : ℕ) (shape : Shape) (old new : BoardState) : Type 0 where

@@ -2,11 +2,12 @@
 ghost use Rattle.std.specs.Prelude.{◌≡◌, None, IsOk};
 ghost use Rattle.pk_base.specs.Shape.{checked};
 ghost use Rattle.pk_nand.specs.Calls.{IsReady};
+ghost use Rattle.pk_nand.specs.Effects.{OnlyReading};
 ghost use Rattle.pk_remap.specs.declared.image.Image.TheVariants.{Unknown, Missing};
 ghost use Rattle.pk_remap.specs.Places.{inner_shape as inner_shape_of};
 ghost use Rattle.pk_remap.specs.Running.{IsAtRest};
 ghost use Rattle.pk_remap.specs.Remapped.{spares_left as spares_left_of};
-ghost use Rattle.pk_remap.specs.Causes.{LoadCause, MakeCause};
+ghost use Rattle.pk_remap.specs.Causes.{LoadCause, LoadsInner, MakeCause};
 ghost use Rattle.pk_remap.specs.Answers.{LoadAnswers, MakeAnswers};
 ghost use Rattle.pk_remap.specs.FirstTable.{IsMade};
 ghost use Rattle.pk_remap.specs.Logged.{told};
@@ -31,6 +32,7 @@ impl<N: Nand> Remap<N> {
             (⟦<Remap<N> as Nand>⟧.state self.new) }
         ensures cause { LoadCause self.old.work.spares (N.state self.old.inner) result
             (spares_left_of self.new.image self.new.work) (N.state self.new.inner) }
+        ensures reads { LoadsInner (N.state self.old.inner) (N.state self.new.inner) }
     {
         match self.inner.load(alloc) {
             Ok(Some(found)) => self.open_image(alloc, &found),
@@ -55,6 +57,7 @@ impl<N: Nand> Remap<N> {
             (⟦<Remap<N> as Nand>⟧.state self.new) }
         ensures cause { LoadCause self.old.work.spares (N.state self.old.inner) result
             (spares_left_of self.new.image self.new.work) (N.state self.new.inner) }
+        ensures reads { OnlyReading (N.state self.old.inner) (N.state self.new.inner) }
     {
         match outer_shape(found, self.work.spares) {
             Ok(shape) => {
@@ -77,6 +80,7 @@ impl<N: Nand> Remap<N> {
             (⟦<Remap<N> as Nand>⟧.state self.new) }
         ensures cause { LoadCause self.old.work.spares (N.state self.old.inner) result
             (spares_left_of self.new.image self.new.work) (N.state self.new.inner) }
+        ensures reads { OnlyReading (N.state self.old.inner) (N.state self.new.inner) }
     {
         match self.work.find(&mut self.inner) {
             Ok(true) => self.open_log(alloc),
@@ -95,6 +99,7 @@ impl<N: Nand> Remap<N> {
             (⟦<Remap<N> as Nand>⟧.state self.new) }
         ensures cause { LoadCause self.old.work.spares (N.state self.old.inner) result
             (spares_left_of self.new.image self.new.work) (N.state self.new.inner) }
+        ensures reads { OnlyReading (N.state self.old.inner) (N.state self.new.inner) }
     {
         let size = self.work.shape.page_bytes() as usize;
         match MarkLog::with_room(alloc, self.log.room, size) {

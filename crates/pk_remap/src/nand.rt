@@ -6,13 +6,14 @@ ghost use Rattle.pk_base.specs.Mark.{program, erase};
 ghost use Rattle.pk_nand.specs.BoardState.{shape_of};
 ghost use Rattle.pk_nand.specs.Seen.{answer};
 ghost use Rattle.pk_nand.specs.Calls.{Rose, IsReady, after_program, ProgramFailed, Loaded, LoadFailed, Made, MakeFailed};
+ghost use Rattle.pk_nand.specs.Effects.{OnlyReading};
 ghost use Rattle.pk_nand.specs.Operations.{filled, InOrder, after_read, after_erase, EraseFailed, ReadFailed};
 ghost use Rattle.pk_nand.specs.declared.types.LoadFault.{LoadFault};
 ghost use Rattle.pk_remap.specs.Through.{MayShow};
 ghost use Rattle.pk_remap.specs.Serving.{PassesCalls};
 ghost use Rattle.pk_remap.specs.Logged.{HasLogRoom};
 ghost use Rattle.pk_remap.specs.Remapped.{remap_board, is_open as is_open_image, spares_left as spares_left_of};
-ghost use Rattle.pk_remap.specs.Causes.{LoadCause, MakeCause, StopCause, SparesFallBy, IsRefused};
+ghost use Rattle.pk_remap.specs.Causes.{LoadCause, LoadsInner, MakeCause, StopCause, SparesFallBy, IsRefused};
 
 use crate::image::Image;
 use crate::remap::Remap;
@@ -39,12 +40,14 @@ impl<N: Nand> Nand for Remap<N> {
         ensures held { IsSome (⟦<Remap<N> as Nand>⟧.state self.old).shape → (at : ℕ)
             → result ≢ Err (LoadFault.BadImage at) }
 
-        // If the shape was known it is the answer, and else the inner flash decides.
+        // If the shape was known it is the answer, and else the inner flash decides: it is loaded, and then only read.
         ensures known { is_open_image self.old.image ≡ true
             → (result ≡ Ok (Some self.old.work.shape)) × (self.new.inner ≡ self.old.inner) }
         ensures cause { is_open_image self.old.image ≡ false → LoadCause self.old.work.spares
             (N.state self.old.inner) result (spares_left_of self.new.image self.new.work)
             (N.state self.new.inner) }
+        ensures reads { is_open_image self.old.image ≡ false
+            → LoadsInner (N.state self.old.inner) (N.state self.new.inner) }
         ensures left { spares_left_of self.old.image self.old.work
             ≤ spares_left_of self.new.image self.new.work }
     {
@@ -93,9 +96,10 @@ impl<N: Nand> Nand for Remap<N> {
         ensures ok { OnOk result (⟦<Remap<N> as Nand>⟧.state self.new ≡ after_read (⟦<Remap<N> as Nand>⟧.state self.old)) }
         ensures err { OnErr result (ReadFailed (⟦<Remap<N> as Nand>⟧.state self.old) (⟦<Remap<N> as Nand>⟧.state self.new) page) }
 
-        // What of the inner flash makes it fail; no spare is taken.
+        // What of the inner flash makes it fail; that is only read, and no spare is taken.
         ensures cause { OnErr result (Rose (N.state self.old.inner).read_faults
             (N.state self.new.inner).read_faults) }
+        ensures only_reads { OnlyReading (N.state self.old.inner) (N.state self.new.inner) }
         ensures left { spares_left_of self.new.image self.new.work
             ≡ spares_left_of self.old.image self.old.work }
     {

@@ -18,6 +18,7 @@ returns-then-is_open g c =
       held = λ some at e. cc;
       known = λ e. (refl, refl);
       cause = λ e. no_bool (sym e ∙ has_open);
+      reads = λ e. no_bool (sym e ∙ has_open);
       left = omega arith;
     }
 
@@ -38,5 +39,6 @@ returns-else-is_open g c =
       held = λ some at e. shut_none self.image self.work self.log self.counts inner shut some;
       known = λ e. no_bool (sym shut ∙ e);
       cause = λ e. c.load_inner.ensures.cause;
+      reads = λ e. c.load_inner.ensures.reads;
       left = omega (arith, none);
     }

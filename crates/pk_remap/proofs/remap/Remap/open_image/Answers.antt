@@ -4,7 +4,7 @@ use Rattle.pk_base.{specs.declared.shape.ShapeError.ShapeError, specs.Shape.Shap
 use Rattle.pk_nand.{specs.BoardState.BoardState, specs.Calls.IsReady, specs.declared.types.LoadFault.TheVariants.BadImage}
 use Rattle.pk_remap.{specs.declared.relocation.Relocation.Relocation as InMemory, specs.Places.inner_shape, specs.Causes.LoadCause, specs.Causes.no_outer_shape}
 use Rattle.pk_remap.{specs.Remapped.RemapHolds, specs.Remapped.is_open, specs.Remapped.is_sure, specs.Remapped.is_missing, specs.Remapped.spares_left}
-use Rattle.pk_remap.{proofs.Remapping.no_bool, proofs.Remapping.holds_closed, proofs.Opening.with_spares, proofs.Opening.unknown_refused, proofs.Opening.unknown_then}
+use Rattle.pk_remap.{proofs.Remapping.no_bool, proofs.Remapping.holds_closed, proofs.Remapping.reading_none, proofs.Opening.with_spares, proofs.Opening.unknown_refused, proofs.Opening.unknown_then}
 use Rattle.pk_remap.proofs.Opening.{load_refused_as, load_cause_as}
 use Rattle.pk_remap.proofs.remap.Remap.open_image.Goals as goal
 
@@ -62,3 +62,9 @@ returns-in-Err-clause-cause g c =
     load_cause_as self.work.spares (g.N.Nand.state self.inner) c.refuse.ensures.fault (ap g.N.Nand.state c.refuse.ensures.inner)
     (spares_left c.refuse.new.self.image c.refuse.new.self.work)
     (no_outer_shape c.args.found.now c.requires.ready.shape_is (subst T (sym c.in-Err.is ∙ c.outer_shape.ensures) refl) refl)
+
+pub returns-in-Ok-clause-reads : goal.returns-in-Ok-clause-reads
+returns-in-Ok-clause-reads g c = c.open_table.ensures.reads
+
+pub returns-in-Err-clause-reads : goal.returns-in-Err-clause-reads
+returns-in-Err-clause-reads g c = reading_none (g.N.Nand.state c.args.self.now.inner) (g.N.Nand.state c.refuse.new.self.inner) (ap g.N.Nand.state c.refuse.ensures.inner)
