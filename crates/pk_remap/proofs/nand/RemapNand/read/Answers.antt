@@ -36,6 +36,8 @@ returns-in-Ok g c =
       err = tt;
       cause = tt;
       only_reads = c.read_page.ensures.reads;
+      calls = c.read_page.ensures.calls;
+      spares = same.spares;
       left = left_open there.image there.work c.read_page.ensures.opened ∙ (λ i. same.spares i - same.taken i) ∙ sym (left_open self.image self.work has_open);
     }
 
@@ -74,5 +76,7 @@ returns-in-Err g c =
           (self.holds.opened has_open) c.args.page same noted c.read_page.ensures.reads is;
       cause = c.in-Err.ensures.err;
       only_reads = c.read_page.ensures.reads;
+      calls = c.read_page.ensures.calls;
+      spares = same.spares;
       left = left_open there.image there.work c.read_page.ensures.opened ∙ (λ i. same.spares i - same.taken i) ∙ sym (left_open self.image self.work has_open);
     }
