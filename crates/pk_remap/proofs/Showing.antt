@@ -11,6 +11,12 @@ use Rattle.pk_remap.{specs.Newest.newest_table, specs.Places.inner_shape, specs.
 use Rattle.pk_remap.{specs.Causes.no_table, specs.Remapped.outer_pages, specs.Remapped.remap_board, specs.Remapped.without_spares, specs.Remapped.is_open, specs.Remapped.is_missing, specs.Remapped.open_shape}
 use Rattle.pk_remap.{specs.Remapped.open_pages, specs.Loading.LoadsInner, specs.Loading.HoldsOuter, specs.Loading.OpensOuter, proofs.Opening.ok_or_err}
 
+-- a load leaves the trail of the inner flash
+pub same_trail : (inner inner' : BoardState) (result : Result (Option Shape) LoadFault) → LoadsInner inner result inner' → inner'.trail ≡ inner.trail
+same_trail inner inner' result loads =
+    let before_it : loads.mid.trail ≡ inner.trail = elim loads.loads [ inl found ↦ ap (λ s. s.trail) found.1.rest | inr failed ↦ ap (λ s. s.trail) failed.0.rest ] in
+    ap (λ s. s.trail) loads.reads ∙ before_it
+
 -- an image that shows a shape has a table
 open_parts : (image : Image) (own shape : Shape) → open_shape (is_open image) own ≡ Some shape → (is_open image ≡ true) × (own ≡ shape) × (is_missing image ≡ false)
 open_parts Unknown own shape e = absurd cc
