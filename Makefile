@@ -32,7 +32,7 @@ install: $(programs)
 	$(INSTALL) -d $(addprefix $(home)/,$(dir $(programs)))
 	for it in $(programs); do $(INSTALL) -m 755 $$it $(home)/$$it || exit 1; done
 	$(INSTALL) -m 755 $(tools) $(home)
-	$(INSTALL) -m 644 launch/run.sh launch/why.sh $(home)/launch
+	$(INSTALL) -m 644 launch/run.sh launch/pair.sh launch/why.sh $(home)/launch
 	$(INSTALL) -m 644 docs/words.txt $(home)/docs
 	$(INSTALL) -m 644 clients/python/pinkdrive.py clients/python/pinkmirror.py $(home)/clients/python
 	$(INSTALL) -m 644 clients/python/pinkctl/*.py $(home)/clients/python/pinkctl

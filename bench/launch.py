@@ -162,14 +162,43 @@ def pairs(folder, image):
         ([*pair, 'list', '61'], 'list of a pair takes no more words'), ([*pair, 'get', 'zz'], "the key 'zz'"), ([*pair, 'put', '61'], 'put takes KEY BYTES'),
     ]:  # fmt: skip
         says(given, 2, text)
-    says(['mirror', image, folder + '/none', 'list'], 8, 'make 512 16 64 would make one for the other image')
-    says(['mirror', junk, image, 'list'], 8, 'junk (5 bytes) is no image of a drive')
+    none = folder + '/none'
+    says(['mirror', image, none, 'list'], 8, f'pink {none} make 512 16 64 makes one, which the next word of the pair fills')
+    says(['mirror', image, junk, 'list'], 8, 'junk (5 bytes) is no image of a drive')
+    left = f'the drive that is left is {image}, so name it first: '
+    says(['mirror', none, image, 'list'], 8, f'there is no file {none}; {left}pink {none} make 512 16 64, then pink mirror {image} {none} resync')
+    says(['mirror', junk, image, 'list'], 8, f'junk (5 bytes) is no image of a drive; {left}move {junk} away, then pink {junk} make')
     says(['mirror', image, small, 'list'], 8, 'the drives have different shapes')
     says(['mirror', image, folder, 'list'], 6, 'is a folder')
     launcher, program = serving(other)
     says([*pair, 'list'], 6, f'{other} is in use by process {program} (')
     launcher.stdin.close()
     check('the end of the input ends it with 0', launcher.wait(30) == 0)
+
+
+def broken(folder):
+    """The first drive of a pair is lost, and a new one is made in its place: what is left is emptied only on purpose."""
+    first, second = folder + '/one.img', folder + '/two.img'
+    make = ['make', '512', '16', '64', '100', '392']
+    for it in (first, second):
+        run(PINK, it, *make)
+    for key in ('61', '62', '63'):
+        run(PINK, 'mirror', first, second, 'put', key, '616263')
+    os.remove(first)
+    says(['mirror', first, second, 'list'], 8, 'make 512 16 64 100 392, then')
+    run(PINK, first, *make)
+    for given in ('list', 'get 61', 'put 64 00', 'del 61', 'resync'):
+        for how in ({}, {'PINK_EXEC': '1'}):
+            says(['mirror', first, second, *given.split()], 16, f'{first} has no key and {second} has 3', env={**os.environ, **how})
+    check('what is left is whole', run(PINK, second, 'list')[1] == '61\n62\n63\n')
+    check('and fills the new one', run(PINK, 'mirror', second, first, 'get', '62') == (0, 'ok 616263\n', ''))
+    check('which is a drive of the pair again', run(PINK, first, 'list')[1] == '61\n62\n63\n')
+    for key in ('61', '62', '63'):
+        run(PINK, first, 'del', key)
+    says(['mirror', first, second, 'list'], 16, 'PINK_FROM_EMPTY=1 in the environment lets the word through')
+    check('on purpose', run(PINK, 'mirror', first, second, 'resync', env={**os.environ, 'PINK_FROM_EMPTY': '1'}) == (0, 'ok\n', ''))
+    check('both are empty', run(PINK, 'mirror', first, second, 'list') == (0, '', ''))
+    check('a pair without keys takes some', run(PINK, 'mirror', first, second, 'put', '61', '00') == (0, 'ok\n', ''))
 
 
 def scripts(folder, image):
@@ -284,6 +313,7 @@ with tempfile.TemporaryDirectory() as folder:
     gone(image)
     words(image)
     pairs(folder, image)
+    broken(folder)
     scripts(folder, image)
     signals(image)
     pipes(image)

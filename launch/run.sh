@@ -26,6 +26,14 @@ launch() { # NAME WORDS..
         [ -x "$top/build.sh" ] || { echo "$name: there is no program $program" >&2; exit 1; }
         "$top/build.sh" "$name" || exit 1
     fi
+    if [ "$name" = pink ] && [ "$1" = mirror ]; then
+        # shellcheck source=launch/pair.sh
+        . "$top/launch/pair.sh"
+        shift
+        fault=$(empty_first "$program" "$@")
+        [ -z "$fault" ] || { echo "pink: status 16, $fault" >&2 && exit 16; }
+        set -- mirror "$@"
+    fi
     [ -z "${PINK_EXEC:-}" ] || exec "$program" "$@"
 
     # The program runs in the background of the shell, which waits for it and passes signals on, as TERM: a shell has a process in the

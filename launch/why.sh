@@ -231,13 +231,30 @@ pair_words_fault() { # IMAGE IMAGE WORDS..
 }
 
 pair_shape_fault() { # IMAGE IMAGE
-    one=$(shape_of "$1") two=$(shape_of "$2")
+    one=$(make_words_of "$1") two=$(make_words_of "$2")
     fault=$(drive_fault "$1" list "$two")
-    [ -n "$fault" ] || fault=$(drive_fault "$2" list "$one")
-    if [ -z "$fault" ] && [ "$one" != "$two" ]; then
-        fault="the drives have different shapes: $1 has $one, $2 has $two"
+    if [ -n "$fault" ]; then
+        fault=$(first_lost "$1" "$2" "$fault" "$two")
+    else
+        fault=$(drive_fault "$2" list "$one")
     fi
-    echo "${fault:-the limits of namespace 1 differ, or an image is damaged: see pinkctl check}"
+    if [ -z "$fault" ] && [ "$one" != "$two" ]; then
+        fault="the drives have different shapes or limits: $1 has $one, $2 has $two"
+    fi
+    [ -n "$fault" ] || [ -n "$(keys_of "$program" "$1")" ] || fault=$(first_lost "$1" "$2" "$1 does not open: see pinkctl check" "$two")
+    echo "${fault:-$2 does not open: see pinkctl check}"
+}
+
+# The second drive of a pair decides nothing, so a new first one beside it would empty it.
+first_lost() { # IMAGE IMAGE FAULT WORDS: the fault of the first, and how to go on with the second if it opens
+    if [ -z "$(keys_of "$program" "$2")" ]; then
+        echo "$3"
+        return
+    fi
+    away=
+    fault=${3%%; pink *}
+    [ ! -e "$1" ] || away="move $1 away, then "
+    echo "$fault; the drive that is left is $2, so name it first: ${away}pink $1 make $4, then pink mirror $2 $1 resync"
 }
 
 # The input. A file is looked at again from its start; a pipe is gone.
@@ -376,7 +393,7 @@ drive_fault() { # IMAGE WORD [SHAPE]: why there is no drive in it, by its file, 
     fi
     if [ ! -e "$1" ]; then
         hint="pink $1 make 512 16 64 would make a small drive"
-        [ -z "${3:-}" ] || hint="pink $1 make $3 would make one for the other image"
+        [ -z "${3:-}" ] || hint="pink $1 make $3 makes one, which the next word of the pair fills"
         echo "there is no file $1; $hint"
         return
     fi
@@ -399,9 +416,26 @@ drive_fault() { # IMAGE WORD [SHAPE]: why there is no drive in it, by its file, 
     esac
 }
 
+make_words_of() { # IMAGE: the numbers of the make of a drive like it; prints nothing if it has no shape
+    # shellcheck disable=SC2046  # the three numbers of a shape are words
+    set -- "$1" $(shape_of "$1")
+    [ $# -eq 4 ] || return 0
+    echo "$2 $3 $4$([ "$(version_of "$@")" != 3 ] || limits_of "$@")"
+}
+
+limits_of() { # IMAGE P N M: the limits of its namespaces, each after a blank
+    at=$(root_of "$@")
+    od -An -v -tu4 -j $((at + 64)) -N 32 -- "$1" | awk -v count="$(od -An -v -tu4 -j $((at + 20)) -N 4 -- "$1")" '
+        { for (i = 1; i <= NF && seen < count; i++) { printf " %s", $i; seen++ } }'
+}
+
 version_of() { # IMAGE P N M: the version in the first page of its root blocks that begins as a root does; prints nothing if there is none
-    at=$(head -c $((32 + $3 * $4 + 2 * $2 * $3)) -- "$1" 2>/dev/null | LC_ALL=C grep -abo PINKROOT 2>/dev/null | sed -n '1s/:.*//p')
+    at=$(root_of "$@")
     [ -z "$at" ] || od -An -v -tu1 -j $((at + 8)) -N 2 -- "$1" 2>/dev/null | awk '{ print $1 + $2 * 256 }'
+}
+
+root_of() { # IMAGE P N M: where the first page of its root blocks that begins as a root does lies in the file; prints nothing if there is none
+    head -c $((32 + $3 * $4 + 2 * $2 * $3)) -- "$1" 2>/dev/null | LC_ALL=C grep -abo PINKROOT 2>/dev/null | sed -n '1s/:.*//p'
 }
 
 shape_of() { # IMAGE: the bytes of a page, the pages of a block and the blocks, by its head; prints nothing if it has none

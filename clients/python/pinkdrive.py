@@ -269,6 +269,7 @@ class DriveEnded(DriveError):
         9: "already made",
         10: "worn",
         12: "bad line",
+        16: "first drive empty",
     }
 
     def __init__(self, status: int, cause: Optional[str] = None) -> None:

@@ -19,6 +19,11 @@ no answer. `fallback` is then the path of that image, and None after a call that
 answered. Nothing is written then: a store, a delete and a resync raise `DriveEnded`. The image that
 is read has every call that was completed. A call that was broken off may be done or not done on it.
 
+Each call deletes from the second drive what the first lacks. So if the first drive has no key and the
+second has some, as after `make` of a new image in the place of a lost first one, every call raises
+`FirstDriveEmpty` and changes nothing. What is left of a pair comes first from then on:
+`Mirror("b.img", "a.img").resync()` fills the new one. `resync(from_empty=True)` empties the second drive.
+
 What is raised is what `pinkdrive` raises: the exception of a drive's status, as `KeyDoesNotExist` or
 `CapacityExceeded`, or `DriveEnded` if the program ended, with the cause in its text.
 """
@@ -28,7 +33,7 @@ from __future__ import annotations
 import collections.abc
 import os
 import subprocess
-from typing import Any, Iterator, Optional, Tuple
+from typing import Any, Iterator, List, Optional, Tuple
 
 from pinkdrive import (
     KEY_BYTES,
@@ -39,6 +44,7 @@ from pinkdrive import (
     KeyDoesNotExist,
     Opcode,
     Path,
+    Shape,
     cause_of,
     ended,
     image_word,
@@ -50,8 +56,22 @@ LONGEST_VALUE = 65000
 """The longest value, in bytes: it goes to the program as one word, and systems limit those."""
 LOST = (6, 8)
 """Statuses of the program that report an image that cannot be used."""
+FIRST_EMPTY = 16
+"""The status of the launcher for a first drive without a key beside a second drive with some."""
 OPCODES = {"put": Opcode.STORE, "get": Opcode.RETRIEVE, "del": Opcode.DELETE}
 """The commands of the words that name a key."""
+
+
+class FirstDriveEmpty(DriveEnded):
+    """The first drive of a pair has no key and the second has some, which the call would delete."""
+
+    def __init__(self, first: str, second: str, keys: int) -> None:
+        super().__init__(
+            FIRST_EMPTY,
+            f"{first} has no key and {second} has {keys}, which this call would delete: if {second} is "
+            f"what is left of the pair, name it first: Mirror({second!r}, {first!r}).resync(); "
+            f"resync(from_empty=True) deletes them",
+        )
 
 
 class Mirror(collections.abc.MutableMapping):
@@ -71,9 +91,11 @@ class Mirror(collections.abc.MutableMapping):
         self._program = program or PROGRAM
         self._stderr = stderr
 
-    def resync(self) -> None:
-        """Makes the second drive equal to the first."""
-        self._write("resync")
+    def resync(self, *, from_empty: bool = False) -> None:
+        """Makes the second drive equal to the first, with `from_empty` also to a first without a key."""
+        if not from_empty:
+            self._refuse_empty_first()
+        _raise_refused(self._run_words("resync"), "resync", b"")
 
     def __getitem__(self, key: bytes) -> bytes:
         line = self._read("get", _digits(key))
@@ -116,11 +138,30 @@ class Mirror(collections.abc.MutableMapping):
             stdin=subprocess.DEVNULL,
             stdout=subprocess.PIPE,
             stderr=self._stderr,
-            env={**os.environ, "PINK_EXEC": "1"},
+            # The launcher looks for an empty first drive too, unless it is told that this was done.
+            env={**os.environ, "PINK_EXEC": "1", "PINK_FROM_EMPTY": "1"},
         )
         return run.returncode, run.stdout.decode("ascii")
 
+    def _keys_of(self, image: str) -> Optional[int]:
+        """The number of keys of a drive; None if it does not open."""
+        status, text = self._run(image_word(image), "stat")
+        return None if status else int(dict(line.split() for line in text.splitlines())["keys"])
+
+    def _refuse_empty_first(self) -> None:
+        first, second = self.images
+        if os.environ.get("PINK_FROM_EMPTY") == "1" or self._keys_of(first) != 0:
+            return
+        keys = self._keys_of(second)
+        if keys:
+            raise FirstDriveEmpty(first, second, keys)
+
     def _run_pair(self, *words: str) -> str:
+        """The text of a word of the pair, unless the first drive is an empty one."""
+        self._refuse_empty_first()
+        return self._run_words(*words)
+
+    def _run_words(self, *words: str) -> str:
         """The text of a word of the pair."""
         status, text = self._run("mirror", *map(image_word, self.images), *words)
         if status:
@@ -158,12 +199,25 @@ def _pair_ended(status: int, images: Tuple[str, str]) -> DriveEnded:
         shapes = [shape_of(it) for it in images]
         for image, shape in zip(images, shapes):
             if shape is None or os.path.getsize(image) != shape.image_bytes:
-                return ended(status, image)
+                return _one_lost(image, images, shapes)
         if shapes[0] != shapes[1]:
             told = [f"{it} has {tuple(shape or ())}" for it, shape in zip(images, shapes)]
             return DriveEnded(status, "the drives have different shapes: " + ", ".join(told))
         return DriveEnded(status, "the limits of namespace 1 differ, or an image is damaged: see pinkctl check")
     return ended(status, images[0])
+
+
+def _one_lost(image: str, images: Tuple[str, str], shapes: List[Optional[Shape]]) -> DriveEnded:
+    """The exception for one image of a pair that is missing or no image of a drive."""
+    first, second = images
+    error = ended(8, image)
+    if image == first and shapes[1]:
+        make = f"make({first!r}, {', '.join(map(str, shapes[1]))})"
+        away = f"move {first} away, then " if os.path.exists(first) else ""
+        cause = str(error.cause).partition(": make()")[0]
+        text = f"{cause}; the drive that is left is {second}, so name it first: {away}{make}, "
+        return DriveEnded(8, f"{text}then Mirror({second!r}, {first!r}).resync()")
+    return error
 
 
 def _raise_refused(line: str, word: str, key: bytes, size: int = 0) -> None:
