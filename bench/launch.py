@@ -85,16 +85,17 @@ def causes(folder, image):
     says([folder, 'list'], 6, 'is a folder')
     says([folder + '/none', 'list'], 8, 'there is no file')
     says([junk, 'list'], 8, 'junk (5 bytes) is no image of a drive')
-    says([junk, 'make', *shape], 8, 'is no image of a drive: remove it, or name another file')
+    says([junk, 'make', *shape], 8, 'is no image of a drive; remove it, or name another file')
     says([cut, 'list'], 8, 'has 300000 bytes, and by its head it should have 525344')
-    says([damaged, 'list'], 8, 'is damaged, or its making was broken off: see pinkctl check')
+    says([damaged, 'list'], 8, f'{damaged} is damaged: the state of page 8 is 3; see pinkctl check {damaged}')
     says([older, 'list'], 8, 'has version 1 of the format, and this program opens versions 2 and 3')
     limited = folder + '/limited'
     check('a drive with limits is made', run(PINK, limited, 'make', *shape, '100', '392')[0] == 0)
     with open(limited, 'r+b') as it:
         it.seek(40)
         it.write(b'\3')
-    says([limited, 'list'], 8, 'is damaged, or its making was broken off: see pinkctl check')
+    says([limited, 'list'], 8, f'{limited} is damaged: the state of page 8 is 3; see pinkctl check {limited}')
+    unmade(folder, image)
     says([image, 'make', *shape], 9, 'there is an image already: remove')
     launcher, program = serving(image)
     says([image, 'list'], 6, f'is in use by process {program} (')
@@ -119,9 +120,41 @@ def causes(folder, image):
             run('umount', small)
 
 
+def unmade(folder, image):
+    """A making that was broken off, drives with spare blocks, and the same without Python."""
+    size, place = os.path.getsize(image), folder + '/unmade'
+    with open(image, 'rb') as it:
+        head = it.read(32)
+    stages = {
+        'before it had a length': b'', 'before its head had its text': bytes(8) + head[8:] + bytes(size - 32),
+        'before its root was written': head + bytes(size - 32), 'while its root was written': head + b'\2' + bytes(size - 33),
+    }  # fmt: skip
+    for text, content in stages.items():
+        with open(place, 'wb') as it:
+            it.write(content)
+        says([place, 'list'], 8, f'the making of {place} was broken off {text}; remove it, and make it again')
+    spared = folder + '/spared'
+    check('a drive with spare blocks is made', run(PINK, spared, 'spared', '3', 'make', '512', '16', '64')[0] == 0)
+    given = [
+        ([spared, 'list'], f'{spared} has 3 spare blocks; pink {spared} spared 3 WORDS..'),
+        ([spared, 'spared', '4', 'list'], f'{spared} has 3 spare blocks, not 4; pink {spared} spared 3 WORDS..'),
+        ([image, 'spared', '3', 'list'], f'{image} has no table of spare blocks: it was made without them'),
+        ([folder + '/none', 'spared', '3', 'list'], f'there is no file {folder}/none; pink {folder}/none spared 3 make 512 16 64'),
+    ]
+    bare = folder + '/bare'  # the system's programs, without Python
+    os.makedirs(bare, exist_ok=True)
+    for name in 'sh readlink dirname sed grep od awk head tail tr cut ls cat df wc setpriv date'.split():
+        if shutil.which(name):
+            os.symlink(shutil.which(name), f'{bare}/{name}')
+    for words, text in given:
+        says(words, 8, text)
+        says(words, 8, text.partition(', not')[0].partition('; pink ')[0], env={'PATH': bare})
+    says([place, 'list'], 8, 'is damaged, or its making was broken off; see pinkctl check', env={'PATH': bare})
+
+
 def gone(image):
     """The process that had the image open has ended before its words were read, and a kit that is not there."""
-    shell = f'. "{TOP}/launch/why.sh"; user_of() {{ echo 999999999; }}; flash_fault "{image}" list'
+    shell = f'. "{TOP}/launch/why.sh"; seen() {{ return 1; }}; user_of() {{ echo 999999999; }}; flash_fault "{image}" list'
     check('a process that has gone: no line of the shell', run('sh', '-c', shell) == (0, f'{image} is in use by process 999999999\n', ''))
     with tempfile.TemporaryDirectory() as folder:
         for name in ('demo.sh', 'build.sh'):

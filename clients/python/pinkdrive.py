@@ -7,7 +7,7 @@
         d[b"key"] = b"value"
         print(d[b"key"], b"other" in d, list(d))
 
-A drive is a mapping from keys, of 1 to 16 bytes, to values, both bytes. It needs Python 3.8, Linux
+A drive is a mapping from keys, of 1 to 16 bytes, to values, both bytes. It needs Python 3.9, Linux
 and the standard library alone. Threads may share a `Drive`: each call gets its own answer, and the
 commands of one thread are done in their order.
 
@@ -212,27 +212,19 @@ def shape_of(image: Path) -> Optional[Shape]:
     return None if shape.fault() else shape
 
 
+def _causes() -> Any:
+    """The module that tells what is the matter with an image; None where this file stands alone."""
+    try:
+        from pinkctl import causes
+    except ImportError:
+        return None
+    return causes
+
+
 def process_using(image: Path) -> Optional[int]:
     """The process that has the image file locked; None if the system lists none."""
-    try:
-        inode = str(os.stat(image).st_ino)
-    except OSError:
-        return None
-    # A list that is read in pieces while it changes may lack an entry, so it is read up to three times.
-    found = (_lock_of(inode) for _ in range(3))
-    return next((process for process in found if process is not None), None)
-
-
-def _lock_of(inode: str) -> Optional[int]:
-    try:
-        with open("/proc/locks") as locks:
-            lines = [line.split() for line in locks]
-    except OSError:
-        return None
-    for words in lines:
-        if len(words) > 5 and words[1] == "FLOCK" and words[5].rpartition(":")[2] == inode:
-            return int(words[4])
-    return None
+    causes = _causes()
+    return causes.process_using(os.fspath(image)) if causes else None
 
 
 # What is raised.
@@ -272,12 +264,23 @@ class DriveEnded(DriveError):
         16: "first drive empty",
     }
 
+    kind: str = ""
+    """What is the matter with the image in a word, as `missing` or `damaged`; empty if nothing is seen."""
+    hint: str = ""
+    """What to do about the cause, in Python; empty if the cause says it."""
+    shell_hint: str = ""
+    """The same at a shell's prompt."""
+
     def __init__(self, status: int, cause: Optional[str] = None) -> None:
         self.status = status
         self.cause = cause
         killed = status < 0 or status > 128
         self.name = "killed" if killed else self.NAMES.get(status, "unknown")
-        super().__init__(f"status {status}: {cause or self.name}")
+        super().__init__(status, cause)
+
+    def __str__(self) -> str:
+        tail = f"; {self.hint}" if self.hint else ""
+        return f"status {self.status}: {self.cause or self.name}{tail}"
 
 
 class ImageInUse(DriveEnded):
@@ -375,50 +378,6 @@ def refusal_text(
     return f"status {status:02X}h for the key {key!r}"
 
 
-def _file_fault(image: str, making: bool) -> Optional[str]:
-    """What hinders the program from opening the image file; None if nothing is seen."""
-    folder = os.path.dirname(os.path.realpath(image))
-    if os.path.isdir(image):
-        return f"{image} is a folder"
-    if not os.path.isdir(folder):
-        return f"there is no folder {folder}"
-    if os.path.exists(image) and not os.access(image, os.R_OK | os.W_OK):
-        return f"no permission to read and write {image}"
-    if making and not os.path.exists(image) and not os.access(folder, os.W_OK):
-        return f"no permission to make a file in {folder}"
-    return None
-
-
-def _no_space(image: str) -> Optional[str]:
-    try:
-        system = os.statvfs(image if os.path.exists(image) else os.path.dirname(image) or ".")
-    except OSError:
-        return None
-    free = system.f_bavail * system.f_frsize
-    return f"there is no space left on the disk of {image}" if free < 65536 else None
-
-
-def _image_fault(image: str, making: bool) -> str:
-    """What is wrong with a file that holds no drive, by its head and length."""
-    if not os.path.exists(image):
-        return f"there is no file {image}: make() makes one"
-    hint = ": remove it, or name another file" if making else ""
-    size = os.path.getsize(image)
-    try:
-        with open(image, "rb") as file:
-            head = file.read(8)
-    except OSError as error:
-        return f"{image}: {error.strerror}"
-    if not head.startswith(b"PINKIMG1"):
-        return f"{image} is no image of a drive ({size} bytes){hint}"
-    shape = shape_of(image)
-    if shape is None:
-        return f"the head of the image {image} is damaged, or was never whole{hint}"
-    if size != shape.image_bytes:
-        return f"the image {image} has {size} bytes, and should have {shape.image_bytes}{hint}"
-    return f"the image {image} is damaged, or its making was broken off: see pinkctl check {image}"
-
-
 def spared(spares: int, words: Sequence[str]) -> List[str]:
     """These words, over a drive with this many spare blocks; 0 for a drive that has none."""
     return ["spared", str(spares), *words] if spares else list(words)
@@ -455,13 +414,8 @@ def cause_of(status: int, image: Path, words: Sequence[str] = ("serve",)) -> Opt
     if status == 2:
         several = f"frames are 0 to 16384, and spare blocks 1 to {MOST_SPARES}"
         return several if spares else "frames are 0 to 16384"
-    if status == 6:
-        process = process_using(image)
-        if process is not None:
-            return f"{image} is in use by process {process}"
-        return _file_fault(image, making) or _no_space(image)
-    if status == 8:
-        return _file_fault(image, making) or _image_fault(image, making)
+    if status in (6, 8):
+        return ended(status, image, spared(spares, words)).cause
     plain = {
         1: "the program is not built, and building it failed (its kit, rt, has to be there)",
         3: "the input ended within a command; all before it was served",
@@ -476,11 +430,21 @@ def cause_of(status: int, image: Path, words: Sequence[str] = ("serve",)) -> Opt
 
 def ended(status: int, image: Path, words: Sequence[str] = ("serve",)) -> DriveEnded:
     """The exception of a program that ended with this status, with the cause in words."""
-    process = process_using(image) if status == 6 else None
-    if process is None:
+    if status not in (6, 8):
         return DriveEnded(status, cause_of(status, image, words))
-    error = ImageInUse(status, f"{os.fspath(image)} is in use by process {process}")
-    error.process = process
+    path, (spares, words) = os.fspath(image), _spares_of(list(words))
+    causes, making = _causes(), list(words[:1]) == ["make"]
+    found = causes.cause_of(status, path, making, spares) if causes else None
+    if found is None:
+        return DriveEnded(status, f"{path} holds no drive that opens" if status == 8 else None)
+    used = found.kind == causes.Kind.IN_USE
+    error = (ImageInUse if used else DriveEnded)(status, found.text)
+    if used:
+        error.process = found.number
+    error.kind = found.kind.name.lower()
+    other = causes.making_hint(path, status) if making else ""
+    error.hint = other or causes.python_hint(found, path, spares)
+    error.shell_hint = other or causes.hint(found, path, spares)
     return error
 
 

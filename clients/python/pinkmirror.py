@@ -11,7 +11,7 @@
 
 A mirror is a mapping from keys, of 1 to 16 bytes, to values, both bytes. Each call runs the program
 once, which first makes the second drive equal to the first: so a call takes as long as a read of
-all values of both drives. It needs Python 3.8, Linux and the standard library alone.
+all values of both drives. It needs Python 3.9, Linux and the standard library alone.
 
 If one image is lost (missing, damaged, or in use by another process), or the two no longer have one
 shape, a value or the keys are read from one image alone: the first, or the second if the first gives
@@ -33,7 +33,7 @@ from __future__ import annotations
 import collections.abc
 import os
 import subprocess
-from typing import Any, Iterator, List, Optional, Tuple
+from typing import Any, Iterator, Optional, Tuple
 
 from pinkdrive import (
     KEY_BYTES,
@@ -195,28 +195,29 @@ def _pair_ended(status: int, images: Tuple[str, str]) -> DriveEnded:
         return DriveEnded(status, "a drive of the pair is worn")
     if status == 6:
         return ended(status, next((it for it in images if cause_of(6, it)), images[0]))
-    if status == 8:
-        shapes = [shape_of(it) for it in images]
-        for image, shape in zip(images, shapes):
-            if shape is None or os.path.getsize(image) != shape.image_bytes:
-                return _one_lost(image, images, shapes)
-        if shapes[0] != shapes[1]:
-            told = [f"{it} has {tuple(shape or ())}" for it, shape in zip(images, shapes)]
-            return DriveEnded(status, "the drives have different shapes: " + ", ".join(told))
-        return DriveEnded(status, "the limits of namespace 1 differ, or an image is damaged: see pinkctl check")
-    return ended(status, images[0])
+    return _no_drive(images) if status == 8 else ended(status, images[0])
 
 
-def _one_lost(image: str, images: Tuple[str, str], shapes: List[Optional[Shape]]) -> DriveEnded:
-    """The exception for one image of a pair that is missing or no image of a drive."""
+def _no_drive(images: Tuple[str, str]) -> DriveEnded:
+    """The exception for images that are no pair: one of them holds no drive, or they differ."""
+    first, second = (ended(8, it) for it in images)
+    one, two = (shape_of(it) for it in images)
+    if first.kind:
+        return _first_lost(images, first, two) if two and not second.kind else first
+    if second.kind:
+        return second
+    if one != two:
+        told = [f"{it} has {tuple(shape or ())}" for it, shape in zip(images, (one, two))]
+        return DriveEnded(8, "the drives have different shapes: " + ", ".join(told))
+    return DriveEnded(8, "the limits of namespace 1 differ: see pinkctl check")
+
+
+def _first_lost(images: Tuple[str, str], error: DriveEnded, shape: Shape) -> DriveEnded:
+    """The exception for a first drive that is lost, with the way on from the second."""
     first, second = images
-    error = ended(8, image)
-    if image == first and shapes[1]:
-        make = f"make({first!r}, {', '.join(map(str, shapes[1]))})"
-        away = f"move {first} away, then " if os.path.exists(first) else ""
-        cause = str(error.cause).partition(": make()")[0]
-        text = f"{cause}; the drive that is left is {second}, so name it first: {away}{make}, "
-        return DriveEnded(8, f"{text}then Mirror({second!r}, {first!r}).resync()")
+    away = f"move {first} away, then " if os.path.exists(first) else ""
+    make = f"make({first!r}, {', '.join(map(str, shape))})"
+    error.hint = f"the drive that is left is {second}, so name it first: {away}{make}, then Mirror({second!r}, {first!r}).resync()"
     return error
 
 

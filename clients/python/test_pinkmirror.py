@@ -199,7 +199,7 @@ class Lost(OnPair):
             with self.assertRaises(DriveEnded) as caught:
                 self.pair[b"b"] = b"two"
             self.assertEqual(caught.exception.status, 8)
-            self.assertIn(f"{image} is no image of a drive", str(caught.exception))
+            self.assertIn(f"{image} (525344 bytes) is no image of a drive", str(caught.exception))
             self.assertEqual(self.pair[b"a"], b"one")
             self.assertEqual(self.pair.fallback, other)
             with open(image, "r+b") as file:

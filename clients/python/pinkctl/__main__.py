@@ -46,7 +46,7 @@ def guarded(args: argparse.Namespace) -> int:
     except ToolError as error:
         message, status = str(error), error.status
     except pinkdrive.DriveError as error:
-        message, status = told(error, args), drive_error(error)
+        message, status = told(error), drive_error(error)
     except KeyboardInterrupt:
         message, status = "interrupted", Exit.INTERRUPTED
     except BrokenPipeError:
@@ -58,11 +58,12 @@ def guarded(args: argparse.Namespace) -> int:
     return status
 
 
-def told(error: pinkdrive.DriveError, args: argparse.Namespace) -> str:
-    """The error in words, with a hint if there is one."""
-    if isinstance(error, pinkdrive.DriveEnded) and error.status == Exit.DAMAGED:
-        return f"{error}; pinkctl check {args.image} prints what is wrong"
-    return str(error)
+def told(error: pinkdrive.DriveError) -> str:
+    """The error in words, with a hint for a shell if there is one."""
+    if not isinstance(error, pinkdrive.DriveEnded):
+        return str(error)
+    tail = f"; {error.shell_hint}" if error.shell_hint else ""
+    return f"status {error.status}: {error.cause or error.name}{tail}"
 
 
 def end_on(signals: Sequence[signal.Signals]) -> None:
