@@ -29,8 +29,14 @@ def check(what, holds):
 
 
 def run(*words, stdin=subprocess.DEVNULL, **how):
-    done = subprocess.run(words, stdin=stdin, capture_output=True, text=True, timeout=300, **how)
-    return done.returncode, done.stdout, done.stderr
+    pipes = {'stdin': stdin, 'stdout': subprocess.PIPE, 'stderr': subprocess.PIPE, 'text': True}
+    with subprocess.Popen(words, start_new_session=True, **pipes, **how) as process:
+        try:
+            printed, told = process.communicate(timeout=300)
+        except subprocess.TimeoutExpired:
+            os.killpg(process.pid, signal.SIGKILL)  # a build that was begun goes with its launcher
+            raise
+    return process.returncode, printed, told
 
 
 def says(words, status, text, **how):
@@ -168,6 +174,7 @@ def words(image):
         ('make 513 16 64', 'a page has 512, 1024,'), ('make 512 12 64', 'a block has 8, 16,'), ('make 512 32 64', 'fewer than 32 pages'),
         ('make 512 16 9', 'at least 21 blocks'), ('make 512 16 5000', 'at most 4096 blocks'), ('make 16384 256 65', 'at most 256 MiB'),
         ('make 512 8 3000', 'does not fit a page'), ('make 4k 16 64', "'4k' is no number"), ('make 512 16', 'make takes P N M and at most 8 limits, and was given 2 words'),
+        ('put 61', 'put takes KEY BYTES, and was given 1 word'), ('spared 4', 'spared 4 takes a word after it: make serve'),
         ('make 512 16 64 0', 'a limit of at least one page'), ('make 512 16 64 100 393', 'together 493 pages; this drive has 492'),
         ('make 512 16 64 1 1 1 1 1 1 1 1 1', 'at most 8 namespaces, not 9'),
         ('get 6', 'even count of hexadecimal digits'), ('get zz', "the key 'zz'"), ('get ' + '61' * 17, 'the key has 17 bytes'),
@@ -296,7 +303,11 @@ def links(folder, image):
     for launcher in (PINK, DUMP):
         status, told, _ = run(launcher, '--version')
         check('--version prints the commit and the kit', status == 0 and 'commit ' in told and 'kit rattle-kit' in told)
-        check('--help ends with 2', run(launcher, '--help')[0] == 2)
+        status, told, error = run(launcher, '--help')
+        check('--help prints to standard output, and ends with 0', status == 0 and './pink' in told and error == '')
+        check('without words the same as an error', run(launcher) == (2, '', told))
+    check('--help after the image', run(PINK, image, '--help')[:2] == run(PINK, '--help')[:2])
+    check('pinkctl --version', run(TOP + '/pinkctl', '--version')[:2] == (0, run(PINK, '--version')[1].replace('pink ', 'pinkctl ', 1).partition(', program')[0] + '\n'))
 
 
 def examples(folder):
@@ -324,9 +335,14 @@ def examples(folder):
 
 def installed(folder, image):
     root = folder + '/root'
+    if not all(os.path.exists(f'{TOP}/crates/{name}/out/{name}') for name in ('pink', 'pinkdump')):
+        print('launch.py: make install is not tried: it would build a program')
+        return
     status, _, told = run('make', '-C', TOP, 'install', f'DESTDIR={root}', 'PREFIX=/usr')
     check('make install: ' + told, status == 0)
     bin = root + '/usr/bin/'
+    for name in ('pink', 'pinkdump'):
+        check('installed: the time of the build', run(bin + name, '--version')[1] == run(f'{TOP}/{name}', '--version')[1])
     check('installed: pink', run(bin + 'pink', image, 'has', '61', cwd='/')[:2] == (0, 'ok\n'))
     check('installed: pinkdump', run(bin + 'pinkdump', image, 'lines', cwd='/')[1].startswith('image page_bytes=512'))
     check('installed: pinkctl', 'serve' in run(bin + 'pinkctl', '--help', cwd='/')[1])
@@ -334,6 +350,14 @@ def installed(folder, image):
     check('installed: pages and completion', os.path.isfile(root + '/usr/share/man/man1/pink.1') and os.path.isfile(root + '/usr/share/bash-completion/completions/pink'))
     check('make uninstall', run('make', '-C', TOP, 'uninstall', f'DESTDIR={root}', 'PREFIX=/usr')[0] == 0)
     check('nothing remains', not [names for _, _, names in os.walk(root) if names])
+    program = f'PINK={TOP}/crates/pink/out/pink'
+    check('make install of one program', run('make', '-C', TOP, 'install', f'DESTDIR={root}', 'PREFIX=/usr', program, 'PINKDUMP=')[0] == 0)
+    check('it runs', run(bin + 'pink', image, 'has', '61', cwd='/')[:2] == (0, 'ok\n'))
+    status, _, told = run(bin + 'pinkdump', image)
+    check('a program that is not there', status == 1 and 'pinkdump: there is no program' in told)
+    check('pinkctl without pinkdump', 'pinkdump is not built' in run(bin + 'pinkctl', 'check', image, env={'PATH': '/usr/bin:/bin'})[1])
+    check('make install-tools', run('make', '-C', TOP, 'uninstall', 'install-tools', f'DESTDIR={root}', 'PREFIX=/usr')[0] == 0)
+    check('no program', run(bin + 'pink', image, 'list')[0] == 1 and not os.path.exists(root + '/usr/lib/cezhandru/crates'))
 
 
 # nohup, or a shell that runs this in the background, has signals ignored, and a launcher cannot catch what was ignored before it began

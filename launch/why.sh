@@ -122,6 +122,7 @@ spared_fault() { # IMAGE spared S WORDS..
             echo "${fault:-with $spares spare blocks and two of tables: $(shape_fault "$1" "$2" $(($3 + spares + 2)))}"
             ;;
         serve | put | get | del | has | list | stat | gen) operands_fault "$word" "$@" ;;
+        '') echo "spared $spares takes a word after it: make serve put get del has list stat gen" ;;
         *) echo "there is no word '$word' for a drive with spare blocks; the words are make serve put get del has list stat gen" ;;
     esac
 }
@@ -161,7 +162,9 @@ operands_fault() { # WORD OPERANDS..
         *) wanted=0 operands='no more words' ;;
     esac
     if [ $# -ne "$wanted" ]; then
-        echo "$word takes $operands, and was given $# words"
+        given="$# words"
+        [ $# -ne 1 ] || given='1 word'
+        echo "$word takes $operands, and was given $given"
         return
     fi
     case $word in

@@ -621,15 +621,22 @@ def value_of(image: Image, layout: Layout, place: Place) -> bytes:
     return data[it.HEAD_BYTES : it.HEAD_BYTES + place.length]
 
 
+def versions_named(image: Image) -> list[int]:
+    """The versions of the layout that the Whole root pages name."""
+    pages = (image.whole(page) for page in Layout(image.shape).root_pages)
+    versions = (root_version(data) for data in pages if data is not None)
+    return [version for version in versions if version is not None]
+
+
 def unknown_versions(image: Image) -> set[int]:
     """The versions of the layout that Whole root pages name and this reader does not know."""
-    found = set()
-    for page in Layout(image.shape).root_pages:
-        data = image.whole(page)
-        version = root_version(data) if data is not None else None
-        if version is not None and version not in it.RULES:
-            found.add(version)
-    return found
+    return set(versions_named(image)) - set(it.RULES)
+
+
+def is_of_one_version(image: Image) -> bool:
+    """Whether several root pages agree on their version, so that it is not a damaged byte."""
+    named = versions_named(image)
+    return len(named) > 1 and len(set(named)) == 1
 
 
 def read_flash(image: Image) -> Flash:

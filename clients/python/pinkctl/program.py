@@ -16,6 +16,7 @@ import pinkdrive
 
 from .causes import spares_of
 from .files import cause, locked
+from .keys import shown
 from .status import Exit, ToolError
 
 
@@ -41,6 +42,11 @@ def open_drive(image: str, frames: int = 148, wait: float = 0, namespace: int = 
         )
     except OSError as error:
         raise not_started(error) from None
+
+
+def refusal(error: pinkdrive.StatusError) -> str:
+    """A refusal of the drive in words, with its key as people type it."""
+    return str(error).replace(repr(error.key), shown(error.key))
 
 
 def not_started(error: OSError) -> ToolError:
