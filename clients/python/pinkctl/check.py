@@ -88,7 +88,10 @@ def check_open(file: BinaryIO) -> Verdict:
     try:
         image = open_image(file)
     except NotAnImage as wrong:
-        return Verdict("no drive", Exit.DAMAGED, f"{wrong} (byte {wrong.at})", at=wrong.at, unmade=wrong.unmade)
+        # Of an empty file the program says that there is no image.
+        at = wrong.at if os.fstat(file.fileno()).st_size else None
+        place = "" if at is None else f" (byte {at})"
+        return Verdict("no drive", Exit.DAMAGED, f"{wrong}{place}", at=at, unmade=wrong.unmade)
     return judge(image, read_flash(image), file.name)
 
 
