@@ -227,7 +227,7 @@ class Check(OnImage):
         whole = self.bytes()
         for data, words in (
             (b"", "was broken off before it had a length"),
-            (b"junk", "(4 bytes) is no image of a drive (byte 0)"),
+            (b"junk", "(4 bytes) is no image of a drive (byte 4)"),
             (b"x" * 600000, "(600000 bytes) is no image of a drive (byte 0)"),
             (bytes(8) + whole[8:], "was broken off before its head had its text (byte 0)"),
             (whole[:300000], "has 300000 bytes, and by its head it should have 525344 (byte 32)"),
@@ -261,7 +261,7 @@ class Check(OnImage):
 
     def test_spare_blocks(self):
         spared = self.path("spared.img")
-        make(spared, *self.shape, program=PROGRAM, spares=3, limits=(100, 392))
+        make(spared, *self.shape, program=PROGRAM, spares=3, limits=(200, 292))
         pairs = {b"%03d" % i: b"x" * i for i in range(60)}
         with Drive(spared, program=PROGRAM, spares=3) as drive:
             drive.update(pairs)
@@ -309,11 +309,10 @@ class Check(OnImage):
             self.skipTest("a small disk cannot be mounted")
         try:
             make(os.path.join(place, "d.img"), 1024, 32, 256, program=PROGRAM)
-            with open(os.path.join(place, "rest"), "wb") as file:
+            with open(os.path.join(place, "rest"), "wb", buffering=0) as file:
                 with self.assertRaises(OSError):
                     while True:
                         file.write(bytes(4096))
-                        file.flush()
             for words in (["check"], ["backup", self.path("copy.img")]):
                 ran = subprocess.run([PINKCTL, words[0], os.path.join(place, "d.img"), *words[1:]], capture_output=True)
                 self.assertEqual(ran.returncode, 0, ran.stderr)
@@ -700,7 +699,7 @@ class Shell(OnImage):
 
     def test_commands(self):
         out = self.shell('set user:1 "two words\\n"', "get user:1", "has user:1", "length user:1", "add b 2", "list", "scan user", "del b user:1")
-        self.assertEqual(out, b'ok\ntwo words\nyes\n10\nok\nb\nuser:1\nuser:1 "two words\\n"\nok\n')
+        self.assertEqual(out, b'ok\n"two words\\n"\nyes\n10\nok\nb\nuser:1\nuser:1 "two words\\n"\nok\n')
         self.assertIn(b"limit 492\n", self.shell("stat"))
         self.assertIn(b"get KEY", self.shell("help"))
         self.shell("tick 3", "quit", "get nothing")

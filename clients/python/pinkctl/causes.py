@@ -167,7 +167,7 @@ def not_an_image(wrong: NotAnImage) -> Cause:
     """What the file is instead of an image."""
     if wrong.unmade:
         return Cause(Kind.UNMADE, str(wrong))
-    return Cause(Kind.DAMAGED if wrong.at else Kind.FOREIGN, str(wrong))
+    return Cause(Kind.FOREIGN if wrong.foreign else Kind.DAMAGED, str(wrong))
 
 
 def spares_cause(image: Image, name: str, spares: int) -> Optional[Cause]:

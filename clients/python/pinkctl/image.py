@@ -100,11 +100,12 @@ class Damaged(Exception):
 
 
 class NotAnImage(Exception):
-    """The file is no image: the first wrong byte, what is wrong in words, and whether its making was broken off."""
+    """The file is no image: the first wrong byte, what is wrong in words, and whether something else is in it or its making was broken off."""
 
-    def __init__(self, at: int, why: str, unmade: bool = False) -> None:
+    def __init__(self, at: int, why: str, foreign: bool = False, unmade: bool = False) -> None:
         super().__init__(why)
         self.at = at
+        self.foreign = foreign
         self.unmade = unmade
 
 
@@ -193,13 +194,13 @@ def load_image(data: Buffer, name: str = "the file") -> Image:
     if not len(data):
         raise NotAnImage(0, f"the making of {name} was broken off before it had a length", unmade=True)
     if len(data) < it.HEADER_BYTES:
-        raise NotAnImage(0 if data[:8] != it.IMAGE_TEXT else len(data), f"{name} ({len(data)} bytes) is no image of a drive")
+        raise NotAnImage(len(data), f"{name} ({len(data)} bytes) is no image of a drive", foreign=True)
     text, page_bytes, block_pages, blocks, zeros = it.IMAGE_HEADER.unpack(data[: it.HEADER_BYTES])
     shape = Shape(page_bytes, block_pages, blocks)
     if text == bytes(8) and shape_fault(shape) is None and len(data) == shape.file_bytes:
         raise NotAnImage(0, f"the making of {name} was broken off before its head had its text", unmade=True)
     if text != it.IMAGE_TEXT:
-        raise NotAnImage(0, f"{name} ({len(data)} bytes) is no image of a drive")
+        raise NotAnImage(0, f"{name} ({len(data)} bytes) is no image of a drive", foreign=True)
     fault = shape_fault(shape)
     if fault:
         raise NotAnImage(8, f"the head of {name} is damaged: {fault}")
