@@ -1,7 +1,7 @@
 #!/bin/sh
 # Shows a drive at work: makes one, serves a script of three commands, and reads the value again in a second session.
 #
-# If the proved program is built it is run, by a pipe. Otherwise the same sources are run unproved: `rt try` compiles them with checks
+# If the program is built it is run, by a pipe. Otherwise the same sources are run unproved: `rt try` compiles them with checks
 # (which takes about a minute) and runs one case for each word. There is no pipe between cases, so each case gets what the one before
 # it has to write, and what that one wrote is compared with it, byte for byte.
 set -eu
@@ -35,7 +35,7 @@ print_sessions() { # the lines of the first session, those of the second
 }
 
 if [ -x "$top/crates/pink/out/pink" ]; then
-    echo "This is the proved program."
+    echo "This is the program that is built (crates/pink/out/pink)."
     pink() { "$top/pink" "$folder/drive.img" "$@"; }
     pink make 512 16 64
     pink asm <"$folder/script.txt" | pink serve 36 | pink show >"$folder/first"

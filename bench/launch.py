@@ -29,8 +29,14 @@ def check(what, holds):
 
 
 def run(*words, stdin=subprocess.DEVNULL, **how):
-    done = subprocess.run(words, stdin=stdin, capture_output=True, text=True, timeout=300, **how)
-    return done.returncode, done.stdout, done.stderr
+    pipes = {'stdin': stdin, 'stdout': subprocess.PIPE, 'stderr': subprocess.PIPE, 'text': True}
+    with subprocess.Popen(words, start_new_session=True, **pipes, **how) as process:
+        try:
+            printed, told = process.communicate(timeout=300)
+        except subprocess.TimeoutExpired:
+            os.killpg(process.pid, signal.SIGKILL)  # a build that was begun goes with its launcher
+            raise
+    return process.returncode, printed, told
 
 
 def says(words, status, text, **how):
@@ -85,16 +91,17 @@ def causes(folder, image):
     says([folder, 'list'], 6, 'is a folder')
     says([folder + '/none', 'list'], 8, 'there is no file')
     says([junk, 'list'], 8, 'junk (5 bytes) is no image of a drive')
-    says([junk, 'make', *shape], 8, 'is no image of a drive: remove it, or name another file')
+    says([junk, 'make', *shape], 8, 'is no image of a drive; remove it, or name another file')
     says([cut, 'list'], 8, 'has 300000 bytes, and by its head it should have 525344')
-    says([damaged, 'list'], 8, 'is damaged, or its making was broken off: see pinkctl check')
+    says([damaged, 'list'], 8, f'{damaged} is damaged: the state of page 8 is 3; see pinkctl check {damaged}')
     says([older, 'list'], 8, 'has version 1 of the format, and this program opens versions 2 and 3')
     limited = folder + '/limited'
     check('a drive with limits is made', run(PINK, limited, 'make', *shape, '100', '392')[0] == 0)
     with open(limited, 'r+b') as it:
         it.seek(40)
         it.write(b'\3')
-    says([limited, 'list'], 8, 'is damaged, or its making was broken off: see pinkctl check')
+    says([limited, 'list'], 8, f'{limited} is damaged: the state of page 8 is 3; see pinkctl check {limited}')
+    unmade(folder, image)
     says([image, 'make', *shape], 9, 'there is an image already: remove')
     launcher, program = serving(image)
     says([image, 'list'], 6, f'is in use by process {program} (')
@@ -119,9 +126,41 @@ def causes(folder, image):
             run('umount', small)
 
 
+def unmade(folder, image):
+    """A making that was broken off, drives with spare blocks, and the same without Python."""
+    size, place = os.path.getsize(image), folder + '/unmade'
+    with open(image, 'rb') as it:
+        head = it.read(32)
+    stages = {
+        'before it had a length': b'', 'before its head had its text': bytes(8) + head[8:] + bytes(size - 32),
+        'before its root was written': head + bytes(size - 32), 'while its root was written': head + b'\2' + bytes(size - 33),
+    }  # fmt: skip
+    for text, content in stages.items():
+        with open(place, 'wb') as it:
+            it.write(content)
+        says([place, 'list'], 8, f'the making of {place} was broken off {text}; remove it, and make it again')
+    spared = folder + '/spared'
+    check('a drive with spare blocks is made', run(PINK, spared, 'spared', '3', 'make', '512', '16', '64')[0] == 0)
+    given = [
+        ([spared, 'list'], f'{spared} has 3 spare blocks; pink {spared} spared 3 WORDS..'),
+        ([spared, 'spared', '4', 'list'], f'{spared} has 3 spare blocks, not 4; pink {spared} spared 3 WORDS..'),
+        ([image, 'spared', '3', 'list'], f'{image} has no table of spare blocks: it was made without them'),
+        ([folder + '/none', 'spared', '3', 'list'], f'there is no file {folder}/none; pink {folder}/none spared 3 make 512 16 64'),
+    ]
+    bare = folder + '/bare'  # the system's programs, without Python
+    os.makedirs(bare, exist_ok=True)
+    for name in 'sh readlink dirname sed grep od awk head tail tr cut ls cat df wc setpriv date'.split():
+        if shutil.which(name):
+            os.symlink(shutil.which(name), f'{bare}/{name}')
+    for words, text in given:
+        says(words, 8, text)
+        says(words, 8, text.partition(', not')[0].partition('; pink ')[0], env={'PATH': bare})
+    says([place, 'list'], 8, 'is damaged, or its making was broken off; see pinkctl check', env={'PATH': bare})
+
+
 def gone(image):
     """The process that had the image open has ended before its words were read, and a kit that is not there."""
-    shell = f'. "{TOP}/launch/why.sh"; user_of() {{ echo 999999999; }}; flash_fault "{image}" list'
+    shell = f'. "{TOP}/launch/why.sh"; seen() {{ return 1; }}; user_of() {{ echo 999999999; }}; flash_fault "{image}" list'
     check('a process that has gone: no line of the shell', run('sh', '-c', shell) == (0, f'{image} is in use by process 999999999\n', ''))
     with tempfile.TemporaryDirectory() as folder:
         for name in ('demo.sh', 'build.sh'):
@@ -135,6 +174,7 @@ def words(image):
         ('make 513 16 64', 'a page has 512, 1024,'), ('make 512 12 64', 'a block has 8, 16,'), ('make 512 32 64', 'fewer than 32 pages'),
         ('make 512 16 9', 'at least 21 blocks'), ('make 512 16 5000', 'at most 4096 blocks'), ('make 16384 256 65', 'at most 256 MiB'),
         ('make 512 8 3000', 'does not fit a page'), ('make 4k 16 64', "'4k' is no number"), ('make 512 16', 'make takes P N M and at most 8 limits, and was given 2 words'),
+        ('put 61', 'put takes KEY BYTES, and was given 1 word'), ('spared 4', 'spared 4 takes a word after it: make serve'),
         ('make 512 16 64 0', 'a limit of at least one page'), ('make 512 16 64 100 393', 'together 493 pages; this drive has 492'),
         ('make 512 16 64 1 1 1 1 1 1 1 1 1', 'at most 8 namespaces, not 9'),
         ('get 6', 'even count of hexadecimal digits'), ('get zz', "the key 'zz'"), ('get ' + '61' * 17, 'the key has 17 bytes'),
@@ -162,14 +202,43 @@ def pairs(folder, image):
         ([*pair, 'list', '61'], 'list of a pair takes no more words'), ([*pair, 'get', 'zz'], "the key 'zz'"), ([*pair, 'put', '61'], 'put takes KEY BYTES'),
     ]:  # fmt: skip
         says(given, 2, text)
-    says(['mirror', image, folder + '/none', 'list'], 8, 'make 512 16 64 would make one for the other image')
-    says(['mirror', junk, image, 'list'], 8, 'junk (5 bytes) is no image of a drive')
+    none = folder + '/none'
+    says(['mirror', image, none, 'list'], 8, f'pink {none} make 512 16 64 makes one, which the next word of the pair fills')
+    says(['mirror', image, junk, 'list'], 8, 'junk (5 bytes) is no image of a drive')
+    left = f'the drive that is left is {image}, so name it first: '
+    says(['mirror', none, image, 'list'], 8, f'there is no file {none}; {left}pink {none} make 512 16 64, then pink mirror {image} {none} resync')
+    says(['mirror', junk, image, 'list'], 8, f'junk (5 bytes) is no image of a drive; {left}move {junk} away, then pink {junk} make')
     says(['mirror', image, small, 'list'], 8, 'the drives have different shapes')
     says(['mirror', image, folder, 'list'], 6, 'is a folder')
     launcher, program = serving(other)
     says([*pair, 'list'], 6, f'{other} is in use by process {program} (')
     launcher.stdin.close()
     check('the end of the input ends it with 0', launcher.wait(30) == 0)
+
+
+def broken(folder):
+    """The first drive of a pair is lost, and a new one is made in its place: what is left is emptied only on purpose."""
+    first, second = folder + '/one.img', folder + '/two.img'
+    make = ['make', '512', '16', '64', '100', '392']
+    for it in (first, second):
+        run(PINK, it, *make)
+    for key in ('61', '62', '63'):
+        run(PINK, 'mirror', first, second, 'put', key, '616263')
+    os.remove(first)
+    says(['mirror', first, second, 'list'], 8, 'make 512 16 64 100 392, then')
+    run(PINK, first, *make)
+    for given in ('list', 'get 61', 'put 64 00', 'del 61', 'resync'):
+        for how in ({}, {'PINK_EXEC': '1'}):
+            says(['mirror', first, second, *given.split()], 16, f'{first} has no key and {second} has 3', env={**os.environ, **how})
+    check('what is left is whole', run(PINK, second, 'list')[1] == '61\n62\n63\n')
+    check('and fills the new one', run(PINK, 'mirror', second, first, 'get', '62') == (0, 'ok 616263\n', ''))
+    check('which is a drive of the pair again', run(PINK, first, 'list')[1] == '61\n62\n63\n')
+    for key in ('61', '62', '63'):
+        run(PINK, first, 'del', key)
+    says(['mirror', first, second, 'list'], 16, 'PINK_FROM_EMPTY=1 in the environment lets the word through')
+    check('on purpose', run(PINK, 'mirror', first, second, 'resync', env={**os.environ, 'PINK_FROM_EMPTY': '1'}) == (0, 'ok\n', ''))
+    check('both are empty', run(PINK, 'mirror', first, second, 'list') == (0, '', ''))
+    check('a pair without keys takes some', run(PINK, 'mirror', first, second, 'put', '61', '00') == (0, 'ok\n', ''))
 
 
 def scripts(folder, image):
@@ -234,7 +303,11 @@ def links(folder, image):
     for launcher in (PINK, DUMP):
         status, told, _ = run(launcher, '--version')
         check('--version prints the commit and the kit', status == 0 and 'commit ' in told and 'kit rattle-kit' in told)
-        check('--help ends with 2', run(launcher, '--help')[0] == 2)
+        status, told, error = run(launcher, '--help')
+        check('--help prints to standard output, and ends with 0', status == 0 and './pink' in told and error == '')
+        check('without words the same as an error', run(launcher) == (2, '', told))
+    check('--help after the image', run(PINK, image, '--help')[:2] == run(PINK, '--help')[:2])
+    check('pinkctl --version', run(TOP + '/pinkctl', '--version')[:2] == (0, run(PINK, '--version')[1].replace('pink ', 'pinkctl ', 1).partition(', program')[0] + '\n'))
 
 
 def examples(folder):
@@ -262,9 +335,14 @@ def examples(folder):
 
 def installed(folder, image):
     root = folder + '/root'
+    if not all(os.path.exists(f'{TOP}/crates/{name}/out/{name}') for name in ('pink', 'pinkdump')):
+        print('launch.py: make install is not tried: it would build a program')
+        return
     status, _, told = run('make', '-C', TOP, 'install', f'DESTDIR={root}', 'PREFIX=/usr')
     check('make install: ' + told, status == 0)
     bin = root + '/usr/bin/'
+    for name in ('pink', 'pinkdump'):
+        check('installed: the time of the build', run(bin + name, '--version')[1] == run(f'{TOP}/{name}', '--version')[1])
     check('installed: pink', run(bin + 'pink', image, 'has', '61', cwd='/')[:2] == (0, 'ok\n'))
     check('installed: pinkdump', run(bin + 'pinkdump', image, 'lines', cwd='/')[1].startswith('image page_bytes=512'))
     check('installed: pinkctl', 'serve' in run(bin + 'pinkctl', '--help', cwd='/')[1])
@@ -272,6 +350,14 @@ def installed(folder, image):
     check('installed: pages and completion', os.path.isfile(root + '/usr/share/man/man1/pink.1') and os.path.isfile(root + '/usr/share/bash-completion/completions/pink'))
     check('make uninstall', run('make', '-C', TOP, 'uninstall', f'DESTDIR={root}', 'PREFIX=/usr')[0] == 0)
     check('nothing remains', not [names for _, _, names in os.walk(root) if names])
+    program = f'PINK={TOP}/crates/pink/out/pink'
+    check('make install of one program', run('make', '-C', TOP, 'install', f'DESTDIR={root}', 'PREFIX=/usr', program, 'PINKDUMP=')[0] == 0)
+    check('it runs', run(bin + 'pink', image, 'has', '61', cwd='/')[:2] == (0, 'ok\n'))
+    status, _, told = run(bin + 'pinkdump', image)
+    check('a program that is not there', status == 1 and 'pinkdump: there is no program' in told)
+    check('pinkctl without pinkdump', 'pinkdump is not built' in run(bin + 'pinkctl', 'check', image, env={'PATH': '/usr/bin:/bin'})[1])
+    check('make install-tools', run('make', '-C', TOP, 'uninstall', 'install-tools', f'DESTDIR={root}', 'PREFIX=/usr')[0] == 0)
+    check('no program', run(bin + 'pink', image, 'list')[0] == 1 and not os.path.exists(root + '/usr/lib/cezhandru/crates'))
 
 
 # nohup, or a shell that runs this in the background, has signals ignored, and a launcher cannot catch what was ignored before it began
@@ -284,6 +370,7 @@ with tempfile.TemporaryDirectory() as folder:
     gone(image)
     words(image)
     pairs(folder, image)
+    broken(folder)
     scripts(folder, image)
     signals(image)
     pipes(image)

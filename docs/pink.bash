@@ -32,7 +32,7 @@ _pink() {
             compopt -o filenames 2>/dev/null
             COMPREPLY=($(compgen -f -- "$word") $(compgen -W "mirror --help --version" -- "$word"))
             ;;
-        2) COMPREPLY=($(compgen -W "make serve asm show put get del has list stat gen spared" -- "$word")) ;;
+        2) COMPREPLY=($(compgen -W "make serve asm show put get del has list stat gen spared --help" -- "$word")) ;;
         3)
             case ${COMP_WORDS[2]} in
                 make) COMPREPLY=($(compgen -W "512 1024 2048 4096 8192 16384" -- "$word")) ;;

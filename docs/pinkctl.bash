@@ -2,7 +2,7 @@
 _pinkctl() {
     local word=${COMP_WORDS[COMP_CWORD]} parts="check export import backup salvage shell shapes serve"
     if [ "$COMP_CWORD" -eq 1 ]; then
-        COMPREPLY=($(compgen -W "$parts --help" -- "$word"))
+        COMPREPLY=($(compgen -W "$parts --help --version" -- "$word"))
         return
     fi
     local options="--help"
@@ -12,7 +12,7 @@ _pinkctl() {
         import) options+=" --overwrite --make --limits --namespace --dry-run --wait --progress --quiet" ;;
         backup) options+=" --wait --force --even-damaged --progress --quiet" ;;
         salvage) options+=" --wait --shape --sure-only --list --dry-run --progress --quiet" ;;
-        shell) options+=" --wait --execute --raw --words" ;;
+        shell) options+=" --wait --execute --namespace --raw --words" ;;
         shapes) options+=" --values --bytes --shape --most" ;;
         serve) options+=" --socket" ;;
     esac

@@ -5,16 +5,20 @@ program_of() { # NAME: the program's file
     echo "$top/crates/$1/out/$1"
 }
 
-version() { # NAME: the commit and the kit of the sources, and when the program was built
+sources() { # the commit and the kit of the sources
     if [ -f "$top/VERSION" ]; then # written by make install
-        sed "s/^/$1 /" "$top/VERSION"
+        cat "$top/VERSION"
         return
     fi
     commit=$(git -C "$top" describe --always --dirty 2>/dev/null) || commit=unknown
     kit=$(rt version 2>/dev/null) || kit="$(sed -n 's/^.*Proved with `\([^`(]*\)`.*$/\1/p' "$top/README.md") (by README)"
+    echo "(Cezhandru), commit $commit, kit $kit"
+}
+
+version() { # NAME: the sources, and when the program was built
     built='not built'
     [ ! -x "$(program_of "$1")" ] || built="built $(date -r "$(program_of "$1")" '+%Y-%m-%d %H:%M' 2>/dev/null)"
-    echo "$1 (Cezhandru), commit $commit, kit $kit, program $built"
+    echo "$1 $(sources), program $built"
 }
 
 # Ends with the status of the program, or by the signal that ended both.
@@ -25,6 +29,14 @@ launch() { # NAME WORDS..
     if [ ! -x "$program" ]; then
         [ -x "$top/build.sh" ] || { echo "$name: there is no program $program" >&2; exit 1; }
         "$top/build.sh" "$name" || exit 1
+    fi
+    if [ "$name" = pink ] && [ "$1" = mirror ]; then
+        # shellcheck source=launch/pair.sh
+        . "$top/launch/pair.sh"
+        shift
+        fault=$(empty_first "$program" "$@")
+        [ -z "$fault" ] || { echo "pink: status 16, $fault" >&2 && exit 16; }
+        set -- mirror "$@"
     fi
     [ -z "${PINK_EXEC:-}" ] || exec "$program" "$@"
 

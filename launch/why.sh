@@ -17,7 +17,7 @@ why() { # NAME STATUS IMAGE WORDS..
         5) echo "writing the output failed (is its disk full?)" ;;
         6) flash_fault "$1" "${2:-}" ;;
         7) echo "there was not enough memory; nothing was taken from the input" ;;
-        8) if [ "${2:-}" = spared ]; then image_fault "$1" spared "${3:-}"; else image_fault "$1" "${2:-}"; fi ;;
+        8) if [ "${2:-}" = spared ]; then image_fault "$1" "${4:-}" "${3:-}"; else image_fault "$1" "${2:-}"; fi ;;
         9) echo "there is an image already: remove $1, or name another file" ;;
         10) echo "the drive is worn, or 2^32-1 entries were taken" ;;
         12) bad_line ;;
@@ -122,6 +122,7 @@ spared_fault() { # IMAGE spared S WORDS..
             echo "${fault:-with $spares spare blocks and two of tables: $(shape_fault "$1" "$2" $(($3 + spares + 2)))}"
             ;;
         serve | put | get | del | has | list | stat | gen) operands_fault "$word" "$@" ;;
+        '') echo "spared $spares takes a word after it: make serve put get del has list stat gen" ;;
         *) echo "there is no word '$word' for a drive with spare blocks; the words are make serve put get del has list stat gen" ;;
     esac
 }
@@ -161,7 +162,9 @@ operands_fault() { # WORD OPERANDS..
         *) wanted=0 operands='no more words' ;;
     esac
     if [ $# -ne "$wanted" ]; then
-        echo "$word takes $operands, and was given $# words"
+        given="$# words"
+        [ $# -ne 1 ] || given='1 word'
+        echo "$word takes $operands, and was given $given"
         return
     fi
     case $word in
@@ -195,8 +198,8 @@ pair_fault() { # STATUS IMAGE IMAGE WORDS..: prints nothing if it has no more to
             pair_words_fault "$@"
             ;;
         6)
-            fault=$(open_fault "$2" list)
-            [ -n "$fault" ] || fault=$(open_fault "$3" list)
+            fault=$(seen 6 "$2" mirror || open_fault "$2" list)
+            [ -n "$fault" ] || fault=$(seen 6 "$3" mirror || open_fault "$3" list)
             echo "${fault:-a read or write of an image failed, or another process had it open}"
             ;;
         8) pair_shape_fault "$2" "$3" ;;
@@ -231,13 +234,31 @@ pair_words_fault() { # IMAGE IMAGE WORDS..
 }
 
 pair_shape_fault() { # IMAGE IMAGE
-    one=$(shape_of "$1") two=$(shape_of "$2")
-    fault=$(drive_fault "$1" list "$two")
-    [ -n "$fault" ] || fault=$(drive_fault "$2" list "$one")
-    if [ -z "$fault" ] && [ "$one" != "$two" ]; then
-        fault="the drives have different shapes: $1 has $one, $2 has $two"
+    one=$(make_words_of "$1") two=$(make_words_of "$2")
+    fault=$(seen 8 "$1" mirror || drive_fault "$1" list)
+    if [ -n "$fault" ]; then
+        first_lost "$1" "$2" "$fault" "$two"
+        return
     fi
-    echo "${fault:-the limits of namespace 1 differ, or an image is damaged: see pinkctl check}"
+    fault=$(seen 8 "$2" mirror || drive_fault "$2" list)
+    if [ -n "$fault" ] && [ ! -e "$2" ] && [ -n "$one" ]; then
+        fault="${fault%%; pink *}; pink $2 make $one makes one, which the next word of the pair fills"
+    elif [ -z "$fault" ] && [ "$one" != "$two" ]; then
+        fault="the drives have different shapes or limits: $1 has $one, $2 has $two"
+    fi
+    echo "${fault:-an image is damaged: see pinkctl check}"
+}
+
+# The second drive of a pair decides nothing, so a new first one beside it would empty it.
+first_lost() { # IMAGE IMAGE FAULT WORDS: the fault of the first, and how to go on with the second if it opens
+    if [ -z "$(keys_of "$program" "$2")" ]; then
+        echo "$3"
+        return
+    fi
+    away=
+    fault=${3%%; pink *}
+    [ ! -e "$1" ] || away="move $1 away, then "
+    echo "$fault; the drive that is left is $2, so name it first: ${away}pink $1 make $4, then pink mirror $2 $1 resync"
 }
 
 # The input. A file is looked at again from its start; a pipe is gone.
@@ -333,8 +354,15 @@ open_fault() { # IMAGE WORD: why the system does not read or write it; prints no
 }
 
 flash_fault() { # IMAGE WORD
-    fault=$(open_fault "$1" "$2")
+    fault=$(seen 6 "$1" "$2" || open_fault "$1" "$2")
     echo "${fault:-a read or write of the image failed, or another process had it open}"
+}
+
+# The module of pinkctl knows more of images than what follows it here, which is for a system without Python.
+seen() { # STATUS IMAGE WORD [S]: what is the matter with the image; fails if nothing is seen, or Python is not there
+    command -v python3 >/dev/null 2>&1 || return 1
+    python3 -I -B -c 'import sys; sys.path.insert(0, sys.argv[1]); from pinkctl import causes; sys.exit(causes.main(sys.argv[2:]))' \
+        "$top/clients/python" "$@" 2>/dev/null
 }
 
 spares_of() { # IMAGE: the number of spare blocks in the first table of the last two blocks; prints nothing if there is none
@@ -358,26 +386,25 @@ spared_image_fault() { # IMAGE S: why it has no drive with S spare blocks, by it
 }
 
 image_fault() { # IMAGE WORD [S]
+    if seen 8 "$1" "$2" "${3:-0}"; then return; fi
     fault=$(drive_fault "$1" "$2")
     [ -n "$fault" ] || fault=$(spared_image_fault "$1" "${3:-}")
-    if [ "$2" = spared ] && [ "${fault#"there is no file $1;"}" != "$fault" ]; then
-        fault="there is no file $1; pink $1 spared ${3:-4} make 512 16 64 would make a small drive"
+    if [ -n "${3:-}" ] && [ "${fault#"there is no file $1;"}" != "$fault" ]; then
+        fault="there is no file $1; pink $1 spared $3 make 512 16 64 would make a small drive"
     fi
     hint=
-    [ "$2" != make ] || [ ! -e "$1" ] || hint=": remove it, or name another file"
-    echo "${fault:-the image is damaged, or its making was broken off: see pinkctl check}$hint"
+    [ "$2" != make ] || [ ! -e "$1" ] || hint="; remove it, or name another file"
+    echo "${fault:-the image is damaged, or its making was broken off; see pinkctl check $1}$hint"
 }
 
-drive_fault() { # IMAGE WORD [SHAPE]: why there is no drive in it, by its file, its head and its roots; prints nothing if nothing is seen
+drive_fault() { # IMAGE WORD: why there is no drive in it, by its file, its head and its roots; prints nothing if nothing is seen
     fault=$(file_fault "$1" "$2")
     if [ -n "$fault" ]; then
         echo "$fault"
         return
     fi
     if [ ! -e "$1" ]; then
-        hint="pink $1 make 512 16 64 would make a small drive"
-        [ -z "${3:-}" ] || hint="pink $1 make $3 would make one for the other image"
-        echo "there is no file $1; $hint"
+        echo "there is no file $1; pink $1 make 512 16 64 would make a small drive"
         return
     fi
     size=$(wc -c <"$1" | tr -d ' ')
@@ -399,9 +426,26 @@ drive_fault() { # IMAGE WORD [SHAPE]: why there is no drive in it, by its file, 
     esac
 }
 
+make_words_of() { # IMAGE: the numbers of the make of a drive like it; prints nothing if it has no shape
+    # shellcheck disable=SC2046  # the three numbers of a shape are words
+    set -- "$1" $(shape_of "$1")
+    [ $# -eq 4 ] || return 0
+    echo "$2 $3 $4$([ "$(version_of "$@")" != 3 ] || limits_of "$@")"
+}
+
+limits_of() { # IMAGE P N M: the limits of its namespaces, each after a blank
+    at=$(root_of "$@")
+    od -An -v -tu4 -j $((at + 64)) -N 32 -- "$1" | awk -v count="$(od -An -v -tu4 -j $((at + 20)) -N 4 -- "$1")" '
+        { for (i = 1; i <= NF && seen < count; i++) { printf " %s", $i; seen++ } }'
+}
+
 version_of() { # IMAGE P N M: the version in the first page of its root blocks that begins as a root does; prints nothing if there is none
-    at=$(head -c $((32 + $3 * $4 + 2 * $2 * $3)) -- "$1" 2>/dev/null | LC_ALL=C grep -abo PINKROOT 2>/dev/null | sed -n '1s/:.*//p')
+    at=$(root_of "$@")
     [ -z "$at" ] || od -An -v -tu1 -j $((at + 8)) -N 2 -- "$1" 2>/dev/null | awk '{ print $1 + $2 * 256 }'
+}
+
+root_of() { # IMAGE P N M: where the first page of its root blocks that begins as a root does lies in the file; prints nothing if there is none
+    head -c $((32 + $3 * $4 + 2 * $2 * $3)) -- "$1" 2>/dev/null | LC_ALL=C grep -abo PINKROOT 2>/dev/null | sed -n '1s/:.*//p'
 }
 
 shape_of() { # IMAGE: the bytes of a page, the pages of a block and the blocks, by its head; prints nothing if it has none

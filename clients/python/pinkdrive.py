@@ -7,7 +7,7 @@
         d[b"key"] = b"value"
         print(d[b"key"], b"other" in d, list(d))
 
-A drive is a mapping from keys, of 1 to 16 bytes, to values, both bytes. It needs Python 3.8, Linux
+A drive is a mapping from keys, of 1 to 16 bytes, to values, both bytes. It needs Python 3.9, Linux
 and the standard library alone. Threads may share a `Drive`: each call gets its own answer, and the
 commands of one thread are done in their order.
 
@@ -19,6 +19,15 @@ pipeline of one's own. A drive may have up to eight namespaces, each with its ow
 (`make(.., limits=(100, 392))`); a `Drive` uses the one that it was opened with, 1 unless said, and each
 call may name another one. A drive that is not closed is closed when it is collected or the process ends;
 a refusal that was not raised is then a `DriveWarning`.
+
+What is atomic. Each command is done whole or not at all, also if the power fails in it: a key has its old
+value or its new one. After a crash the drive holds what its commands made up to some point of their order,
+at least up to the last that was answered. There is no transaction: of several commands, as in `update`,
+`delete_many` and `clear`, a crash may leave the first ones done and the rest not. To change two values
+together, keep them in one; to let one of several writers win, `store(.., if_absent=True)`.
+
+Longer keys. A key of more than 16 bytes can be stored under `hashlib.blake2b(key, digest_size=16).digest()`
+with the key before the value; such keys have no order.
 
 Exceptions. A status of the drive other than success is an exception with the standard's name, such as
 `KeyDoesNotExist` (a `KeyError` too) or `CapacityExceeded`, with the limit in its text. If the program
@@ -101,6 +110,10 @@ AHEAD = 64
 """The most values that are requested ahead of an iteration,"""
 AHEAD_BYTES = 1 << 20
 """and about how many bytes of them."""
+ONE_KEY_BYTES = 24
+"""The buffer of a List of one key, in bytes."""
+DELETES_AHEAD = 2000
+"""The most Deletes of `delete_many` that are under way."""
 REFUSALS_KEPT = 1000
 """Refusals that nobody waited for are kept up to this number; more are counted."""
 
@@ -212,27 +225,19 @@ def shape_of(image: Path) -> Optional[Shape]:
     return None if shape.fault() else shape
 
 
+def _causes() -> Any:
+    """The module that tells what is the matter with an image; None where this file stands alone."""
+    try:
+        from pinkctl import causes
+    except ImportError:
+        return None
+    return causes
+
+
 def process_using(image: Path) -> Optional[int]:
     """The process that has the image file locked; None if the system lists none."""
-    try:
-        inode = str(os.stat(image).st_ino)
-    except OSError:
-        return None
-    # A list that is read in pieces while it changes may lack an entry, so it is read up to three times.
-    found = (_lock_of(inode) for _ in range(3))
-    return next((process for process in found if process is not None), None)
-
-
-def _lock_of(inode: str) -> Optional[int]:
-    try:
-        with open("/proc/locks") as locks:
-            lines = [line.split() for line in locks]
-    except OSError:
-        return None
-    for words in lines:
-        if len(words) > 5 and words[1] == "FLOCK" and words[5].rpartition(":")[2] == inode:
-            return int(words[4])
-    return None
+    causes = _causes()
+    return causes.process_using(os.fspath(image)) if causes else None
 
 
 # What is raised.
@@ -269,14 +274,26 @@ class DriveEnded(DriveError):
         9: "already made",
         10: "worn",
         12: "bad line",
+        16: "first drive empty",
     }
+
+    kind: str = ""
+    """What is the matter with the image in a word, as `missing` or `damaged`; empty if nothing is seen."""
+    hint: str = ""
+    """What to do about the cause, in Python; empty if the cause says it."""
+    shell_hint: str = ""
+    """The same at a shell's prompt."""
 
     def __init__(self, status: int, cause: Optional[str] = None) -> None:
         self.status = status
         self.cause = cause
         killed = status < 0 or status > 128
         self.name = "killed" if killed else self.NAMES.get(status, "unknown")
-        super().__init__(f"status {status}: {cause or self.name}")
+        super().__init__(status, cause)
+
+    def __str__(self) -> str:
+        tail = f"; {self.hint}" if self.hint else ""
+        return f"status {self.status}: {self.cause or self.name}{tail}"
 
 
 class ImageInUse(DriveEnded):
@@ -374,50 +391,6 @@ def refusal_text(
     return f"status {status:02X}h for the key {key!r}"
 
 
-def _file_fault(image: str, making: bool) -> Optional[str]:
-    """What hinders the program from opening the image file; None if nothing is seen."""
-    folder = os.path.dirname(os.path.realpath(image))
-    if os.path.isdir(image):
-        return f"{image} is a folder"
-    if not os.path.isdir(folder):
-        return f"there is no folder {folder}"
-    if os.path.exists(image) and not os.access(image, os.R_OK | os.W_OK):
-        return f"no permission to read and write {image}"
-    if making and not os.path.exists(image) and not os.access(folder, os.W_OK):
-        return f"no permission to make a file in {folder}"
-    return None
-
-
-def _no_space(image: str) -> Optional[str]:
-    try:
-        system = os.statvfs(image if os.path.exists(image) else os.path.dirname(image) or ".")
-    except OSError:
-        return None
-    free = system.f_bavail * system.f_frsize
-    return f"there is no space left on the disk of {image}" if free < 65536 else None
-
-
-def _image_fault(image: str, making: bool) -> str:
-    """What is wrong with a file that holds no drive, by its head and length."""
-    if not os.path.exists(image):
-        return f"there is no file {image}: make() makes one"
-    hint = ": remove it, or name another file" if making else ""
-    size = os.path.getsize(image)
-    try:
-        with open(image, "rb") as file:
-            head = file.read(8)
-    except OSError as error:
-        return f"{image}: {error.strerror}"
-    if not head.startswith(b"PINKIMG1"):
-        return f"{image} is no image of a drive ({size} bytes){hint}"
-    shape = shape_of(image)
-    if shape is None:
-        return f"the head of the image {image} is damaged, or was never whole{hint}"
-    if size != shape.image_bytes:
-        return f"the image {image} has {size} bytes, and should have {shape.image_bytes}{hint}"
-    return f"the image {image} is damaged, or its making was broken off: see pinkctl check {image}"
-
-
 def spared(spares: int, words: Sequence[str]) -> List[str]:
     """These words, over a drive with this many spare blocks; 0 for a drive that has none."""
     return ["spared", str(spares), *words] if spares else list(words)
@@ -448,19 +421,16 @@ def cause_of(status: int, image: Path, words: Sequence[str] = ("serve",)) -> Opt
         except ValueError:
             name = "unknown"
         return f"ended by signal {number} ({name}); what was answered is on the flash"
+    if status == 2 and os.environ.get("PINK_SYNC", "0") not in ("0", "1"):
+        return "PINK_SYNC is in the environment and neither 0 nor 1"
     if status == 2 and making:
         shape, limits = Shape(*map(int, words[1:4])), list(map(int, words[4:]))
         return _shape_fault(spares, shape) or limits_fault(shape, limits)
     if status == 2:
         several = f"frames are 0 to 16384, and spare blocks 1 to {MOST_SPARES}"
         return several if spares else "frames are 0 to 16384"
-    if status == 6:
-        process = process_using(image)
-        if process is not None:
-            return f"{image} is in use by process {process}"
-        return _file_fault(image, making) or _no_space(image)
-    if status == 8:
-        return _file_fault(image, making) or _image_fault(image, making)
+    if status in (6, 8):
+        return ended(status, image, spared(spares, words)).cause
     plain = {
         1: "the program is not built, and building it failed (its kit, rt, has to be there)",
         3: "the input ended within a command; all before it was served",
@@ -475,11 +445,21 @@ def cause_of(status: int, image: Path, words: Sequence[str] = ("serve",)) -> Opt
 
 def ended(status: int, image: Path, words: Sequence[str] = ("serve",)) -> DriveEnded:
     """The exception of a program that ended with this status, with the cause in words."""
-    process = process_using(image) if status == 6 else None
-    if process is None:
+    if status not in (6, 8):
         return DriveEnded(status, cause_of(status, image, words))
-    error = ImageInUse(status, f"{os.fspath(image)} is in use by process {process}")
-    error.process = process
+    path, (spares, words) = os.fspath(image), _spares_of(list(words))
+    causes, making = _causes(), list(words[:1]) == ["make"]
+    found = causes.cause_of(status, path, making, spares) if causes else None
+    if found is None:
+        return DriveEnded(status, f"{path} holds no drive that opens" if status == 8 else None)
+    used = found.kind == causes.Kind.IN_USE
+    error = (ImageInUse if used else DriveEnded)(status, found.text)
+    if used:
+        error.process = found.number
+    error.kind = found.kind.name.lower()
+    other = causes.making_hint(path, status) if making else ""
+    error.hint = other or causes.python_hint(found, path, spares)
+    error.shell_hint = other or causes.hint(found, path, spares)
     return error
 
 
@@ -586,6 +566,7 @@ class _Session:
         self._refused: List[Pending] = []
         self._refusals = 0
         self._fault: Optional[str] = None
+        self._is_heard = False
         self._ended = False
         self._sent = 0
         self._released = 0
@@ -633,9 +614,12 @@ class _Session:
         front = key[:KEY_BYTES].ljust(KEY_BYTES, b"\0")
         length = min(len(key), 255)
         space = pending.namespace
-        entry = ENTRY.pack(
-            pending.opcode, number % 65536, space, front[:8], pending.size, length, options, front[8:]
-        )
+        try:
+            entry = ENTRY.pack(
+                pending.opcode, number % 65536, space, front[:8], pending.size, length, options, front[8:]
+            )
+        except struct.error:
+            raise _number_fault(pending, options) from None
         pending._number = number
         try:
             self._waiting.append(pending)
@@ -696,6 +680,7 @@ class _Session:
 
     def _end(self) -> DriveError:
         """The program takes no more: what it had answered has come, and the rest never comes."""
+        self._is_heard = True
         if self._fault:
             return DriveError(f"{self._fault}: the drive {self.image} has to be opened again")
         if threading.current_thread() is not self._reader:
@@ -795,10 +780,13 @@ class _Session:
         _open_sessions.discard(self)
 
     def close_and_warn(self) -> None:
-        """Closes a session that nobody closed; what would be raised is a warning."""
+        """Closes a session that nobody closed; what would be raised and nobody heard is a warning."""
+        was_heard = self._is_heard
         try:
             self.close()
         except DriveError as error:
+            if was_heard:
+                return
             text = f"{self.image} was not closed, and nobody heard that: {error}"
             warnings.warn(DriveWarning(text), stacklevel=2)
 
@@ -1008,19 +996,54 @@ class Drive(MutableMapping[bytes, bytes]):
         """Lets the drive make this many steps of its background work, or fewer, for all namespaces."""
         self.send(Opcode.TICK, size=steps, namespace=namespace).result()
 
-    def keys_from(self, start: Bytes = b"", *, namespace: Optional[int] = None) -> Iterator[bytes]:
-        """The keys in their order, from `start` on."""
-        for page in self._pages_of_keys(_bytes(start), namespace):
-            yield from page
+    def keys_from(
+        self, start: Bytes = b"", *, prefix: Bytes = b"", namespace: Optional[int] = None
+    ) -> Iterator[bytes]:
+        """The keys in their order, from `start` on, of those that begin with `prefix`."""
+        front = _bytes(prefix)
+        for page in self._pages_of_keys(max(_bytes(start), front), namespace):
+            for key in page:
+                if not key.startswith(front):
+                    return
+                yield key
 
     def items_from(
-        self, start: Bytes = b"", *, namespace: Optional[int] = None
+        self, start: Bytes = b"", *, prefix: Bytes = b"", namespace: Optional[int] = None
     ) -> Iterator[Tuple[bytes, bytes]]:
-        """The keys in their order, from `start` on, each with its value."""
-        keys = self.keys_from(start, namespace=namespace)
+        """The keys in their order, from `start` on, of those that begin with `prefix`, each with its value."""
+        keys = self.keys_from(start, prefix=prefix, namespace=namespace)
         for key, value in self._values_of(keys, namespace):
             if value is not None:  # else it was deleted meanwhile
                 yield key, value
+
+    def prefix(self, prefix: Bytes, *, namespace: Optional[int] = None) -> Iterator[Tuple[bytes, bytes]]:
+        """The keys that begin with these bytes, in their order, each with its value."""
+        return self.items_from(prefix=prefix, namespace=namespace)
+
+    def first(
+        self, start: Bytes = b"", *, prefix: Bytes = b"", namespace: Optional[int] = None
+    ) -> Optional[Tuple[bytes, bytes]]:
+        """The first key from `start` on, of those that begin with `prefix`, with its value; None if there is none."""
+        front = _bytes(prefix)
+        at = max(_bytes(start), front)
+        while True:
+            keys = _keys_in(self.send(Opcode.LIST, at, ONE_KEY_BYTES, namespace=namespace).result().data)
+            if not keys or not keys[0].startswith(front):
+                return None
+            key, value = _value_of(self.send(Opcode.RETRIEVE, keys[0], GREATEST_VALUE, namespace=namespace))
+            if value is not None:
+                return key, value
+            at = key  # it was deleted meanwhile
+
+    def delete_many(self, keys: Iterable[Bytes], *, namespace: Optional[int] = None) -> int:
+        """Deletes these keys in a pipeline, and returns how many of them there were when that is on the flash."""
+        count = 0
+        sent: Deque[Pending] = collections.deque()
+        for key in keys:
+            sent.append(self.send(Opcode.DELETE, key, namespace=namespace))
+            if len(sent) >= DELETES_AHEAD:
+                count += _was_there(sent.popleft())
+        return count + sum(map(_was_there, sent))
 
     def get_many(
         self,
@@ -1087,6 +1110,18 @@ class Drive(MutableMapping[bytes, bytes]):
     def values(self) -> ValuesView[bytes]:
         return _Values(self)
 
+    def popitem(self) -> Tuple[bytes, bytes]:
+        """Takes the first key away, and returns it with its value; `KeyError` if there is none."""
+        while True:
+            found = self.first()
+            if found is None:
+                raise KeyError("the drive is empty")
+            try:
+                del self[found[0]]
+            except KeyDoesNotExist:
+                continue  # another thread took it
+            return found
+
     def setdefault(self, key: Bytes, default: Bytes = b"") -> bytes:
         """The value of a key, which gets this one if it has none."""
         try:
@@ -1102,8 +1137,7 @@ class Drive(MutableMapping[bytes, bytes]):
 
     def clear(self) -> None:
         """Takes all keys away in a pipeline, and returns when that is on the flash."""
-        for key in self.keys_from():
-            self._send(Opcode.DELETE, key, 0, 0, b"", True)
+        self.delete_many(self.keys_from())
         self.flush()
 
     # The end.
@@ -1163,6 +1197,31 @@ def _value_of(pending: Pending) -> Tuple[bytes, Optional[bytes]]:
         return pending.key, pending.result().data
     except KeyDoesNotExist:
         return pending.key, None
+
+
+def _was_there(pending: Pending) -> bool:
+    """Whether a Delete found its key."""
+    try:
+        pending.result()
+    except KeyDoesNotExist:
+        return False
+    return True
+
+
+def _number_fault(pending: Pending, options: object) -> Exception:
+    """What is wrong with the numbers of a command that has no entry."""
+    numbers = [
+        ("a command", pending.opcode, 0, 255),
+        ("a namespace", pending.namespace, 0, 2**32 - 1),
+        ("a size or a count of steps", pending.size, 0, 2**32 - 1),
+        ("the options", options, 0, 255),
+    ]
+    for what, number, least, most in numbers:
+        if not isinstance(number, int):
+            return TypeError(f"{what} is a number from {least} to {most}, not {number!r}")
+        if not least <= number <= most:
+            return ValueError(f"{what} is a number from {least} to {most}, not {number}")
+    return ValueError("a number of the command has no place in its entry")
 
 
 def _keys_in(data: bytes) -> List[bytes]:

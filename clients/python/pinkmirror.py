@@ -11,13 +11,18 @@
 
 A mirror is a mapping from keys, of 1 to 16 bytes, to values, both bytes. Each call runs the program
 once, which first makes the second drive equal to the first: so a call takes as long as a read of
-all values of both drives. It needs Python 3.8, Linux and the standard library alone.
+all values of both drives. It needs Python 3.9, Linux and the standard library alone.
 
 If one image is lost (missing, damaged, or in use by another process), or the two no longer have one
 shape, a value or the keys are read from one image alone: the first, or the second if the first gives
 no answer. `fallback` is then the path of that image, and None after a call that both drives
 answered. Nothing is written then: a store, a delete and a resync raise `DriveEnded`. The image that
 is read has every call that was completed. A call that was broken off may be done or not done on it.
+
+Each call deletes from the second drive what the first lacks. So if the first drive has no key and the
+second has some, as after `make` of a new image in the place of a lost first one, every call raises
+`FirstDriveEmpty` and changes nothing. What is left of a pair comes first from then on:
+`Mirror("b.img", "a.img").resync()` fills the new one. `resync(from_empty=True)` empties the second drive.
 
 What is raised is what `pinkdrive` raises: the exception of a drive's status, as `KeyDoesNotExist` or
 `CapacityExceeded`, or `DriveEnded` if the program ended, with the cause in its text.
@@ -39,6 +44,7 @@ from pinkdrive import (
     KeyDoesNotExist,
     Opcode,
     Path,
+    Shape,
     cause_of,
     ended,
     image_word,
@@ -50,8 +56,22 @@ LONGEST_VALUE = 65000
 """The longest value, in bytes: it goes to the program as one word, and systems limit those."""
 LOST = (6, 8)
 """Statuses of the program that report an image that cannot be used."""
+FIRST_EMPTY = 16
+"""The status of the launcher for a first drive without a key beside a second drive with some."""
 OPCODES = {"put": Opcode.STORE, "get": Opcode.RETRIEVE, "del": Opcode.DELETE}
 """The commands of the words that name a key."""
+
+
+class FirstDriveEmpty(DriveEnded):
+    """The first drive of a pair has no key and the second has some, which the call would delete."""
+
+    def __init__(self, first: str, second: str, keys: int) -> None:
+        super().__init__(
+            FIRST_EMPTY,
+            f"{first} has no key and {second} has {keys}, which this call would delete: if {second} is "
+            f"what is left of the pair, name it first: Mirror({second!r}, {first!r}).resync(); "
+            f"resync(from_empty=True) deletes them",
+        )
 
 
 class Mirror(collections.abc.MutableMapping):
@@ -71,9 +91,11 @@ class Mirror(collections.abc.MutableMapping):
         self._program = program or PROGRAM
         self._stderr = stderr
 
-    def resync(self) -> None:
-        """Makes the second drive equal to the first."""
-        self._write("resync")
+    def resync(self, *, from_empty: bool = False) -> None:
+        """Makes the second drive equal to the first, with `from_empty` also to a first without a key."""
+        if not from_empty:
+            self._refuse_empty_first()
+        _raise_refused(self._run_words("resync"), "resync", b"")
 
     def __getitem__(self, key: bytes) -> bytes:
         line = self._read("get", _digits(key))
@@ -116,11 +138,30 @@ class Mirror(collections.abc.MutableMapping):
             stdin=subprocess.DEVNULL,
             stdout=subprocess.PIPE,
             stderr=self._stderr,
-            env={**os.environ, "PINK_EXEC": "1"},
+            # The launcher looks for an empty first drive too, unless it is told that this was done.
+            env={**os.environ, "PINK_EXEC": "1", "PINK_FROM_EMPTY": "1"},
         )
         return run.returncode, run.stdout.decode("ascii")
 
+    def _keys_of(self, image: str) -> Optional[int]:
+        """The number of keys of a drive; None if it does not open."""
+        status, text = self._run(image_word(image), "stat")
+        return None if status else int(dict(line.split() for line in text.splitlines())["keys"])
+
+    def _refuse_empty_first(self) -> None:
+        first, second = self.images
+        if os.environ.get("PINK_FROM_EMPTY") == "1" or self._keys_of(first) != 0:
+            return
+        keys = self._keys_of(second)
+        if keys:
+            raise FirstDriveEmpty(first, second, keys)
+
     def _run_pair(self, *words: str) -> str:
+        """The text of a word of the pair, unless the first drive is an empty one."""
+        self._refuse_empty_first()
+        return self._run_words(*words)
+
+    def _run_words(self, *words: str) -> str:
         """The text of a word of the pair."""
         status, text = self._run("mirror", *map(image_word, self.images), *words)
         if status:
@@ -154,16 +195,30 @@ def _pair_ended(status: int, images: Tuple[str, str]) -> DriveEnded:
         return DriveEnded(status, "a drive of the pair is worn")
     if status == 6:
         return ended(status, next((it for it in images if cause_of(6, it)), images[0]))
-    if status == 8:
-        shapes = [shape_of(it) for it in images]
-        for image, shape in zip(images, shapes):
-            if shape is None or os.path.getsize(image) != shape.image_bytes:
-                return ended(status, image)
-        if shapes[0] != shapes[1]:
-            told = [f"{it} has {tuple(shape or ())}" for it, shape in zip(images, shapes)]
-            return DriveEnded(status, "the drives have different shapes: " + ", ".join(told))
-        return DriveEnded(status, "the limits of namespace 1 differ, or an image is damaged: see pinkctl check")
-    return ended(status, images[0])
+    return _no_drive(images) if status == 8 else ended(status, images[0])
+
+
+def _no_drive(images: Tuple[str, str]) -> DriveEnded:
+    """The exception for images that are no pair: one of them holds no drive, or they differ."""
+    first, second = (ended(8, it) for it in images)
+    one, two = (shape_of(it) for it in images)
+    if first.kind:
+        return _first_lost(images, first, two) if two and not second.kind else first
+    if second.kind:
+        return second
+    if one != two:
+        told = [f"{it} has {tuple(shape or ())}" for it, shape in zip(images, (one, two))]
+        return DriveEnded(8, "the drives have different shapes: " + ", ".join(told))
+    return DriveEnded(8, "the limits of namespace 1 differ: see pinkctl check")
+
+
+def _first_lost(images: Tuple[str, str], error: DriveEnded, shape: Shape) -> DriveEnded:
+    """The exception for a first drive that is lost, with the way on from the second."""
+    first, second = images
+    away = f"move {first} away, then " if os.path.exists(first) else ""
+    make = f"make({first!r}, {', '.join(map(str, shape))})"
+    error.hint = f"the drive that is left is {second}, so name it first: {away}{make}, then Mirror({second!r}, {first!r}).resync()"
+    return error
 
 
 def _raise_refused(line: str, word: str, key: bytes, size: int = 0) -> None:

@@ -29,7 +29,7 @@ sys.path.insert(0, HERE)
 import pinkdrive
 from pinkctl import image, keys, layout, rescue
 from pinkctl.__main__ import main as pinkctl
-from pinkctl.status import MEANINGS, Exit
+from pinkctl.status import MEANINGS, Exit, ToolError
 from pinkdrive import Drive, make
 
 TOP = os.path.join(HERE, "..", "..")
@@ -226,12 +226,13 @@ class Check(OnImage):
     def test_what_is_no_image(self):
         whole = self.bytes()
         for data, words in (
-            (b"", "the file is empty"),
-            (b"junk", "fewer than a header"),
-            (b"x" * 600000, "does not begin with PINKIMG1"),
-            (whole[:300000], "300,000 bytes, and a drive of shape 512 16 64 has 525,344"),
-            (whole[:8] + b"\1" + whole[9:], "a page of 513 bytes"),
-            (whole[:40] + b"\3" + whole[41:], "the state of page 8 is 3"),
+            (b"", "was broken off before it had a length"),
+            (b"junk", "(4 bytes) is no image of a drive (byte 4)"),
+            (b"x" * 600000, "(600000 bytes) is no image of a drive (byte 0)"),
+            (bytes(8) + whole[8:], "was broken off before its head had its text (byte 0)"),
+            (whole[:300000], "has 300000 bytes, and by its head it should have 525344 (byte 32)"),
+            (whole[:8] + b"\1" + whole[9:], "a page of 513 bytes: it has to be"),
+            (whole[:40] + b"\3" + whole[41:], "the state of page 8 is 3 (byte 40)"),
         ):
             with open(self.image, "wb") as file:
                 file.write(data)
@@ -239,14 +240,92 @@ class Check(OnImage):
             self.assertEqual(found["verdict"], "no drive")
             self.assertIn(words, found["text"])
         os.remove(self.image)
-        self.assertIn("there is no such file", self.check(status=8)["text"])
+        self.assertIn("there is no file", self.check(status=8)["text"])
         self.assertIn("there is no folder", self.check(status=8, path=self.path("none/x.img"))["text"])
         self.ctl("check", self.folder, status=11)
-        self.assertIn("it is a folder", self.said)
+        self.assertIn("is a folder", self.said)
 
     def test_a_half_made_image(self):
         self.change(STATES, b"\0\0")
-        self.assertIn("make did not end", self.check(status=8)["text"])
+        self.assertIn("broken off before its root was written", self.check(status=8)["text"])
+        self.change(STATES, b"\2")
+        self.assertIn("broken off while its root was written", self.check(status=8)["text"])
+        out = self.ctl("check", self.image, status=8).decode()
+        self.assertIn("it never held a key", out)
+        self.assertNotIn("salvage", out)
+        self.change(STATES, b"\1")
+        self.change(DATA, b"X")
+        out = self.ctl("check", self.image, status=8).decode()
+        self.assertIn("no page of its root blocks is a root (1 are written, the first is page 0: it does not begin with PINKROOT)", out)
+        self.assertIn("salvage", out)
+
+    def test_spare_blocks(self):
+        spared = self.path("spared.img")
+        make(spared, *self.shape, program=PROGRAM, spares=3, limits=(200, 292))
+        pairs = {b"%03d" % i: b"x" * i for i in range(60)}
+        with Drive(spared, program=PROGRAM, spares=3) as drive:
+            drive.update(pairs)
+            drive.store(b"a", b"1", namespace=2)
+        found = self.check(path=spared)
+        self.assertEqual((found["verdict"], found["compared"], found["use"]["keys"]), ("whole", "yes", 61))
+        self.assertEqual(found["spare_blocks"], {"spares": 3, "used": []})
+        text = self.ctl("check", spared).decode()
+        self.assertIn("(shape 512 16 64, with 3 spare blocks, 0 of them used)", text)
+        self.assertNotIn("salvage", text)
+        lines = self.ctl("export", spared, "--namespace", "2")
+        self.assertIn(b"store 61 31\n", lines)
+        self.assertEqual(self.ctl("shell", spared, "--namespace", "2", "-e", "get a", "-e", "namespace 1", "-e", "get 001"), b"1\n1\nx\n")
+        self.ctl("salvage", spared, self.path("new.img"))
+        with Drive(self.path("new.img"), program=PROGRAM) as drive:
+            self.assertEqual(dict(drive.items_from()), pairs)
+        self.ctl("backup", spared, self.path("copy.img"))
+        self.assertEqual(self.bytes(self.path("copy.img")), self.bytes(spared))
+
+    def test_spare_blocks_that_are_used(self):
+        shape = layout.Shape(512, 16, 71)
+        blocks = layout.Shape(512, 16, 64)
+        used = struct.pack("<3H", 5, layout.FAILED_SPARE, 5)
+        head = layout.TABLE_HEAD.pack(layout.TABLE_TEXT, 2, 512, 16, 64, 5, 3, 0)
+        table = image.table_in(shape, 0, (head + used).ljust(512, b"\0"))
+        self.assertEqual((table.spares, table.used), (5, (5, layout.FAILED_SPARE, 5)))
+        homes = table.homes(blocks.blocks)
+        self.assertEqual((homes[4], homes[5], homes[6]), (4, 66, 6))
+        for wrong in (
+            layout.TABLE_HEAD.pack(layout.TABLE_TEXT, 5, 512, 16, 64, 5, 3, 0),  # more tables than blocks that were used
+            layout.TABLE_HEAD.pack(layout.TABLE_TEXT, 2, 512, 16, 63, 5, 3, 0),
+            layout.TABLE_HEAD.pack(layout.TABLE_TEXT, 2, 512, 16, 64, 5, 6, 0),
+            layout.TABLE_HEAD.pack(layout.TABLE_TEXT, 2, 512, 16, 64, 5, 3, 1),
+            layout.TABLE_HEAD.pack(b"PINKROOT", 2, 512, 16, 64, 5, 3, 0),
+        ):
+            self.assertIsNone(image.table_in(shape, 0, (wrong + used).ljust(512, b"\0")))
+        self.assertIsNone(image.table_in(shape, 0, (head + struct.pack("<3H", 5, 64, 5)).ljust(512, b"\0")))
+        self.assertIsNone(image.table_in(shape, 0, (head + used + b"\1").ljust(512, b"\0")))
+
+    @unittest.skipIf(os.geteuid(), "only root mounts a small disk")
+    def test_a_full_disk_of_memory(self):
+        place = self.path("small")
+        os.mkdir(place)
+        if subprocess.run(["mount", "-t", "tmpfs", "-o", "size=3m", "none", place], capture_output=True).returncode:
+            self.skipTest("a small disk cannot be mounted")
+        try:
+            make(os.path.join(place, "d.img"), 1024, 32, 256, program=PROGRAM)
+            with open(os.path.join(place, "rest"), "wb", buffering=0) as file:
+                with self.assertRaises(OSError):
+                    while True:
+                        file.write(bytes(4096))
+            for words in (["check"], ["backup", self.path("copy.img")]):
+                ran = subprocess.run([PINKCTL, words[0], os.path.join(place, "d.img"), *words[1:]], capture_output=True)
+                self.assertEqual(ran.returncode, 0, ran.stderr)
+        finally:
+            subprocess.run(["umount", place])
+
+    def test_a_file_that_becomes_shorter(self):
+        with open(self.image, "rb") as file:
+            data = image.FileBytes(file)
+            os.truncate(self.image, 1000)
+            self.assertEqual(len(data[:1000]), 1000)
+            with self.assertRaisesRegex(ToolError, "became shorter while it was read"):
+                data[900:1100]
 
     def test_a_version_that_is_not_known(self):
         self.store({b"a": b"1"})
@@ -254,7 +333,9 @@ class Check(OnImage):
         for root in flash.roots:
             self.change(self.place(root.page, 8), b"\x63")
         found = self.check(status=13)
-        self.assertIn("version 99", found["text"])
+        self.assertIn("version 99 of the format, and this program opens versions 2 and 3; docs/LIVING.md", found["text"])
+        self.ctl("salvage", self.image, self.path("new.img"), status=13)
+        self.assertIn("nothing was copied", self.said)
 
     def test_without_permission(self):
         os.chmod(self.folder, 0o755)
@@ -376,9 +457,17 @@ class ExportAndImport(OnImage):
         self.ctl("import", self.image, input=lines.encode(), status=3)
         self.assertIn("line 2: key b:", self.said)
         self.assertEqual(self.held(), {b"a": b"a", b"c": b"c"})
+        many = b"".join(b"store %04x %s\n" % (i, b"00" * (GREATEST + 1)) for i in range(30))
+        self.ctl("import", self.image, input=many, status=3)
+        told = self.said.splitlines()
+        self.assertEqual(sum("key 0x" in line for line in told), 10)
+        self.assertIn("import: 20 more were refused", told)
+        self.assertEqual(told[-1], "import: 0 stored, 0 there already, 30 refused")
 
     def test_making_the_image(self):
         new = self.path("new.img")
+        self.ctl("import", new, "--make", "512", "16", "64", input=b"store 61 61\nstroe\n", status=12)
+        self.assertFalse(os.path.exists(new))
         self.ctl("import", new, input=b"store 61 61\n", status=8)
         self.ctl("import", new, "--make", "512", "16", "21", input=b"store 61 61\n", status=2)
         self.assertIn("at least 22 are needed", self.said)
@@ -610,7 +699,7 @@ class Shell(OnImage):
 
     def test_commands(self):
         out = self.shell('set user:1 "two words\\n"', "get user:1", "has user:1", "length user:1", "add b 2", "list", "scan user", "del b user:1")
-        self.assertEqual(out, b'ok\ntwo words\nyes\n10\nok\nb\nuser:1\nuser:1 "two words\\n"\nok\n')
+        self.assertEqual(out, b'ok\n"two words\\n"\nyes\n10\nok\nb\nuser:1\nuser:1 "two words\\n"\nok\n')
         self.assertIn(b"limit 492\n", self.shell("stat"))
         self.assertIn(b"get KEY", self.shell("help"))
         self.shell("tick 3", "quit", "get nothing")
@@ -623,13 +712,14 @@ class Shell(OnImage):
         self.shell("get a", "set a 1", status=1)
         self.assertEqual(self.held(), {})
         self.shell("set a 1", "add a 2", status=3)
-        self.assertIn("KeyExists", self.said)
+        self.assertIn("the key a exists already (status 89h)", self.said)
         self.shell("set " + "k" * 17 + " 1", status=3)
-        for line in ("what", "get", "set a", "set a b c", "set 0x1 a", 'get "a', "get 'a'b", 'get "\\q"', "list a b", "set a < "):
+        self.assertEqual(self.said, f"a key has 1 to 16 bytes; {'k' * 17} has 17 (status 86h)\n")
+        for line in ("what", "get", "set a", "set a b c", "set 0x1 a", 'get "a', "get 'a'b", 'get "\\q"', "list a b", "set a < ", "namespace x"):
             self.shell(line, status=2)
 
     def test_a_script(self):
-        self.assertEqual(self.shell(input=b"# a comment\n\nset a 1\nget a\nget b\nset c 3\n", status=1), b"ok\n1")
+        self.assertEqual(self.shell(input=b"# a comment\n\nset a 1\nget a\nget b\nset c 3\n", status=1), b"ok\n1\n")
         self.assertIn("line 5: missing b", self.said)
         self.assertEqual(self.held(), {b"a": b"1"})
 
@@ -639,8 +729,9 @@ class Shell(OnImage):
             file.write(value)
         self.shell(f"set 0x00ff < '{self.path('a file')}'", f'get 0x00ff > "{self.path("out")}"')
         self.assertEqual(self.bytes(self.path("out")), value)
-        self.assertEqual(self.shell("get 0x00ff"), value)
-        self.assertEqual(self.shell("get 0x00ff", words=["--words"]).strip(), b"0x" + value.hex().encode())
+        self.assertEqual(self.shell("get 0x00ff", words=["--raw"]), value)
+        self.assertEqual(self.shell("get 0x00ff").strip(), b"0x" + value.hex().encode())
+        self.assertEqual(self.shell("set a 1", "get a", "get a", "del a"), b"ok\n1\n1\nok\n")
         self.shell("set a < /nowhere/file", status=11)
         self.assertEqual(self.held(), {b"\0\xff": value})
 
@@ -680,7 +771,19 @@ class Shell(OnImage):
             self.shell("list", status=6)
         self.change(STATES, b"\0\0")
         self.shell("list", status=8)
-        self.assertIn("pinkctl check", self.said)
+        self.assertIn("broken off before its root was written; remove it, and make it again", self.said)
+        self.assertNotIn("make(", self.said)
+        self.change(STATES, b"\1\3")
+        self.shell("list", status=8)
+        self.assertIn(f"the state of page 1 is 3; see pinkctl check {self.image}", self.said)
+
+    def test_namespaces(self):
+        os.remove(self.image)
+        make(self.image, *self.shape, program=PROGRAM, limits=(100, 392))
+        self.assertEqual(self.shell("set a 1", "namespace 2", "set a 2", "get a", "select 1", "get a", "namespace"), b"ok\n2\nok\n2\n1\n1\n1\n")
+        self.assertEqual(self.shell("get a", words=["--namespace", "2"]), b"2\n")
+        self.shell("namespace 3", status=3)
+        self.assertEqual(self.said, "the drive has no namespace 3 (status 0Bh)\n")
 
 
 class Namespaces(unittest.TestCase):
@@ -775,11 +878,18 @@ class Shapes(OnImage):
     def test_words(self):
         self.ctl("shapes", status=2)
         self.ctl("shapes", "--values", "9", "--bytes", "2000000", status=1)
+        self.assertIn("a value has at most 1,048,544 bytes, not 2,000,000", self.said)
+        self.ctl("shapes", "--values", "48000", "--bytes", "10", status=1)
+        self.assertIn("at most 47,820 values of 10 bytes fit a drive (make 2048 32 4096), not 48,000: use several drives", self.said)
+        self.assertEqual(self.ctl("shapes", "--values", "47820", "--bytes", "10").split()[:4], [b"make", b"2048", b"32", b"4096"])
         self.assertIn(b"2,016 bytes", self.ctl("shapes", "--shape", "512", "16", "64"))
         self.ctl("shapes", "--shape", "500", "16", "64", status=2)
 
 
 class TheWhole(OnImage):
+    def test_the_version(self):
+        self.assertRegex(self.ctl("--version").decode(), r"^pinkctl \(Cezhandru\), commit \S+, kit .+\n$")
+
     def test_help(self):
         parts = ("check", "export", "import", "backup", "salvage", "shell", "shapes")
         text = self.ctl("--help").decode()

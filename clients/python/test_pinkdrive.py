@@ -14,6 +14,7 @@ import tempfile
 import threading
 import time
 import unittest
+from unittest import mock
 import warnings
 
 HERE = os.path.dirname(os.path.abspath(__file__))
@@ -495,6 +496,46 @@ class Pages(OnImage):
             self.assertLess(time.monotonic() - began, 5)
             self.assertEqual((len(d), list(d)), (0, []))
 
+    def test_a_prefix(self):
+        with self.open() as d:
+            values = {b"%s:%04d" % (kind, i): b"%d" % i for kind in (b"job", b"user") for i in range(700)}
+            d.update(values)
+            users = {key: value for key, value in values.items() if key.startswith(b"user:")}
+            self.assertEqual(list(d.prefix(b"user:")), list(users.items()))
+            self.assertEqual(list(d.keys_from(b"user:0690", prefix=b"user:")), list(users)[690:])
+            self.assertEqual(list(d.keys_from(b"z", prefix=b"user:")), [])
+            self.assertEqual(list(d.keys_from(b"job:0698", prefix=b"job:")), [b"job:0698", b"job:0699"])
+            self.assertEqual([list(d.prefix(it)) for it in (b"none", b"user:0001x", b"v")], [[], [], []])
+            self.assertEqual(len(list(d.prefix(b""))), 1400)
+
+    def test_the_first(self):
+        with self.open() as d:
+            self.assertIsNone(d.first())
+            with self.assertRaises(KeyError):
+                d.popitem()
+            d.update({b"a" * 16: b"1", b"b": b"2", b"c": b""})
+            self.assertEqual(d.first(), (b"a" * 16, b"1"))
+            self.assertEqual(d.first(b"b"), (b"b", b"2"))
+            self.assertEqual(d.first(b"b\0"), (b"c", b""))
+            self.assertEqual(d.first(prefix=b"c"), (b"c", b""))
+            self.assertIsNone(d.first(prefix=b"ba"))
+            self.assertIsNone(d.first(b"d"))
+            self.assertEqual([d.popitem() for _ in range(3)], [(b"a" * 16, b"1"), (b"b", b"2"), (b"c", b"")])
+            self.assertEqual(len(d), 0)
+
+    def test_delete_many(self):
+        with self.open() as d:
+            d.update({b"%05d" % i: b"x" for i in range(5000)})
+            began = time.monotonic()
+            self.assertEqual(d.delete_many(b"%05d" % i for i in range(4000, 6000)), 1000)
+            self.assertEqual(d.delete_many(d.keys_from(b"00100")), 3900)
+            self.assertLess(time.monotonic() - began, 10)
+            self.assertEqual(list(d), [b"%05d" % i for i in range(100)])
+            self.assertEqual(d.delete_many([]), 0)
+            with self.assertRaises(pinkdrive.InvalidKeySize):
+                d.delete_many([b"00000", b"x" * 17])
+            self.assertNotIn(b"00000", d)
+
     def test_the_first_item_comes_alone(self):
         with self.open() as d:
             d.update({b"%04d" % i: bytes(60000) for i in range(1000)})
@@ -567,11 +608,11 @@ class Messages(OnImage):
             (lambda: Drive(self.image + "/no", program=PROGRAM), "there is no folder"),
             (lambda: make(folder + "/no/image", *SMALL, program=PROGRAM), "there is no folder"),
             (lambda: Drive(folder + "/no", program=PROGRAM), "there is no file"),
-            (lambda: Drive(junk, program=PROGRAM), "is no image of a drive (5 bytes)"),
+            (lambda: Drive(junk, program=PROGRAM), "junk (5 bytes) is no image of a drive"),
             (lambda: make(junk, *SMALL, program=PROGRAM), "remove it, or name another file"),
             (lambda: make(self.image, *SMALL, program=PROGRAM), "there is an image already: remove"),
-            (lambda: Drive(cut, program=PROGRAM), "has 300000 bytes, and should have 525344"),
-            (lambda: Drive(sized, program=PROGRAM), "see pinkctl check"),
+            (lambda: Drive(cut, program=PROGRAM), "has 300000 bytes, and by its head it should have 525344"),
+            (lambda: Drive(sized, program=PROGRAM), "was broken off before its root was written; remove it, and make it again"),
             (lambda: Drive(self.image, frames=16385, program=PROGRAM), "frames are 0 to 16384"),
             (lambda: make(junk + "2", 500, 16, 64, program=PROGRAM), "a page has 512, 1024,"),
             (lambda: make(junk + "2", 512, 12, 64, program=PROGRAM), "a block has 8, 16,"),
@@ -612,6 +653,66 @@ class Messages(OnImage):
         if "Permission denied" in run.stderr:
             self.skipTest("nobody cannot read this folder")
         self.assertIn("no permission to read and write", run.stdout)
+
+    def test_numbers_in_words(self):
+        with self.open() as d:
+            for call, text in [
+                (lambda: d.retrieve(b"a", -1), "a size or a count of steps is a number from 0 to 4294967295, not -1"),
+                (lambda: d.tick(-1), "not -1"),
+                (lambda: d.tick(2**32), "not 4294967296"),
+                (lambda: d.retrieve(b"a", namespace=-1), "a namespace is a number from 0 to 4294967295, not -1"),
+                (lambda: d.send(256), "a command is a number from 0 to 255, not 256"),
+            ]:
+                with self.assertRaises(ValueError) as caught:
+                    call()
+                self.assertIn(text, str(caught.exception))
+            with self.assertRaisesRegex(TypeError, "a namespace is a number from 0 to 4294967295, not 'x'"):
+                d.report(namespace="x")
+            d[b"a"] = b"1"  # the session goes on
+            self.assertEqual(d[b"a"], b"1")
+        with self.assertRaisesRegex(TypeError, "a namespace is a number"):
+            Drive(self.image, program=PROGRAM, namespace="x")
+        self.open().close()
+
+    def test_a_wrong_variable(self):
+        with mock.patch.dict(os.environ, {"PINK_SYNC": "yes"}):
+            self.assertIn("PINK_SYNC is in the environment and neither 0 nor 1", self.cause(self.open))
+            self.assertIn("PINK_SYNC", self.cause(lambda: make(self.image + "2", *SMALL, program=PROGRAM)))
+
+    def test_spare_blocks_that_were_not_named(self):
+        place = self.image + "3"
+        make(place, *SMALL, program=PROGRAM, spares=3)
+        self.assertEqual(
+            self.cause(lambda: Drive(place, program=PROGRAM)), f"status 8: {place} has 3 spare blocks; Drive({place!r}, spares=3)"
+        )
+        self.assertIn("has 3 spare blocks, not 4; Drive(", self.cause(lambda: Drive(place, program=PROGRAM, spares=4)))
+        self.assertIn("it was made without them", self.cause(lambda: Drive(self.image, program=PROGRAM, spares=3)))
+
+    def test_the_same_inode_of_another_device(self):
+        with self.open() as d:
+            with open("/proc/locks") as locks:
+                lines = locks.read()
+            self.assertEqual(pinkdrive.process_using(self.image), d.process.pid)
+            other = self.image + "4"
+            with open(other, "wb"):
+                pass
+            inode = os.stat(other).st_ino
+            line = f"9: FLOCK  ADVISORY  WRITE {os.getpid()} ff:ff:{inode} 0 EOF\n"
+            with mock.patch("builtins.open", mock.mock_open(read_data=lines + line)):
+                self.assertIsNone(pinkdrive.process_using(other))
+
+    def test_an_end_that_was_heard_is_no_warning(self):
+        with warnings.catch_warnings(record=True) as caught:
+            warnings.simplefilter("always")
+            d = self.open()
+            d.process.kill()
+            with self.assertRaises(DriveEnded):
+                d[b"a"]
+            session = d._session
+            del d
+            gc.collect()
+            session.close_and_warn()
+        self.assertEqual([str(it.message) for it in caught], [])
 
     def test_in_use(self):
         with self.open() as d:

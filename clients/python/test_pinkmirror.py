@@ -20,7 +20,7 @@ from pinkdrive import (
     KeyDoesNotExist,
     make,
 )
-from pinkmirror import LONGEST_VALUE, Mirror
+from pinkmirror import LONGEST_VALUE, FirstDriveEmpty, Mirror
 
 PROGRAM = os.environ.get("PINK_PROGRAM", pinkdrive.PROGRAM)
 SMALL = (512, 16, 64)
@@ -138,6 +138,39 @@ class Lost(OnPair):
             self.pair[b"b"] = b"two"
         self.assertEqual(caught.exception.status, 8)
 
+    def test_what_is_left_of_a_pair_is_not_emptied_by_a_new_first_drive(self):
+        self.pair[b"a"], self.pair[b"b"] = b"one", b"two"
+        os.remove(self.first)
+        with self.assertRaises(DriveEnded) as caught:
+            self.pair.resync()
+        text = str(caught.exception)
+        self.assertIn(f"the drive that is left is {self.second}, so name it first: make({self.first!r}, 512, 16, 64)", text)
+        self.assertIn(f"Mirror({self.second!r}, {self.first!r}).resync()", text)
+        make(self.first, *SMALL, program=PROGRAM)
+        calls = [
+            lambda: self.pair[b"a"],
+            lambda: list(self.pair),
+            lambda: self.pair.update({b"c": b""}),
+            lambda: self.pair.pop(b"a"),
+            lambda: self.pair.resync(),
+        ]
+        for call in calls:
+            with self.assertRaises(FirstDriveEmpty) as caught:
+                call()
+            self.assertEqual(caught.exception.status, 16)
+            self.assertIn(f"{self.second} has 2", str(caught.exception))
+        self.assertEqual(self.alone(self.second), {b"a": b"one", b"b": b"two"})
+        Mirror(self.second, self.first, program=PROGRAM).resync()
+        self.assertEqual(self.alone(self.first), {b"a": b"one", b"b": b"two"})
+        self.assertEqual(self.pair[b"a"], b"one")
+
+    def test_an_empty_first_drive_empties_the_second_on_purpose(self):
+        with Drive(self.second, program=PROGRAM) as drive:
+            drive[b"a"] = b"one"
+        self.pair.resync(from_empty=True)
+        self.assertEqual(self.alone(self.second), {})
+        self.assertEqual(dict(self.pair), {})
+
     def test_a_lost_second_image_is_read_from_the_first(self):
         self.pair[b"a"] = b"one"
         os.remove(self.second)
@@ -166,7 +199,7 @@ class Lost(OnPair):
             with self.assertRaises(DriveEnded) as caught:
                 self.pair[b"b"] = b"two"
             self.assertEqual(caught.exception.status, 8)
-            self.assertIn(f"{image} is no image of a drive", str(caught.exception))
+            self.assertIn(f"{image} (525344 bytes) is no image of a drive", str(caught.exception))
             self.assertEqual(self.pair[b"a"], b"one")
             self.assertEqual(self.pair.fallback, other)
             with open(image, "r+b") as file:

@@ -2,18 +2,44 @@
 
 import argparse
 import importlib
+import importlib.metadata
 import importlib.util
 import os
 import signal
+import subprocess
 import sys
 from collections.abc import Sequence
-from typing import Optional
+from typing import Any, Optional
 
-from .program import pinkdrive
+from .program import TOP, pinkdrive
 from .status import Exit, ToolError, table
 
 PARTS = ("check", "export", "load", "backup", "salvage", "shell", "shapes", "server")
 """The modules of the parts, in the order of the help."""
+
+
+class Version(argparse.Action):
+    """Prints the commit and the kit of the sources, or the version of the package where pip installed it."""
+
+    def __init__(self, **how: Any) -> None:
+        super().__init__(nargs=0, help="print the commit and the kit of the sources", **how)
+
+    def __call__(self, parser: argparse.ArgumentParser, *_: object) -> None:
+        print(version_text())
+        parser.exit()
+
+
+def version_text() -> str:
+    """The version, as the launchers of the same folder print it."""
+    launchers = os.path.join(TOP, "launch", "run.sh")
+    if os.path.isfile(launchers):
+        shell = 'top=$1; . "$top/launch/run.sh"; sources'
+        done = subprocess.run(["sh", "-c", shell, "sh", TOP], stdout=subprocess.PIPE, text=True, stdin=subprocess.DEVNULL)
+        return f"pinkctl {done.stdout.strip()}"
+    try:
+        return f"pinkctl (Cezhandru), version {importlib.metadata.version('pinkdrive')}"
+    except importlib.metadata.PackageNotFoundError:
+        return "pinkctl (Cezhandru), version unknown"
 
 
 def parser_of() -> argparse.ArgumentParser:
@@ -23,6 +49,7 @@ def parser_of() -> argparse.ArgumentParser:
         epilog=f"exit statuses of all parts:\n{table()}",
         formatter_class=argparse.RawDescriptionHelpFormatter,
     )
+    parser.add_argument("--version", action=Version)
     subparsers = parser.add_subparsers(title="parts", metavar="PART", dest="part", required=True)
     for name in PARTS:
         if importlib.util.find_spec(f"{__package__}.{name}"):
@@ -46,7 +73,7 @@ def guarded(args: argparse.Namespace) -> int:
     except ToolError as error:
         message, status = str(error), error.status
     except pinkdrive.DriveError as error:
-        message, status = told(error, args), drive_error(error)
+        message, status = told(error), drive_error(error)
     except KeyboardInterrupt:
         message, status = "interrupted", Exit.INTERRUPTED
     except BrokenPipeError:
@@ -58,11 +85,12 @@ def guarded(args: argparse.Namespace) -> int:
     return status
 
 
-def told(error: pinkdrive.DriveError, args: argparse.Namespace) -> str:
-    """The error in words, with a hint if there is one."""
-    if isinstance(error, pinkdrive.DriveEnded) and error.status == Exit.DAMAGED:
-        return f"{error}; pinkctl check {args.image} prints what is wrong"
-    return str(error)
+def told(error: pinkdrive.DriveError) -> str:
+    """The error in words, with a hint for a shell if there is one."""
+    if not isinstance(error, pinkdrive.DriveEnded):
+        return str(error)
+    tail = f"; {error.shell_hint}" if error.shell_hint else ""
+    return f"status {error.status}: {error.cause or error.name}{tail}"
 
 
 def end_on(signals: Sequence[signal.Signals]) -> None:

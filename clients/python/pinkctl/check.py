@@ -7,10 +7,11 @@ import os
 from typing import Any, BinaryIO, Optional
 
 from . import layout as it
+from .causes import Cause, Kind, fault_text, flash_cause, root_cause
 from .doubts import Doubt, doubts_of
 from .files import add_wait, locked
-from .image import Fault, Flash, Image, Key, NotAnImage, open_image, read_flash, unknown_versions
-from .keys import shown, shown_in
+from .image import Fault, Flash, Image, Key, NotAnImage, open_image, read_flash
+from .keys import shown
 from .program import dump_verdict
 from .status import Exit, ToolError
 
@@ -42,6 +43,7 @@ class Verdict:
     image: Optional[Image] = None
     flash: Optional[Flash] = None
     compared: str = "no"
+    unmade: bool = False
 
 
 def add_parser(subparsers: Any) -> None:
@@ -86,44 +88,36 @@ def check_open(file: BinaryIO) -> Verdict:
     try:
         image = open_image(file)
     except NotAnImage as wrong:
-        return Verdict("no drive", Exit.DAMAGED, f"{wrong} (byte {wrong.at})", at=wrong.at)
-    return judge(image, read_flash(image))
+        # Of an empty file the program says that there is no image.
+        at = wrong.at if os.fstat(file.fileno()).st_size else None
+        place = "" if at is None else f" (byte {at})"
+        return Verdict("no drive", Exit.DAMAGED, f"{wrong}{place}", at=at, unmade=wrong.unmade)
+    return judge(image, read_flash(image), file.name)
 
 
-def judge(image: Image, flash: Flash) -> Verdict:
+def judge(image: Image, flash: Flash, name: str) -> Verdict:
     """The verdict about an image that was read."""
     doubts = doubts_of(image, flash)
     found: dict[str, Any] = {"image": image, "flash": flash, "doubts": doubts}
-    if flash.root is None:
-        return judge_without_root(image, found)
+    cause = root_cause(image, name)
+    if cause:
+        return judge_without_root(image, cause, found)
     if flash.fault:
-        return Verdict("refused", Exit.DAMAGED, told(flash.fault), fault=flash.fault, **found)
+        return Verdict("refused", Exit.DAMAGED, fault_text(flash.fault), fault=flash.fault, **found)
     keys = counted(len(flash.map), "key")
     if doubts:
         return Verdict("doubtful", Exit.DOUBTFUL, f"it opens with {keys}, but {doubts[0].text}", **found)
     return Verdict("whole", Exit.OK, f"{keys}, {len(flash.taken):,} of {sum(flash.limits):,} pages for values", **found)
 
 
-def judge_without_root(image: Image, found: dict[str, Any]) -> Verdict:
-    versions = sorted(unknown_versions(image))
-    if versions:
-        names = " and ".join(map(str, versions))
-        known = ", ".join(map(str, it.RULES))
-        return Verdict("unknown", Exit.VERSION, f"its layout has version {names}; this pinkctl knows {known}", **found)
-    return Verdict("no drive", Exit.DAMAGED, "no page of the root blocks is a root: make did not end, or all roots are damaged", **found)
+def judge_without_root(image: Image, cause: Cause, found: dict[str, Any]) -> Verdict:
+    if cause.kind == Kind.VERSION:
+        return Verdict("unknown", Exit.VERSION, cause.text, **found)
+    return Verdict("no drive", Exit.DAMAGED, cause.text, unmade=cause.kind == Kind.UNMADE, **found)
 
 
 def counted(count: int, what: str) -> str:
     return f"{count:,} {what}" + "s" * (count != 1)
-
-
-def told(fault: Fault) -> str:
-    """A fault in a line: the page, its key, what it is, what is wrong."""
-    key = f" of the key {shown_in(*fault.key)}" if fault.key is not None else ""
-    text = f"page {fault.page} is wrong: {fault.part}{key}: {fault.why}"
-    if fault.keys:
-        text += f"; it names {counted(len(fault.keys), 'key')}, {shown_in(*min(fault.keys))} to {shown_in(*max(fault.keys))}"
-    return text
 
 
 # The program's verdict.
@@ -147,11 +141,12 @@ def compare(path: str, verdict: Verdict) -> None:
     line = expected(verdict)
     if line is None:
         return
-    told_line = dump_verdict(path)
+    told_line = dump_verdict(path, verdict.image.spares if verdict.image else 0)
     if told_line is None:
         verdict.compared = "no: pinkdump is not built"
     elif told_line.status not in (0, 8):
-        verdict.compared = f"no: pinkdump ended with status {told_line.status} (it needs the permission to write)"
+        cause = flash_cause(path) if told_line.status == 6 else None
+        verdict.compared = f"no: pinkdump ended with status {told_line.status}" + (f", {cause.text}" if cause else "")
     elif told_line.line == line:
         verdict.compared = "yes"
     else:
@@ -184,6 +179,12 @@ def limits_of(flash: Flash) -> dict[str, int]:
     }
 
 
+def spares_json(image: Image) -> dict[str, Any]:
+    """The spare blocks, and the block of the drive that each used one has."""
+    table = image.table
+    return {"spares": image.spares, "used": list(table.used) if table else []}
+
+
 def use_of(image: Image, flash: Flash) -> dict[str, int]:
     """What the drive holds, as far as it was read."""
     assert flash.root is not None
@@ -208,7 +209,9 @@ def as_text(path: str, verdict: Verdict, size: int, on_disk: int) -> list[str]:
     """The lines for people, the verdict first."""
     lines = [f"{verdict.name}: {verdict.text}"]
     lines += [f"  {'and' if n else 'because'}: {doubt.text}" for n, doubt in enumerate(doubts_told(verdict))]
-    if verdict.status in (Exit.DAMAGED, Exit.DOUBTFUL) and verdict.flash:
+    if verdict.unmade:
+        lines.append(f"  it never held a key: remove {path}, and make it again")
+    elif verdict.status in (Exit.DAMAGED, Exit.DOUBTFUL) and verdict.flash:
         lines.append(f"  to copy what reads into a new image: pinkctl salvage {path} NEW")
     flash = verdict.flash
     if flash:
@@ -216,7 +219,7 @@ def as_text(path: str, verdict: Verdict, size: int, on_disk: int) -> list[str]:
         lines.append(
             f"limits: keys of 1 to {limits['key_bytes']} bytes, values of at most {limits['value_bytes']:,} bytes, "
             f"{limits['value_pages']:,} pages of {limits['page_bytes']:,} bytes for values "
-            f"(shape {flash.layout.shape})"
+            f"(shape {flash.layout.shape}{spares_text(verdict.image)})"
         )
     if flash and flash.root and verdict.image:
         lines += use_text(use_of(verdict.image, flash), flash)
@@ -224,6 +227,13 @@ def as_text(path: str, verdict: Verdict, size: int, on_disk: int) -> list[str]:
         lines.append(f"sizes: the file has {size:,} bytes, of which {on_disk:,} are taken on the disk")
     lines.append(f"compared with pinkdump: {verdict.compared}")
     return lines
+
+
+def spares_text(image: Optional[Image]) -> str:
+    """The spare blocks of a drive that has some."""
+    if image is None or image.table is None:
+        return ""
+    return f", with {counted(image.spares, 'spare block')}, {len(image.table.used)} of them used"
 
 
 def doubts_told(verdict: Verdict) -> list[Doubt]:
@@ -284,6 +294,8 @@ def as_json(path: str, verdict: Verdict, size: int, on_disk: int) -> dict[str, A
         found["fault"] = {"page": fault.page, "part": fault.part, "why": fault.why, "key": key_json(fault.key), "keys": keys}
     if flash:
         found["limits"] = limits_of(flash)
+    if verdict.image:
+        found["spare_blocks"] = spares_json(verdict.image)
     if flash and flash.root and verdict.image:
         found["use"] = use_of(verdict.image, flash)
         found["namespaces"] = spaces_of(flash)

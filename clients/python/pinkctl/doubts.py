@@ -246,13 +246,11 @@ def other_commits(image: Image, flash: Flash, root: Root) -> Iterator[Doubt]:
 
 def whole_pages_with(image: Image, text: bytes) -> Iterator[int]:
     """The Whole pages after the root blocks that begin with this text."""
-    size = image.shape.page_bytes
-    at = image.first + it.ROOT_BLOCKS * image.shape.block_pages * size
-    while (at := image.data.find(text, at)) >= 0:
-        page, within = divmod(at - image.first, size)
-        if not within and image.states[page] == WHOLE:
+    page = it.ROOT_BLOCKS * image.shape.block_pages
+    while (page := image.states.find(WHOLE, page)) >= 0:
+        if image.head(page, len(text)) == text:
             yield page
-        at += 1
+        page += 1
 
 
 def run_ends(image: Image, flash: Flash, root: Root) -> Iterator[Doubt]:

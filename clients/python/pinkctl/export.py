@@ -105,5 +105,5 @@ def run(args: argparse.Namespace) -> int:
             with NewFile(args.output, args.force) as new:
                 count = write_pairs(drive, args, new.file)
                 new.keep()
-    progress.say(args, f"export: {count:,} pairs")
+    progress.say(args, f"export: {count:,} pair{'s' * (count != 1)}")
     return 0

@@ -4,13 +4,13 @@ import argparse
 import contextlib
 import fcntl
 import os
-import re
 import sys
 import tempfile
 import time
 from collections.abc import Iterator
-from typing import BinaryIO, Optional
+from typing import BinaryIO
 
+from .causes import process_using, use_cause
 from .status import Exit, ToolError
 
 POLL_SECONDS = 0.1
@@ -25,11 +25,11 @@ def cause(path: str, error: OSError) -> str:
     """A failure of the system in words, with what to look at."""
     folder = os.path.dirname(os.path.abspath(path))
     if isinstance(error, FileNotFoundError):
-        return f"{path}: there is no such file" if os.path.isdir(folder) else f"{path}: there is no folder {folder}"
+        return f"there is no file {path}" if os.path.isdir(folder) else f"there is no folder {os.path.dirname(path)}"
     if isinstance(error, PermissionError):
-        return f"{path}: no permission"
+        return f"no permission for {path}"
     if isinstance(error, IsADirectoryError):
-        return f"{path}: it is a folder"
+        return f"{path} is a folder"
     return f"{path}: {error.strerror or error}"
 
 
@@ -47,24 +47,9 @@ def open_read(path: str) -> BinaryIO:
         raise file_error(path, error) from None
 
 
-def holder_of(file: BinaryIO) -> Optional[int]:
-    """The process that has a file locked, as the system lists it."""
-    inode = os.fstat(file.fileno()).st_ino
-    try:
-        with open("/proc/locks", encoding="ascii") as locks:
-            for line in locks:
-                found = re.match(rf"\d+: FLOCK +\S+ +WRITE +(\d+) +\S+:{inode} ", line)
-                if found:
-                    return int(found[1])
-    except OSError:
-        pass
-    return None
-
-
-def in_use(path: str, file: BinaryIO) -> ToolError:
-    pid = holder_of(file)
-    who = f"by process {pid}" if pid else "by another process"
-    return ToolError(f"{path}: the image is in use {who}; --wait SECONDS waits for it", Exit.IN_USE)
+def in_use(path: str) -> ToolError:
+    found = use_cause(path)
+    return ToolError(f"{found.text if found else f'{path} is in use'}; --wait SECONDS waits for it", Exit.IN_USE)
 
 
 @contextlib.contextmanager
@@ -79,9 +64,9 @@ def locked(path: str, wait: float = 0) -> Iterator[BinaryIO]:
             except BlockingIOError:
                 left = end - time.monotonic()
                 if left <= 0:
-                    raise in_use(path, file) from None
+                    raise in_use(path) from None
                 if not said:
-                    print(f"waiting for {path}, which is in use by process {holder_of(file)}", file=sys.stderr)
+                    print(f"waiting for {path}, which is in use by process {process_using(path)}", file=sys.stderr)
                     said = True
                 time.sleep(min(POLL_SECONDS, left))
             except OSError as error:
@@ -89,7 +74,7 @@ def locked(path: str, wait: float = 0) -> Iterator[BinaryIO]:
         try:
             yield file
         finally:
-            fcntl.flock(file, fcntl.LOCK_UN)  # a mapping of the file would keep the lock
+            fcntl.flock(file, fcntl.LOCK_UN)
 
 
 def refuse_existing(path: str, force: bool) -> None:

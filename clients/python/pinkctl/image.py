@@ -5,7 +5,6 @@ gives the map, or the first page that is wrong, exactly as the program does.
 """
 
 import dataclasses
-import mmap
 import os
 import struct
 from collections.abc import Iterator, Sequence
@@ -15,7 +14,30 @@ from . import layout as it
 from .layout import ERASED, GONE, PUT, TORN, WHOLE, Layout, Shape, shape_fault
 from .status import Exit, ToolError
 
-Buffer = Union[bytes, bytearray, mmap.mmap]
+
+
+class FileBytes:
+    """The bytes of an open file, read when they are asked for: of a mapped file a page that the disk has no room for ends the process."""
+
+    def __init__(self, file: BinaryIO) -> None:
+        self.file = file
+        self.size = os.fstat(file.fileno()).st_size
+
+    def __len__(self) -> int:
+        return self.size
+
+    def __getitem__(self, part: slice) -> bytes:
+        at, end, _ = part.indices(self.size)
+        data = os.pread(self.file.fileno(), max(0, end - at), at)
+        while len(data) < end - at:
+            more = os.pread(self.file.fileno(), end - at - len(data), at + len(data))
+            if not more:
+                raise ToolError(f"{self.file.name}: it became shorter while it was read", Exit.FILE)
+            data += more
+        return data
+
+
+Buffer = Union[bytes, bytearray, FileBytes]
 
 
 class Place(NamedTuple):
@@ -78,83 +100,161 @@ class Damaged(Exception):
 
 
 class NotAnImage(Exception):
-    """The file is no image: the first wrong byte, and what is wrong in words."""
+    """The file is no image: the first wrong byte, what is wrong in words, and whether something else is in it or its making was broken off."""
 
-    def __init__(self, at: int, why: str) -> None:
+    def __init__(self, at: int, why: str, foreign: bool = False, unmade: bool = False) -> None:
         super().__init__(why)
         self.at = at
+        self.foreign = foreign
+        self.unmade = unmade
+
+
+class Table(NamedTuple):
+    """The newest table of spare blocks: the block of the drive that each used one has."""
+
+    page: int
+    number: int
+    spares: int
+    used: tuple[int, ...]
+
+    def homes(self, blocks: int) -> list[int]:
+        """The block of the file that each of the drive's blocks has."""
+        homes = list(range(blocks))
+        for spare, block in enumerate(self.used):
+            if block != it.FAILED_SPARE:
+                homes[block] = blocks + spare
+        return homes
 
 
 @dataclasses.dataclass
 class Image:
-    """The bytes of an image file with its shape."""
+    """The bytes of an image file with the shape of its drive, and the table of its spare blocks, if it has some.
+
+    `file_states` are the states of all pages of the file, where they are not those that it has.
+    """
 
     shape: Shape
     data: Buffer
+    table: Optional[Table] = None
+    file_states: bytes = b""
 
     def __post_init__(self) -> None:
-        self.first = it.HEADER_BYTES + self.shape.pages
-        self.states = self.data[it.HEADER_BYTES : self.first]
+        pages = self.file_shape.pages
+        self.first = it.HEADER_BYTES + pages
+        self.homes = self.table.homes(self.shape.blocks) if self.table else None
+        self.file_states = self.file_states or bytes(self.data[it.HEADER_BYTES : self.first])
+        self.states = self.file_states
+        if self.homes is not None:
+            n = self.shape.block_pages
+            self.states = b"".join(self.file_states[home * n : home * n + n] for home in self.homes)
+
+    @property
+    def spares(self) -> int:
+        """The number of spare blocks."""
+        return self.table.spares if self.table else 0
+
+    @property
+    def file_shape(self) -> Shape:
+        """The shape that the header of the file names: with the spare blocks and their tables."""
+        more = self.table.spares + it.TABLE_BLOCKS if self.table else 0
+        return dataclasses.replace(self.shape, blocks=self.shape.blocks + more)
+
+    def pages(self, first: int, count: int) -> bytes:
+        """The bytes of pages that follow each other in a block."""
+        size = self.shape.page_bytes
+        at = self.place_of(first)
+        return self.data[at : at + count * size]
 
     def page(self, page: int) -> bytes:
         """The bytes of a page, whatever its state."""
-        size = self.shape.page_bytes
-        at = self.first + page * size
-        return self.data[at : at + size]
+        return self.pages(page, 1)
 
-    def pages(self, first: int, count: int) -> bytes:
-        size = self.shape.page_bytes
-        at = self.first + first * size
-        return self.data[at : at + count * size]
+    def head(self, page: int, count: int) -> bytes:
+        """The first bytes of a page."""
+        at = self.place_of(page)
+        return self.data[at : at + count]
+
+    def place_of(self, page: int) -> int:
+        """Where a page of the drive begins in the file."""
+        if self.homes is not None:
+            block, within = divmod(page, self.shape.block_pages)
+            page = self.homes[block] * self.shape.block_pages + within
+        return self.first + page * self.shape.page_bytes
 
     def whole(self, page: int) -> Optional[bytes]:
         """The bytes of a page that is Whole, else None."""
         return self.page(page) if self.states[page] == WHOLE else None
 
-    def place_of(self, at: int) -> str:
-        """What a byte of the file belongs to, in words."""
-        if at < it.HEADER_BYTES:
-            return "the header"
-        if at < self.first:
-            return f"the state of page {at - it.HEADER_BYTES}"
-        return f"page {(at - self.first) // self.shape.page_bytes}"
-
 
 STATE_NAMES = {ERASED: "erased", WHOLE: "whole", TORN: "torn"}
 
 
-def load_image(data: Buffer) -> Image:
+def load_image(data: Buffer, name: str = "the file") -> Image:
     """The image of these bytes of a file, or `NotAnImage` at the byte that the program names."""
+    if not len(data):
+        raise NotAnImage(0, f"the making of {name} was broken off before it had a length", unmade=True)
     if len(data) < it.HEADER_BYTES:
-        raise NotAnImage(len(data), f"the file has {len(data)} bytes, fewer than a header")
-    text, page_bytes, block_pages, blocks, zeros = it.IMAGE_HEADER.unpack_from(data)
-    if text != it.IMAGE_TEXT:
-        raise NotAnImage(0, "the file does not begin with PINKIMG1: it is not an image of a drive")
+        raise NotAnImage(len(data), f"{name} ({len(data)} bytes) is no image of a drive", foreign=True)
+    text, page_bytes, block_pages, blocks, zeros = it.IMAGE_HEADER.unpack(data[: it.HEADER_BYTES])
     shape = Shape(page_bytes, block_pages, blocks)
+    if text == bytes(8) and shape_fault(shape) is None and len(data) == shape.file_bytes:
+        raise NotAnImage(0, f"the making of {name} was broken off before its head had its text", unmade=True)
+    if text != it.IMAGE_TEXT:
+        raise NotAnImage(0, f"{name} ({len(data)} bytes) is no image of a drive", foreign=True)
     fault = shape_fault(shape)
     if fault:
-        raise NotAnImage(8, f"the header names {fault}")
+        raise NotAnImage(8, f"the head of {name} is damaged: {fault}")
     if zeros.strip(b"\0"):
-        raise NotAnImage(20, "the header has bytes other than 0 at its end")
+        raise NotAnImage(20, f"the head of {name} is damaged: it has bytes other than 0 at its end")
     if len(data) != shape.file_bytes:
-        raise NotAnImage(
-            it.HEADER_BYTES,
-            f"the file has {len(data):,} bytes, and a drive of shape {shape} has {shape.file_bytes:,}",
-        )
+        raise NotAnImage(it.HEADER_BYTES, f"{name} has {len(data)} bytes, and by its head it should have {shape.file_bytes}")
     image = Image(shape, data)
     wrong = image.states.strip(bytes((ERASED, WHOLE, TORN)))
     if wrong:
         at = next(i for i, state in enumerate(image.states) if state > TORN)
-        raise NotAnImage(it.HEADER_BYTES + at, f"the state of page {at} is {image.states[at]}")
-    return image
+        raise NotAnImage(it.HEADER_BYTES + at, f"{name} is damaged: the state of page {at} is {image.states[at]}")
+    return with_spares(image)
 
 
 def open_image(file: BinaryIO) -> Image:
     """The image of an open file."""
-    size = os.fstat(file.fileno()).st_size
-    if not size:
-        raise ToolError(f"{file.name}: the file is empty: there is no drive in it", Exit.DAMAGED)
-    return load_image(mmap.mmap(file.fileno(), 0, access=mmap.ACCESS_READ))
+    return load_image(FileBytes(file), file.name)
+
+
+# Spare blocks.
+
+
+def table_in(shape: Shape, page: int, data: bytes) -> Optional[Table]:
+    """The table of spare blocks of a page, or None outside the grammar; the shape is the file's."""
+    text, number, p, n, m, spares, used, zero = it.TABLE_HEAD.unpack_from(data)
+    end = it.TABLE_HEAD.size + 2 * used
+    drive = Shape(p, n, m)
+    if text != it.TABLE_TEXT or zero or drive != dataclasses.replace(shape, blocks=shape.blocks - spares - it.TABLE_BLOCKS):
+        return None
+    if not 1 <= spares <= it.MOST_SPARES or not number - 1 <= used <= spares or not number:
+        return None
+    if shape_fault(drive) or end > len(data) or not zeros_from(data, end):
+        return None
+    homes = struct.unpack_from(f"<{used}H", data, it.TABLE_HEAD.size)
+    return Table(page, number, spares, homes) if all(home < m or home == it.FAILED_SPARE for home in homes) else None
+
+
+def newest_table(image: Image) -> Optional[Table]:
+    """The newest table in the last two blocks of a file; None if it has none."""
+    shape = image.shape
+    first = max(0, shape.blocks - it.TABLE_BLOCKS) * shape.block_pages
+    pages = ((page, image.whole(page)) for page in range(first, shape.pages))
+    tables = [table_in(shape, page, data) for page, data in pages if data is not None]
+    return max(filter(None, tables), key=lambda table: (table.number, -table.page), default=None)
+
+
+def with_spares(image: Image) -> Image:
+    """The drive of an image: one that has no root of the file's shape may have spare blocks, and is smaller than its file then."""
+    table = None if roots_of(image) else newest_table(image)
+    if table is None:
+        return image
+    shape = dataclasses.replace(image.shape, blocks=image.shape.blocks - table.spares - it.TABLE_BLOCKS)
+    return Image(shape, image.data, table, image.file_states)
 
 
 # Grammars of pages and entries.
@@ -522,15 +622,22 @@ def value_of(image: Image, layout: Layout, place: Place) -> bytes:
     return data[it.HEAD_BYTES : it.HEAD_BYTES + place.length]
 
 
+def versions_named(image: Image) -> list[int]:
+    """The versions of the layout that the Whole root pages name."""
+    pages = (image.whole(page) for page in Layout(image.shape).root_pages)
+    versions = (root_version(data) for data in pages if data is not None)
+    return [version for version in versions if version is not None]
+
+
 def unknown_versions(image: Image) -> set[int]:
     """The versions of the layout that Whole root pages name and this reader does not know."""
-    found = set()
-    for page in Layout(image.shape).root_pages:
-        data = image.whole(page)
-        version = root_version(data) if data is not None else None
-        if version is not None and version not in it.RULES:
-            found.add(version)
-    return found
+    return set(versions_named(image)) - set(it.RULES)
+
+
+def is_of_one_version(image: Image) -> bool:
+    """Whether several root pages agree on their version, so that it is not a damaged byte."""
+    named = versions_named(image)
+    return len(named) > 1 and len(set(named)) == 1
 
 
 def read_flash(image: Image) -> Flash:

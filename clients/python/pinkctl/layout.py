@@ -27,6 +27,12 @@ MOST_BLOCKS = 4096
 MOST_FLASH_BYTES = 2**28
 ROOT_LIST_FROM = 64
 """Where the list of blocks begins in a root page, or the limits before it."""
+MOST_SPARES = 64
+"""The most spare blocks of a drive."""
+TABLE_BLOCKS = 2
+"""The blocks of tables that a drive with spare blocks has."""
+FAILED_SPARE = 0xFFFF
+"""In a table: the spare block failed."""
 LIMIT_BYTES = 4 * NAMESPACES
 """Bytes of the limits in a root page that has them."""
 ERASED, WHOLE, TORN = 0, 1, 2
@@ -37,6 +43,7 @@ VALUE_TEXT = b"PINKDATA"
 JOURNAL_TEXT = b"PINKJRNL"
 META_TEXT = b"PINKMETA"
 ROOT_TEXT = b"PINKROOT"
+TABLE_TEXT = b"PINKSPAR"
 VALUE_MARK = 0x44
 
 IMAGE_HEADER = struct.Struct("<8sIII12s")
@@ -51,6 +58,9 @@ META_HEAD = struct.Struct("<8sBBHI16s")
 """Text, level, zero, count of entries, index of the page, zeros."""
 ROOT_HEAD = struct.Struct("<8sHHIHHIQQ4I8s")
 """Text, version, N, P, M, journal blocks, namespaces, number, epoch, entries of runs 1 to 4, zeros."""
+
+TABLE_HEAD = struct.Struct("<8sQIHHHHI")
+"""Text, number, P, N, M of the drive, spare blocks, used ones, zero."""
 
 
 @dataclasses.dataclass(frozen=True)

@@ -6,7 +6,9 @@ import binascii
 import collections
 import json
 import os
+import shutil
 import sys
+import tempfile
 from collections.abc import Iterator
 from typing import Any, BinaryIO, NamedTuple, Optional
 
@@ -15,13 +17,14 @@ from .export import END, HEAD, Pair
 from .files import add_wait
 from .keys import shown as shown_key
 from .layout import KEY_BYTES, Layout, Shape, shape_fault
-from .program import make_image, open_drive, pinkdrive
+from .program import make_image, open_drive, pinkdrive, refusal
 from .status import Exit, ToolError
 
 DESCRIPTION = """\
 Stores the pairs of an export in a drive: lines `store KEY VALUE` as asm reads them, or lines of
 JSON, also mixed. Empty lines and lines that begin with # are skipped. If a line of a FILE is wrong,
-nothing is stored; if a line of standard input is wrong, the lines before it are stored.
+nothing is made or stored, nor with --make if a line of standard input is wrong; without it the lines
+of standard input before the wrong one are stored.
 
 A key that exists with the same value is not changed, so an import that was interrupted can be
 repeated. A key that exists with another value is not changed either, and counts as refused (status
@@ -32,6 +35,8 @@ LINE_BYTES = 2_200_000
 WINDOW_PAIRS = 2000
 WINDOW_BYTES = 8 << 20
 """This much is sent before the answers are read."""
+REFUSALS_TOLD = 10
+"""Refusals that are printed, the first ones; the others are counted."""
 IF_ABSENT = 2
 """The option of a Store that is to be refused if the key exists."""
 
@@ -190,15 +195,22 @@ class Import:
             else:
                 self.refuse(sent, "the key exists with another value", Exit.EXISTS)
         except pinkdrive.StatusError as error:
-            self.refuse(sent, str(error), Exit.REFUSED)
+            self.refuse(sent, refusal(error), Exit.REFUSED)
 
     def refuse(self, sent: Sent, why: str, status: Exit) -> None:
         self.counts["refused"] += 1
         self.status = max(self.status, status)
-        self.refusals.append(f"line {sent.line}: key {shown_key(sent.pair.key)}: {why}")
+        if len(self.refusals) < REFUSALS_TOLD:
+            self.refusals.append(f"line {sent.line}: key {shown_key(sent.pair.key)}: {why}")
 
 
-def open_lines(path: str) -> BinaryIO:
+def open_lines(path: str, seekable: bool) -> BinaryIO:
+    """The lines; those of standard input in a file without a name if they are to be read twice."""
+    if path == "-" and seekable:
+        kept = tempfile.TemporaryFile()
+        shutil.copyfileobj(sys.stdin.buffer, kept)
+        kept.seek(0)
+        return kept
     if path == "-":
         return sys.stdin.buffer
     try:
@@ -209,12 +221,12 @@ def open_lines(path: str) -> BinaryIO:
 
 def rehearse(args: argparse.Namespace, lines: BinaryIO) -> Optional[int]:
     """Reads all lines of a file before anything is stored; answers how many pairs it has."""
-    if args.input == "-" and not args.dry_run:
+    if args.input == "-" and not args.dry_run and not args.make:
         return None
     with progress.Progress("import: lines read", None, progress.shown(args)) as shown:
         for _ in pairs_in(lines):
             shown.add()
-    if args.input != "-":
+    if not args.dry_run:
         lines.seek(0)
     return shown.count
 
@@ -242,18 +254,21 @@ def store_all(args: argparse.Namespace, lines: BinaryIO, total: Optional[int]) -
 
 
 def run(args: argparse.Namespace) -> int:
-    lines = open_lines(args.input)
+    lines = open_lines(args.input, seekable=bool(args.make))
     total = rehearse(args, lines)
     if args.dry_run:
         print(f"{total:,} pairs")
         return Exit.OK
     if not args.make and not os.path.exists(args.image):
-        raise ToolError(f"{args.image}: there is no such file; --make P N M makes a drive", Exit.DAMAGED)
+        raise ToolError(f"there is no file {args.image}; --make P N M makes a drive", Exit.DAMAGED)
     if args.make:
         make_first(args)
     running = store_all(args, lines, total)
     for line in running.refusals:
         print(f"import: {line}", file=sys.stderr)
+    others = running.counts["refused"] - len(running.refusals)
+    if others:
+        print(f"import: {others:,} more were refused", file=sys.stderr)
     counts = ", ".join(f"{running.counts[name]:,} {name}" for name in ("stored", "there already", "refused"))
     progress.say(args, f"import: {counts}")
     return running.status

@@ -14,7 +14,9 @@ if CLIENTS not in sys.path:
 
 import pinkdrive
 
+from .causes import spares_of
 from .files import cause, locked
+from .keys import shown
 from .status import Exit, ToolError
 
 
@@ -24,7 +26,7 @@ def pink() -> str:
 
 
 def open_drive(image: str, frames: int = 148, wait: float = 0, namespace: int = 1) -> pinkdrive.Drive:
-    """A session of the drive in an image, for a namespace; what keeps it from opening is raised with its cause.
+    """A session of the drive in an image, with its spare blocks, for a namespace; what keeps it from opening is raised with its cause.
 
     What the launcher says is not shown: the exception says it.
     """
@@ -35,9 +37,16 @@ def open_drive(image: str, frames: int = 148, wait: float = 0, namespace: int = 
     except OSError as error:
         raise ToolError(f"{cause(image, error)} to write, which the program needs to open it", Exit.FILE) from None
     try:
-        return pinkdrive.Drive(image, frames=frames, program=pink(), stderr=subprocess.DEVNULL, namespace=namespace)
+        return pinkdrive.Drive(
+            image, frames=frames, program=pink(), stderr=subprocess.DEVNULL, spares=spares_of(image), namespace=namespace
+        )
     except OSError as error:
         raise not_started(error) from None
+
+
+def refusal(error: pinkdrive.StatusError) -> str:
+    """A refusal of the drive in words, with its key as people type it."""
+    return str(error).replace(repr(error.key), shown(error.key))
 
 
 def not_started(error: OSError) -> ToolError:
@@ -61,6 +70,10 @@ def pinkdump() -> Optional[str]:
     return built if os.access(built, os.X_OK) else shutil.which("pinkdump")
 
 
+SPARE_LINES = ("spares ", "table ", "spare ")
+"""How the lines begin that pinkdump prints of spare blocks, after the verdict."""
+
+
 class Told(NamedTuple):
     """What pinkdump says of an image: its status, the last line, or the line of its refusal."""
 
@@ -68,11 +81,12 @@ class Told(NamedTuple):
     line: str
 
 
-def dump_verdict(image: str) -> Optional[Told]:
-    """The verdict of pinkdump about an image; None if it is not built."""
+def dump_verdict(image: str, spares: int = 0) -> Optional[Told]:
+    """The verdict of pinkdump about an image with this many spare blocks; None if it is not built."""
     program = pinkdump()
     if program is None:
         return None
-    done = subprocess.run([program, image, "lines"], capture_output=True, text=True, stdin=subprocess.DEVNULL)
-    lines = (done.stdout or done.stderr).splitlines()
+    words = [program, image, *pinkdrive.spared(spares, ["lines"])]
+    done = subprocess.run(words, capture_output=True, text=True, stdin=subprocess.DEVNULL)
+    lines = [line for line in (done.stdout or done.stderr).splitlines() if not line.startswith(SPARE_LINES)]
     return Told(done.returncode, lines[-1] if lines else "")

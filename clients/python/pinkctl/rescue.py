@@ -32,6 +32,7 @@ from .image import (
     root_in,
     roots_of,
     value_of,
+    with_spares,
 )
 from .layout import TORN, WHOLE, Layout, Shape, shape_fault
 
@@ -104,9 +105,8 @@ def shape_in(data: Buffer) -> Optional[Shape]:
 def forced(data: Buffer, shape: Shape) -> Image:
     """A file as an image of a shape: cut or filled to its length, states that are none as Torn."""
     whole = data[: shape.file_bytes].ljust(shape.file_bytes, b"\0")
-    image = Image(shape, whole)
-    image.states = image.states.translate(bytes((0, 1)) + bytes([TORN]) * 254)
-    return image
+    states = whole[it.HEADER_BYTES : it.HEADER_BYTES + shape.pages].translate(bytes((0, 1)) + bytes([TORN]) * 254)
+    return with_spares(Image(shape, whole, file_states=states))
 
 
 def image_of(data: Buffer) -> tuple[Optional[Image], Optional[str]]:

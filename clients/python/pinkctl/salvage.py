@@ -7,9 +7,10 @@ import os
 from typing import Any, Optional, TextIO
 
 from . import progress
+from .causes import Kind, root_cause
 from .check import check_file, counted
 from .files import add_wait, file_error, locked
-from .image import Key
+from .image import Image, Key, is_of_one_version
 from .keys import shown, shown_in
 from .layout import Layout, Shape, shape_fault
 from .program import make_image, open_drive, pinkdrive
@@ -50,7 +51,15 @@ def read_image(path: str, wait: float) -> Rescue:
     rescue = rescue_image(data)
     if rescue is None:
         raise ToolError(f"{path}: no shape of a drive fits this file: nothing can be read of it", Exit.DAMAGED)
+    refuse_version(rescue.image, path)
     return rescue
+
+
+def refuse_version(image: Image, path: str) -> None:
+    """Raises if the image has another version of the format: what is no damage is not repaired."""
+    cause = root_cause(image, path)
+    if cause and cause.kind == Kind.VERSION and is_of_one_version(image):
+        raise ToolError(f"{cause.text}; nothing was copied", Exit.VERSION)
 
 
 def in_order(rescue: Rescue, sure_only: bool) -> list[Saved]:

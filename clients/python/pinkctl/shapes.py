@@ -1,15 +1,19 @@
 """shapes: which shapes hold a number of values of a length, and what a shape holds."""
 
 import argparse
+import itertools
 from collections.abc import Iterator
 from typing import Any, NamedTuple
 
-from .layout import BLOCK_PAGES, MOST_BLOCKS, PAGE_BYTES, Layout, Shape, shape_fault
+from .layout import BLOCK_PAGES, HEAD_BYTES, MOST_BLOCKS, MOST_FLASH_BYTES, PAGE_BYTES, Layout, Shape, shape_fault
 from .status import Exit, ToolError
 
 DESCRIPTION = """\
 Prints the smallest images that hold COUNT values of BYTES bytes, smallest first, for `pink IMAGE
 make P N M`. A value takes whole pairs of pages with a head of 32 bytes. With --shape it prints what a shape holds."""
+
+GREATEST_VALUE = max(BLOCK_PAGES) // 4 * max(PAGE_BYTES) - HEAD_BYTES
+"""The most bytes of a value, of any shape."""
 
 
 def add_parser(subparsers: Any) -> None:
@@ -56,6 +60,30 @@ def fits(count: int, length: int) -> list[Fit]:
     return sorted(fit for p in PAGE_BYTES for n in BLOCK_PAGES for fit in least_blocks(p, n, count, length))
 
 
+def most_values(length: int) -> Fit:
+    """The shape that holds the most values of a length."""
+    shapes = (Shape(p, n, m) for p in PAGE_BYTES for n in BLOCK_PAGES for m in most_blocks(p, n))
+    return max((Fit(it.file_bytes, it, held(Layout(it), length)) for it in shapes), key=lambda fit: (fit.values, -fit.file_bytes))
+
+
+def most_blocks(page_bytes: int, block_pages: int) -> Iterator[int]:
+    """The greatest number of blocks that these pages and blocks allow, if there is one."""
+    most = min(MOST_BLOCKS, MOST_FLASH_BYTES // (page_bytes * block_pages))
+    allowed = (m for m in range(most, 0, -1) if shape_fault(Shape(page_bytes, block_pages, m)) is None)
+    yield from itertools.islice(allowed, 1)
+
+
+def too_many(count: int, length: int) -> str:
+    """Which limit keeps a drive from holding so many values of a length."""
+    if length > GREATEST_VALUE:
+        return f"a value has at most {GREATEST_VALUE:,} bytes, not {length:,}"
+    best = most_values(length)
+    return (
+        f"at most {best.values:,} values of {length:,} bytes fit a drive (make {best.shape}), not {count:,}: "
+        f"use several drives, each key on the one that a hash of it names, or put several records into a value"
+    )
+
+
 def run(args: argparse.Namespace) -> int:
     if args.shape:
         return tell_shape(Shape(*args.shape))
@@ -63,7 +91,7 @@ def run(args: argparse.Namespace) -> int:
         raise ToolError("--values COUNT and --bytes BYTES are needed, or --shape P N M", Exit.USAGE)
     found = fits(args.values, args.bytes)
     if not found:
-        raise ToolError("no shape holds them: an image has at most 256 MiB, and a value at most 1,048,544 bytes", Exit.MISSING)
+        raise ToolError(too_many(args.values, args.bytes), Exit.MISSING)
     for fit in found[: args.most]:
         layout = Layout(fit.shape)
         print(f"make {fit.shape}  ({fit.file_bytes:,} bytes; {fit.values:,} such values; values of at most {layout.greatest:,} bytes)")

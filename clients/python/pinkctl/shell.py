@@ -10,7 +10,7 @@ from typing import Any, NamedTuple, Optional
 
 from .files import add_wait
 from .keys import Word, WordError, read_value, shown, words_of
-from .program import open_drive, pinkdrive
+from .program import open_drive, pinkdrive, refusal
 from .status import Exit, ToolError
 
 DESCRIPTION = """\
@@ -20,6 +20,9 @@ Opens a drive once and takes commands, from the keyboard, from standard input, o
 A key or value is the text itself (user:1), hexadecimal after 0x (0x00ff), or in quotes with escapes
 ("two words\\n", 'a\\x00b'). `set KEY < FILE` stores a file, `get KEY > FILE` writes one.
 
+`get` prints a value as a word, which `set` reads again; with --raw its bytes alone. `namespace N` goes on
+in another namespace of the drive.
+
 Without a keyboard it ends at the first command that fails, with its status: 1 if a key does not
 exist, 2 if a line is wrong, 3 if the drive refused a command."""
 
@@ -28,7 +31,7 @@ TICK_STEPS = 16
 
 
 class Session:
-    """The drive, and how values are printed: as words on a terminal, else their bytes."""
+    """The drive, and how values are printed: as words, or their bytes."""
 
     def __init__(self, drive: pinkdrive.Drive, raw: bool) -> None:
         self.drive = drive
@@ -150,6 +153,15 @@ def stat(session: Session, words: Sequence[Word]) -> int:
     return Exit.OK
 
 
+def namespace(session: Session, words: Sequence[Word]) -> int:
+    if words:
+        number = count_in(words, 0)
+        session.drive.report(namespace=number)  # refused if the drive has no such namespace
+        session.drive.namespace = number
+    session.print(str(session.drive.namespace))
+    return Exit.OK
+
+
 def tick(session: Session, words: Sequence[Word]) -> int:
     session.drive.tick(count_in(words, 0) or TICK_STEPS)
     session.print("ok")
@@ -179,6 +191,7 @@ COMMANDS: dict[str, Command] = {
     "length": Command("KEY", "prints the length of a value", length, 1, 1),
     "list": Command("[KEY [COUNT]]", "prints the keys in order, from KEY on", list_, 0, 2),
     "scan": Command("[PREFIX [COUNT]]", "prints keys that begin with PREFIX, and their values", scan, 0, 2),
+    "namespace": Command("[N]", "prints the namespace, or goes on in another one", namespace, 0, 1),
     "stat": Command("", "prints the drive's numbers", stat, 0, 0),
     "tick": Command("[STEPS]", "lets the drive work in the background", tick, 0, 1),
     "help": Command("", "prints this table", help_, 0, 0),
@@ -192,8 +205,9 @@ def add_parser(subparsers: Any) -> None:
     )
     parser.add_argument("image", metavar="IMAGE")
     parser.add_argument("--execute", "-e", action="append", metavar="LINE", help="run this line, and end")
-    parser.add_argument("--raw", action="store_true", default=None, help="get prints the bytes of a value (the default without a terminal)")
-    parser.add_argument("--words", dest="raw", action="store_false", help="get prints a value as a word that set reads again")
+    parser.add_argument("--namespace", type=int, default=1, metavar="N", help="begin in this namespace (default 1)")
+    parser.add_argument("--raw", action="store_true", help="get prints the bytes of a value and nothing after them")
+    parser.add_argument("--words", dest="raw", action="store_false", help="get prints a value as a word that set reads again (the default)")
     add_wait(parser)
     parser.set_defaults(run=run)
 
@@ -203,7 +217,7 @@ def run_line(session: Session, line: str) -> int:
     words = words_of(line)
     if not words:
         return Exit.OK
-    name = {"exit": "quit", "delete": "del", "exists": "has", "put": "set"}.get(words[0].text, words[0].text)
+    name = {"exit": "quit", "delete": "del", "exists": "has", "put": "set", "select": "namespace"}.get(words[0].text, words[0].text)
     command = COMMANDS.get(name) if words[0].quoted is None else None
     if command is None:
         raise WordError(f"{words[0].text}: there is no such command; help lists them")
@@ -216,7 +230,7 @@ def status_of(error: pinkdrive.StatusError) -> tuple[str, Exit]:
     """A refusal of the drive in a word, and the status."""
     if isinstance(error, pinkdrive.KeyDoesNotExist):
         return f"missing {shown(error.key)}", Exit.MISSING
-    return f"{type(error).__name__}: {error}", Exit.REFUSED
+    return refusal(error), Exit.REFUSED
 
 
 def attempt(session: Session, line: str, place: str) -> int:
@@ -283,9 +297,8 @@ def interact(session: Session, image: str) -> int:
 
 
 def run(args: argparse.Namespace) -> int:
-    raw = not sys.stdout.isatty() if args.raw is None else args.raw
-    with open_drive(args.image, wait=args.wait) as drive:
-        session = Session(drive, raw)
+    with open_drive(args.image, wait=args.wait, namespace=args.namespace) as drive:
+        session = Session(drive, args.raw)
         if args.execute:
             return run_script(session, (("", line) for line in args.execute))
         if sys.stdin.isatty():
