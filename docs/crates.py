@@ -1,11 +1,9 @@
 #!/usr/bin/env python3
-"""Writes the map of the crates for docs/CRATES.md: the groups and the order of crates.txt, with the header of each crate's root file.
+"""Writes the map of the crates for docs/CRATES.md: the groups and the order of crates.txt, with the first sentence of each crate's root file.
 
   docs/crates.py            prints the map
   docs/crates.py --write    puts it into docs/CRATES.md
   docs/crates.py --check    fails if docs/CRATES.md has another one
-
-A crate's dependencies are printed without those that another one of them already needs.
 """
 from __future__ import annotations
 
@@ -23,17 +21,18 @@ BEGIN, END = "<!-- map -->", "<!-- end of map -->"
 @dataclass
 class Crate:
     name: str
-    needs: list[str]
 
-    def header(self) -> str:
-        """The lines //! at the head of the crate's root file, as one text a paragraph."""
+    def promise(self) -> str:
+        """The first sentence of the lines //! at the head of the crate's root file, up to a colon or a semicolon after three words."""
         root = next(p for f in ("lib", "main") if (p := TOP / "crates" / self.name / "src" / f"{f}.rt").exists())
         lines = []
         for line in root.read_text(encoding="utf-8").split("\n"):
             if not line.startswith("//!"):
                 break
             lines.append(line[3:].strip())
-        return re.sub(r"\n\n+", " ", "\n".join(lines)).replace("\n", " ").strip()
+        sentence = re.split(r"(?<=\.) ", " ".join(lines).strip())[0]
+        short = re.match(r"(\S+ \S+ \S+.*?)[:;] ", sentence)
+        return f"{short.group(1)}." if short else sentence
 
 
 @dataclass
@@ -56,40 +55,21 @@ def groups() -> list[Group]:
             open_comment = True
             continue
         open_comment = False
-        match = re.match(r"(\w+)[^:]*: *(.*)", line)
+        match = re.match(r"(\w+)[^:]*:", line)
         if match:
-            found[-1].crates.append(Crate(match.group(1), match.group(2).split()))
+            found[-1].crates.append(Crate(match.group(1)))
     return [group for group in found if group.crates]
 
 
-def all_needs(crates: dict[str, Crate], name: str) -> set[str]:
-    """The crates that this one needs, directly or through others."""
-    needed: set[str] = set()
-    for below in crates[name].needs if name in crates else []:
-        needed |= {below} | all_needs(crates, below)
-    return needed
-
-
-def direct_needs(crates: dict[str, Crate], name: str) -> list[str]:
-    """The dependencies of a crate that none of its other dependencies needs."""
-    needs = crates[name].needs
-    through = {n for below in needs for n in all_needs(crates, below)}
-    return [n for n in needs if n not in through]
-
-
 def text_of_map() -> str:
-    found = groups()
-    crates = {crate.name: crate for group in found for crate in group.crates}
     out = []
-    for group in found:
+    for group in groups():
         title, _, rest = group.title.partition(":")
         out.append(f"## {title.rstrip('.')}\n")
         if rest:
             sentence = rest.strip()
             out.append(f"{sentence[0].upper()}{sentence[1:]}\n")
-        for crate in group.crates:
-            needs = ", ".join(f"`{n}`" for n in direct_needs(crates, crate.name))
-            out.append(f"- **`{crate.name}`** {crate.header()}" + (f" *Needs* {needs}." if needs else ""))
+        out += [f"- **`{crate.name}`** {crate.promise()}" for crate in group.crates]
         out.append("")
     return "\n".join(out)
 
