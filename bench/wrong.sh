@@ -5,20 +5,11 @@
 #
 #   bench/wrong.sh [CRATE..]         all crates of bench/wrong-bodies by default
 #   bench/wrong.sh --since COMMIT    those that changed after this commit, or whose wrong bodies did
-#   bench/wrong.sh --list            prints what each wrong body of the repository does, and tries none
+#
+# docs/wrong_bodies.py prints what each of them does.
 set -eu
 
 top=$(CDPATH='' cd -- "$(dirname -- "$0")/.." && pwd)
-if [ "${1:-}" = --list ]; then
-    cd "$top"
-    for edit in crates/*/must-fail/*.edit bench/wrong-bodies/*/*.edit; do
-        case $edit in crates/*) by=gate ;; *) by=hand ;; esac
-        crate=${edit#*/}
-        crate=${crate#wrong-bodies/}
-        printf '%s %s %s: %s\n' "$by" "${crate%%/*}" "$(basename "$edit" .edit)" "$(sed -n '1s/^body: //p' "$edit")"
-    done
-    exit
-fi
 if [ "${1:-}" = --since ]; then
     commit=${2:?a commit}
     git -C "$top" cat-file -e "$commit^{commit}"

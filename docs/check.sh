@@ -1,18 +1,17 @@
 #!/bin/sh
 # Checks the documents beside the sources, in a second or two; the gate runs it too. Each fault is a line.
 #
-# Each file of lemmas says what it is about; the table of definitions and the map of the crates are those that docs/definitions.py and
-# docs/crates.py write, and each list of definitions is complete; README keeps to its size; README and TESTS have the right counts;
+# Each file of lemmas says what it is about; the table of definitions, the map of the crates and the table of wrong bodies are those that
+# docs/definitions.py, docs/crates.py and docs/wrong_bodies.py write, and each list of definitions is complete; every wrong body says
+# what is wrong; README keeps to its size; README and TESTS have the right counts;
 # every link leads to a file; every crate, every path of a function, every type with a method, every file of definitions, every clause
-# of GUARANTEES and every wrong body that a document names exists; every wrong body says what is wrong, and those of the gate are in
-# WRONG-BODIES; the crates above each one that WORKING counts are those of crates.txt.
+# of GUARANTEES and every wrong body that a document names exists.
 set -u
 
 top=$(CDPATH='' cd -- "$(dirname -- "$0")/.." && pwd) || exit 1
 cd "$top" || exit 1
 faults=$(mktemp) || exit 1
-named=$(mktemp) || exit 1
-trap 'rm -f "$faults" "$named"' EXIT
+trap 'rm -f "$faults"' EXIT
 
 fault() { echo "$*" >>"$faults"; }
 
@@ -62,6 +61,7 @@ leads() { # crate, rest of the path
 docs/lemmas.sh --check >>"$faults"
 docs/definitions.py --check 2>>"$faults"
 docs/crates.py --check 2>>"$faults"
+docs/wrong_bodies.py --check 2>>"$faults"
 
 [ "$(wc -l <README.md)" -le 100 ] || fault "README.md: more than 100 lines"
 LC_ALL=C.UTF-8 awk '{ gsub(/[\200-\277]/, "") } length($0) > 100 { print "README.md:" FNR ": wider than 100 columns" }' README.md >>"$faults"
@@ -127,7 +127,6 @@ awk '
             case $kind in
                 '*Refused*:')
                     refused "$crate" "$name" || fault "docs/GUARANTEES.md: no wrong body $name of $crate"
-                    echo "$crate $name" >>"$named"
                     ;;
                 *) has "$crate" "$name" || has pk_drive "$name" || has pk_call "$name" || fault "docs/GUARANTEES.md: no clause $name of $crate" ;;
             esac
@@ -142,41 +141,11 @@ sed -n 's/^| .* | \(`.*\|the test.*\) |$/\1/p' docs/WRONG-BODIES.md | while IFS=
         case $name in
             pk_*) crate=$name ;;
             *)
-                echo "$crate $name" >>"$named"
                 refused "$crate" "$name" || grep -rqw "fn $name" crates/pk_test_*/src \
                     || fault "docs/WRONG-BODIES.md: neither a wrong body nor a test $name"
                 ;;
         esac
     done
-done
-
-for edit in crates/*/must-fail/*.edit bench/wrong-bodies/*/*.edit; do
-    head -n 1 "$edit" | grep -q '^body: .' || fault "$edit: its first line does not say what is wrong (body: ..)"
-done
-for edit in crates/*/must-fail/*.edit; do
-    crate=${edit#crates/}
-    crate=${crate%%/*}
-    name=$(basename "$edit" .edit)
-    grep -qx "$crate $name" "$named" || fault "$crate: neither docs/WRONG-BODIES.md nor docs/GUARANTEES.md names $name, a wrong body of the gate"
-done
-
-# The crates above one, by crates.txt, in which each crate comes after those it needs.
-above() { # crate
-    awk -v top="$1" '
-        /^[a-z]/ {
-            name = $1; sub(/:.*/, "", name)
-            for (i = 2; i <= NF; i++) if ($i == top || $i in over) { over[name]; break }
-        }
-        END { for (name in over) print name }' crates.txt
-}
-
-# In WORKING a line of a crate begins with the count of the crates above it, and names all of them or none.
-sed -n 's/^| \(pk_[a-z_]*\) | \([0-9]*\)\(.*\) |$/\1 \2 \3/p' docs/WORKING.md | while read -r crate count named_crates; do
-    all=$(above "$crate" | sort)
-    [ "$(echo "$all" | grep -c .)" -eq "$count" ] || fault "docs/WORKING.md: $crate has $(echo "$all" | grep -c .) crates above it"
-    case $named_crates in
-        ": "*,*) [ "$(echo "${named_crates#: }" | tr -d ' ' | tr , '\n' | sort)" = "$all" ] || fault "docs/WORKING.md: not the crates above $crate" ;;
-    esac
 done
 
 for crate in $(sed -n 's/^\(pk_[a-z_]*\):.*/\1/p' crates.txt); do

@@ -4,6 +4,7 @@
   docs/crates.py            prints the map
   docs/crates.py --write    puts it into the page that has the line <!-- map -->, docs/CRATES.md or docs/ARCHITECTURE.md
   docs/crates.py --check    fails if that page has another one
+  docs/crates.py --above    prints for each crate how many stand above it, which are proved again after a change of it, and their names
 """
 from __future__ import annotations
 
@@ -21,6 +22,7 @@ BEGIN, END = "<!-- map -->", "<!-- end of map -->"
 @dataclass
 class Crate:
     name: str
+    needs: list[str]
 
     def promise(self) -> str:
         """The first sentence of the comment at the head of the crate's root file."""
@@ -54,9 +56,9 @@ def groups() -> list[Group]:
             open_comment = True
             continue
         open_comment = False
-        match = re.match(r"(\w+)[^:]*:", line)
+        match = re.match(r"(\w+)[^:]*: *(.*)", line)
         if match:
-            found[-1].crates.append(Crate(match.group(1)))
+            found[-1].crates.append(Crate(match.group(1), match.group(2).split()))
     return [group for group in found if group.crates]
 
 
@@ -68,6 +70,16 @@ def text_of_map() -> str:
         out += [f"- `{crate.name}`: {crate.promise()}" for crate in group.crates]
         out.append("")
     return "\n".join(out)
+
+
+def text_of_above() -> str:
+    crates = [crate for group in groups() for crate in group.crates]
+    above: dict[str, set[str]] = {crate.name: set() for crate in crates}
+    for crate in crates:  # each comes after those it needs
+        for name, over in above.items():
+            if name in crate.needs or over & set(crate.needs):
+                over.add(crate.name)
+    return "\n".join(f"{name} {len(over)}: {' '.join(c.name for c in crates if c.name in over)}" for name, over in above.items())
 
 
 def page_of_map() -> pathlib.Path:
@@ -82,7 +94,11 @@ def main() -> int:
     choice = parser.add_mutually_exclusive_group()
     choice.add_argument("--write", action="store_true", help="put the map into its page")
     choice.add_argument("--check", action="store_true", help="fail if its page has another map")
+    choice.add_argument("--above", action="store_true", help="print the crates above each one")
     args = parser.parse_args()
+    if args.above:
+        print(text_of_above())
+        return 0
     text = text_of_map()
     if not (args.write or args.check):
         print(text)
