@@ -32,8 +32,8 @@ module _ (shape : Shape) (spares : ℕ) where
   abbrev Next : List ℕ → SparedRun → Map → Type 0
   Next limits r m = (next : Map) × LeavesMapIf r.loaded shape spares r m next × Holds shape r.left next × (limits_at shape r.left ≡ limits) × (through shape spares r.inner_left ≡ Some r.left)
 
-  next_if : (limits : List ℕ) (start outer : Flash) → through shape spares start ≡ Some outer → (r : SparedRun) → r.inner.pages ≡ start → (m : Map) → Holds shape outer m → limits_at shape outer ≡ limits
-      → (loaded : Bool) → IsSparedIf loaded shape spares r
+  next_if : (limits : List ℕ) (start outer : Flash) → through shape spares start ≡ Some outer → (r : SparedRun) → r.inner.pages ≡ start
+      → (m : Map) → Holds shape outer m → limits_at shape outer ≡ limits → (loaded : Bool) → IsSparedIf loaded shape spares r
       → (next : Map) × LeavesMapIf loaded shape spares r m next × Holds shape r.left next × (limits_at shape r.left ≡ limits) × (through shape spares r.inner_left ≡ Some r.left)
   next_if limits start outer shown r begins m holds within true is =
       let pages : outer_pages shape spares r.inner.pages ≡ outer = ap (λ (f : Flash). outer_pages shape spares f) begins ∙ outer_is start outer shown in
