@@ -2,7 +2,7 @@
 use Rattle.std.proofs.Common.{◌≡◌, inl, inr, ℕ, ◌+◌, ◌-◌, Bool, true, false, refl, sym, ap, subst, ◌∙◌, arith, Option, Some, None}
 use Rattle.std.specs.Prelude.{Result, Ok, Err, IsErr, IsSome}
 use Rattle.std.proofs.lemmas.Option.{same_Some}
-use Rattle.pk_base.{specs.Shape.Shape, specs.Shape.checked, specs.Page.Flash, specs.Page.page_at}
+use Rattle.pk_base.{specs.Shape.Shape, specs.Shape.checked, specs.Page.page_at}
 use Rattle.pk_nand.{specs.BoardState.BoardState, specs.declared.types.LoadFault.LoadFault}
 use Rattle.pk_nand.specs.declared.types.LoadFault.TheVariants.{Fault, BadImage, Memory}
 use Rattle.pk_remap.{specs.declared.counts.BoardCounts.BoardCounts, specs.declared.image.Image.Image, specs.declared.mark_log.MarkLog.MarkLog}

@@ -1,5 +1,5 @@
 -- A run between two states of a board, and from before the load of its image.
-use Rattle.std.proofs.Common.{◌≡◌, ◌≢◌, ◌⊎◌, inl, inr, ℕ, Bool, true, false, List, [], ◌∷◌, Option, Some, None, IsSome, refl, sym, ◌∙◌, ap, subst}
+use Rattle.std.proofs.Common.{◌≡◌, ◌≢◌, inl, inr, ℕ, Bool, true, false, List, [], ◌∷◌, Option, Some, None, IsSome, refl, sym, ◌∙◌, ap, subst}
 use Rattle.std.specs.Prelude.{◌&&◌, nat_le, if◌then◌else◌, option_and_then, codes, bytes_eq, Result, Err}
 use Rattle.std.proofs.lemmas.Option.{same_Some}
 use Rattle.pk_base.specs.Shape.{Shape}

@@ -1,11 +1,11 @@
 -- Runs of the program one after another over a flash with spare blocks.
-use Rattle.std.proofs.Common.{◌≡◌, ℕ, zero, suc, ◌≤◌, Bool, true, false, List, [], ◌∷◌, Some, refl, sym, ◌∙◌, ap, subst, arith, Option}
+use Rattle.std.proofs.Common.{◌≡◌, ℕ, zero, suc, ◌≤◌, Bool, true, false, List, [], ◌∷◌, Some, refl, sym, ◌∙◌, ap, arith, Option}
 use Rattle.std.{specs.Prelude.unwrap_or, specs.FinMap.empty, proofs.lemmas.Option.same_Some}
 use Rattle.pk_base.{specs.Shape.Shape, specs.Page.Flash, specs.Map.Map}
 use Rattle.pk_model.{specs.Spaces.limits_at, specs.Reading.Holds, specs.Reading.reading}
 use Rattle.pk_remap.{specs.Through.through, specs.Remapped.outer_pages, specs.Noted.no_marks}
 use Rattle.pk_top.{specs.Sessions.IsRun, proofs.Runs.left}
-use Rattle.pk_top.specs.SparedSessions.{SparedRun, outer_run, IsSparedRun, IsSparedRefusal, IsSparedIf, SparedRunOn, LeavesMapIf, KeptThroughSpared, KeptThroughSparedRuns}
+use Rattle.pk_top.specs.SparedSessions.{SparedRun, outer_run, IsSparedRun, IsSparedIf, SparedRunOn, LeavesMapIf, KeptThroughSpared, KeptThroughSparedRuns}
 
 told_some : (log : ℕ) → 1 ≤ log → no_marks log ≡ Some []
 told_some zero some = absurd (omega (arith, some))
