@@ -1,10 +1,11 @@
 -- How many calls of the inner flash were made.
-use Rattle.std.proofs.Common.{◌≡◌, ◌⊎◌, inl, inr, ℕ, zero, suc, ◌+◌, ◌-◌, ◌*◌, ◌<◌, ◌≤◌, Bool, true, false, refl, sym, ap, subst, ◌∙◌, arith}
+use Rattle.std.proofs.Common.{◌≡◌, ◌⊎◌, inl, inr, ℕ, zero, suc, ◌+◌, ◌-◌, ◌*◌, ◌<◌, ◌≤◌, Bool, false, refl, sym, ap, subst, arith}
 use Rattle.std.specs.Prelude.{Result, Ok, Err, OnOk, OnErr}
 use Rattle.pk_base.specs.Shape.{Shape}
 use Rattle.pk_nand.{specs.BoardState.BoardState, specs.Calls.Rose, specs.Operations.after_read, specs.Operations.ReadFailed, specs.Counts.after_reads, specs.declared.types.NandFault.NandFault}
 use Rattle.pk_remap.{specs.declared.image.Image.Image, specs.declared.relocation.Relocation.Relocation as InMemory, specs.Stepping.OneCall, specs.Stepping.one_read}
-use Rattle.pk_remap.{specs.Remapped.is_sure, specs.Remapped.TableIsFound, specs.Running.relocation_steps_left, specs.Running.steps_of_spare, proofs.Running.rank_some, specs.Serving.PartnerKept, specs.Serving.PartnerOutcome, specs.Counting.ServeCounts}
+use Rattle.pk_remap.{specs.Remapped.is_sure, specs.Remapped.TableIsFound, specs.Running.relocation_steps_left, specs.Running.steps_of_spare, proofs.Running.rank_some, specs.Serving.PartnerKept}
+use Rattle.pk_remap.{specs.Counting.ServeCounts}
 use Rattle.pk_remap.specs.MostCalls.{CallsMade, AtMostCalls, search_calls, find_calls, relocation_calls, CallsUnlessMoved}
 
 pub calls_none : (n : ℕ) (old new : BoardState) → new ≡ old → AtMostCalls n old new

@@ -1,5 +1,5 @@
 -- Calls of a flash with spare blocks one after another.
-use Rattle.std.proofs.Common.{◌≡◌, ◌⊎◌, inl, inr, ℕ, zero, suc, List, [], ◌∷◌, ◌++◌, refl, sym, ap, subst, ◌∙◌, append-nil, Some}
+use Rattle.std.proofs.Common.{◌≡◌, ◌⊎◌, inl, inr, ℕ, zero, suc, List, [], ◌∷◌, ◌++◌, refl, sym, ap, subst, ◌∙◌, Some}
 use Rattle.pk_base.{specs.Shape.Shape, specs.Page.Flash, specs.Mark.Mark, specs.Mark.post, specs.Mark.after, specs.Mark.after_all, specs.Mark.all_posted}
 use Rattle.pk_nand.{specs.BoardState.BoardState, specs.Cut.Cut, specs.Cut.Interrupted, specs.Crash.Went, specs.Calls.longer, specs.Operations.after_post, specs.Operations.PostFailed}
 use Rattle.pk_nand.{proofs.CutLemmas.cut_behind, proofs.CutLemmas.cut_end, proofs.CutLemmas.interrupted_none, proofs.CutLemmas.after_all-append}

@@ -13,7 +13,8 @@ use Rattle.pk_remap.proofs.Lifting.{two_more}
 use Rattle.pk_remap.specs.FirstTable.{IsNoneOrErased, first_table, first_table_bytes, IsMade, FirstTableWritten, FirstTableFailed, FirstTableOutcome}
 use Rattle.pk_remap.{specs.Newest.table_in, specs.Newest.first_table_page, specs.Newest.IsNewer, specs.Newest.IsNewest, specs.Places.inner_shape, specs.Places.placed_page}
 use Rattle.pk_remap.{specs.Relocating.IsNextPair, specs.Running.HasPageBuffers, specs.Running.IsAtRest, specs.Remapped.outer_pages, proofs.TableLemmas.table_parts, proofs.TableLemmas.page_again}
-use Rattle.pk_remap.{proofs.Placing.mod-of, proofs.Placing.is_through, proofs.Placing.page-past_end, proofs.Finding.none_some, proofs.Finding.found-newest, proofs.Finding.by_equal, proofs.Finding.own_number}
+use Rattle.pk_remap.{proofs.Placing.mod-of, proofs.Placing.is_through, proofs.Placing.page-past_end, proofs.Finding.none_some, proofs.Finding.found-newest, proofs.Finding.by_equal}
+use Rattle.pk_remap.{proofs.Finding.own_number}
 use Rattle.pk_nand.{specs.Cut.Interrupted, specs.Crash.Went, proofs.Reaching.Went-reached}
 use Rattle.pk_remap.proofs.Calls.{program_reached, program_went, done_interrupted}
 use Rattle.pk_remap.{specs.Newest.newest_table, specs.Places.through_by, proofs.Standing.pair-others, proofs.Standing.pair-none_or}

@@ -509,6 +509,17 @@ module _ (image image' : Image) (work w : InMemory) (log log' : MarkLog) (counts
       (subst C (λ i. opened work.shape (sym pages i) (sym noted i) (sym is i) old.input old.posted)
       (record { flash = omega arith; read = omega arith; rest = refl }))
 
+-- the outer pages are shown behind a program or an erase that was done
+pub shown_open : (image : Image) (work w : InMemory) (log : MarkLog) (counts : BoardCounts) (mark : Mark) (old new : BoardState) (result : Result Unit NandFault) → is_open image ≡ true
+    → MarkMade work mark old result w new → OnOk result (through work.shape work.spares new.pages ≡ Some (remap_board image w log counts new).pages)
+shown_open image work w log counts mark old new (Ok u) has_open made =
+    let is : (remap_board image w log counts new).pages ≡ outer_pages w.shape w.spares new.pages = ap (λ s. s.pages) (board_is w log counts new image has_open) in
+    let same : outer_pages w.shape w.spares new.pages ≡ outer_pages work.shape work.spares new.pages = (λ i. outer_pages (made.shape i) (made.spares i) new.pages) in
+    let own : outer_pages work.shape work.spares new.pages ≡ after work.shape mark (outer_pages work.shape work.spares old.pages) =
+    ap (λ (f : Option Flash). unwrap_or f []) made.done in
+    made.done ∙ ap (λ (f : Flash). Some f) (sym (is ∙ same ∙ own))
+shown_open image work w log counts mark old new (Err e) has_open made = tt
+
 -- the room of the log would be passed: nothing is done
 module _ (image : Image) (work : InMemory) (log : MarkLog) (counts : BoardCounts) (inner : BoardState) (has_open : is_open image ≡ true) where
   pub program_refused : (at : ℕ) (bytes : List ℕ) → ProgramFailed (remap_board image work log counts inner)

@@ -10,7 +10,8 @@ use Rattle.pk_remap.{specs.declared.layout.TheConstants.MOST_SPARES, specs.decla
 use Rattle.pk_remap.specs.declared.phase.Phase.TheVariants.{EraseSpare, Read, Write, EraseTable, First, Second}
 use Rattle.pk_remap.specs.Relocating.{Relocation, block, copies_of, fill_of, spare_block, spare_page, next_table, IsSpareFilled, IsSpareFull, IsRelocating, IsTop, SameTables, IsNextPair}
 use Rattle.pk_remap.specs.Stepping.{WentSafely, RelocationGoesOn, IsSource, IsOtherTable, SpareFailed}
-use Rattle.pk_remap.specs.Running.{mark_of, is_program, relocation_of, copies, is_kept, bytes_for, next_after, with_table, table_phase, phase_after, steps_of_spare, phase_rank, relocation_steps_left, IsTableHalf}
+use Rattle.pk_remap.specs.Running.{mark_of, is_program, relocation_of, copies, is_kept, bytes_for, next_after, with_table, table_phase, phase_after, steps_of_spare, phase_rank, relocation_steps_left}
+use Rattle.pk_remap.specs.Running.{IsTableHalf}
 use Rattle.pk_remap.specs.Running.{AtPhase, HasPageBuffers, HasTurn, RelocationRuns, SameCall, NoReadFailed, RelocationStops, StepOutcome, reading, in_table, no_spare, torn}
 use Rattle.pk_remap.proofs.Cutting.{none_cut, block_inside, next_grammar}
 use Rattle.pk_remap.proofs.Turning.{block_of_table, next_kept, next_pair, erased_pair, second_order, following_pair}

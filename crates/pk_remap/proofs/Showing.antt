@@ -2,13 +2,16 @@
 use Rattle.std.proofs.Common.{◌≡◌, inl, inr, ℕ, ◌+◌, ◌-◌, Bool, true, false, refl, sym, ap, subst, ◌∙◌, arith, Option, Some, None}
 use Rattle.std.specs.Prelude.{Result, Ok, Err, IsErr, IsSome}
 use Rattle.std.proofs.lemmas.Option.{same_Some}
-use Rattle.pk_base.{specs.Shape.Shape, specs.Shape.checked, specs.Page.Flash, specs.Page.page_at}
+use Rattle.pk_base.{specs.Shape.Shape, specs.Shape.checked, specs.Page.page_at}
 use Rattle.pk_nand.{specs.BoardState.BoardState, specs.declared.types.LoadFault.LoadFault}
 use Rattle.pk_nand.specs.declared.types.LoadFault.TheVariants.{Fault, BadImage, Memory}
-use Rattle.pk_remap.{specs.declared.counts.BoardCounts.BoardCounts, specs.declared.image.Image.Image, specs.declared.mark_log.MarkLog.MarkLog, specs.declared.relocation.Relocation.Relocation as InMemory}
+use Rattle.pk_remap.{specs.declared.counts.BoardCounts.BoardCounts, specs.declared.image.Image.Image, specs.declared.mark_log.MarkLog.MarkLog}
+use Rattle.pk_remap.{specs.declared.relocation.Relocation.Relocation as InMemory}
 use Rattle.pk_remap.specs.declared.image.Image.TheVariants.{Unknown, Missing, Unsure, Sure}
-use Rattle.pk_remap.{specs.Newest.newest_table, specs.Places.inner_shape, specs.Answers.LoadAnswers, specs.Causes.LoadCause, specs.Causes.BadImageCause, specs.Causes.inner_is_bad, specs.Causes.no_outer_shape}
-use Rattle.pk_remap.{specs.Causes.no_table, specs.Remapped.outer_pages, specs.Remapped.remap_board, specs.Remapped.without_spares, specs.Remapped.is_open, specs.Remapped.is_missing, specs.Remapped.open_shape}
+use Rattle.pk_remap.{specs.Newest.newest_table, specs.Places.inner_shape, specs.Answers.LoadAnswers, specs.Causes.LoadCause, specs.Causes.BadImageCause, specs.Causes.inner_is_bad}
+use Rattle.pk_remap.{specs.Causes.no_outer_shape}
+use Rattle.pk_remap.{specs.Causes.no_table, specs.Remapped.outer_pages, specs.Remapped.remap_board, specs.Remapped.without_spares, specs.Remapped.is_open, specs.Remapped.is_missing}
+use Rattle.pk_remap.{specs.Remapped.open_shape}
 use Rattle.pk_remap.{specs.Remapped.open_pages, specs.Loading.LoadsInner, specs.Loading.HoldsOuter, specs.Loading.OpensOuter, proofs.Opening.ok_or_err}
 
 -- a load leaves the trail of the inner flash

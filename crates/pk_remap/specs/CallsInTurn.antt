@@ -1,7 +1,8 @@
 -- Calls of a flash with spare blocks one after another: what each cut of its inner flash shows of all of them.
 use Rattle.std.specs.Prelude.{◌≡◌, ◌⊎◌, ℕ, List, [], ◌∷◌, Some}
 use Rattle.pk_base.{specs.Shape.Shape, specs.Page.Flash, specs.Mark.Mark, specs.Mark.after}
-use Rattle.pk_nand.{specs.BoardState.BoardState, specs.Cut.Cut, specs.Calls.longer, specs.Effects.OnlyReading, specs.Operations.Fetched, specs.Operations.FetchFailed, specs.Operations.after_post, specs.Operations.PostFailed}
+use Rattle.pk_nand.{specs.BoardState.BoardState, specs.Cut.Cut, specs.Calls.longer, specs.Effects.OnlyReading, specs.Operations.Fetched, specs.Operations.FetchFailed, specs.Operations.after_post}
+use Rattle.pk_nand.{specs.Operations.PostFailed}
 use Rattle.pk_remap.{specs.Through.through, specs.Through.MayShow, specs.Serving.PassesCalls}
 
 -- A call that was done, or that left the pages, as its clauses say it: the outer board was `old` and is `new`, the inner one was `below` and is

@@ -9,7 +9,7 @@ ghost use Rattle.pk_nand.specs.Calls.{Rose, IsReady, longer, after_program, Prog
 ghost use Rattle.pk_nand.specs.Effects.{OnlyReading};
 ghost use Rattle.pk_nand.specs.Operations.{filled, InOrder, after_read, after_erase, EraseFailed, ReadFailed};
 ghost use Rattle.pk_nand.specs.declared.types.LoadFault.{LoadFault};
-ghost use Rattle.pk_remap.specs.Through.{MayShow};
+ghost use Rattle.pk_remap.specs.Through.{through, MayShow};
 ghost use Rattle.pk_remap.specs.Serving.{PassesCalls};
 ghost use Rattle.pk_remap.specs.Logged.{HasLogRoom};
 ghost use Rattle.pk_remap.specs.Remapped.{remap_board, is_open as is_open_image, spares_left as spares_left_of};
@@ -42,7 +42,8 @@ impl<N: Nand> Nand for Remap<N> {
         ensures held { IsSome (⟦<Remap<N> as Nand>⟧.state self.old).shape → (at : ℕ)
             → result ≢ Err (LoadFault.BadImage at) }
 
-        // If the shape was known it is the answer, and else the inner flash decides: it is loaded, and then only read.
+        // If the shape was known it is the answer, and else the inner flash decides: it is loaded,
+        // and then only read. If it holds an outer flash, this is what the load shows.
         ensures known { is_open_image self.old.image ≡ true
             → (result ≡ Ok (Some self.old.work.shape)) × (self.new.inner ≡ self.old.inner) }
         ensures cause { is_open_image self.old.image ≡ false → LoadCause self.old.work.spares
@@ -146,9 +147,12 @@ impl<N: Nand> Nand for Remap<N> {
             (N.state self.old.inner) (N.state self.new.inner) }
         ensures spares { self.new.work.spares ≡ self.old.work.spares }
 
-        ensures noted { OnErr result (IsRefused self.old.log (length bytes.now) (N.state self.old.inner)
-            (N.state self.new.inner) ⊎ (⟦<Remap<N> as Nand>⟧.state self.new).trail
-            ≡ longer (⟦<Remap<N> as Nand>⟧.state self.old).trail (program page bytes.now ∷ [])) }
+        ensures shown { OnOk result (through self.old.work.shape self.old.work.spares
+            (N.state self.new.inner).pages ≡ Some (⟦<Remap<N> as Nand>⟧.state self.new).pages) }
+        ensures noted { OnErr result (IsRefused self.old.log (length bytes.now)
+            (N.state self.old.inner) (N.state self.new.inner) ⊎ (⟦<Remap<N> as Nand>⟧.state self.new).trail
+            ≡ longer (⟦<Remap<N> as Nand>⟧.state self.old).trail
+            (program page bytes.now ∷ [])) }
 
         // What of the inner flash, or of the log's room, makes it fail; and how many spares are left.
         ensures fits { OnOk result (HasLogRoom self.old.log (length bytes.now)) }
@@ -187,6 +191,8 @@ impl<N: Nand> Nand for Remap<N> {
             (N.state self.old.inner) (N.state self.new.inner) }
         ensures spares { self.new.work.spares ≡ self.old.work.spares }
 
+        ensures shown { OnOk result (through self.old.work.shape self.old.work.spares
+            (N.state self.new.inner).pages ≡ Some (⟦<Remap<N> as Nand>⟧.state self.new).pages) }
         ensures noted { OnErr result (IsRefused self.old.log 0 (N.state self.old.inner)
             (N.state self.new.inner) ⊎ (⟦<Remap<N> as Nand>⟧.state self.new).trail
             ≡ longer (⟦<Remap<N> as Nand>⟧.state self.old).trail (erase block ∷ [])) }

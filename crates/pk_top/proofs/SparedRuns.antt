@@ -1,5 +1,5 @@
 -- A run between two states of a board, and from before the load of its image.
-use Rattle.std.proofs.Common.{◌≡◌, ◌≢◌, ◌⊎◌, inl, inr, ℕ, Bool, true, false, List, [], ◌∷◌, Option, Some, None, IsSome, refl, sym, ◌∙◌, ap, subst}
+use Rattle.std.proofs.Common.{◌≡◌, ◌≢◌, inl, inr, ℕ, Bool, true, false, List, [], ◌∷◌, Option, Some, None, IsSome, refl, sym, ◌∙◌, ap, subst}
 use Rattle.std.specs.Prelude.{◌&&◌, nat_le, if◌then◌else◌, option_and_then, codes, bytes_eq, Result, Err}
 use Rattle.std.proofs.lemmas.Option.{same_Some}
 use Rattle.pk_base.specs.Shape.{Shape}
@@ -9,11 +9,14 @@ use Rattle.pk_nand.specs.declared.types.LoadFault.TheVariants.{Fault, BadImage, 
 use Rattle.pk_remap.{specs.declared.layout.TheConstants.MOST_SPARES, specs.Remapped.open_shape, specs.Remapped.fresh_remap, specs.Loading.OpensOuter}
 use Rattle.pk_top.specs.SparedRuns.{OuterNotLoaded}
 use Rattle.pk_wordrun.specs.Tasks.{Task}
-use Rattle.pk_top.{specs.Asks.AskRun, specs.Asks.AsksFound, specs.Makes.MakeRun, specs.Makes.MakesNew, specs.Makes.FoundImage, specs.Serves.ServeRun, specs.Serves.ServesFound, specs.Resting.RestsIn, specs.Runs.RunsOver}
+use Rattle.pk_top.{specs.Asks.AskRun, specs.Asks.AsksFound, specs.Makes.MakeRun, specs.Makes.MakesNew, specs.Makes.FoundImage, specs.Serves.ServeRun, specs.Serves.ServesFound, specs.Resting.RestsIn}
+use Rattle.pk_top.{specs.Runs.RunsOver}
 use Rattle.pk_top.specs.Loads.{HasReason, LoadRefused, NoImage, WordRun, no_memory, not_loaded, no_image, has_image}
 use Rattle.pk_top.specs.Words.{Word, make, serve, ask, assemble, show, word_of}
-use Rattle.pk_top.{specs.Spared.SparedForm, specs.Spared.fits_spares, specs.Spared.fits_spares_if, specs.Spared.spared_with, specs.Spared.spared_form, specs.Statuses.GivesNothing, specs.Statuses.Untouched, specs.Statuses.FlashFailed}
-use Rattle.pk_top.{specs.Statuses.Tells, proofs.Obeyed.runs-obeyed, proofs.Telling.load_untouched, proofs.Telling.Untouched-then, proofs.Telling.tells_refused, proofs.Telling.wants_sound, proofs.Telling.refused_untouched}
+use Rattle.pk_top.{specs.Spared.SparedForm, specs.Spared.fits_spares, specs.Spared.fits_spares_if, specs.Spared.spared_with, specs.Spared.spared_form, specs.Statuses.GivesNothing}
+use Rattle.pk_top.{specs.Statuses.Untouched, specs.Statuses.FlashFailed}
+use Rattle.pk_top.{specs.Statuses.Tells, proofs.Obeyed.runs-obeyed, proofs.Telling.load_untouched, proofs.Telling.Untouched-then, proofs.Telling.tells_refused, proofs.Telling.wants_sound}
+use Rattle.pk_top.{proofs.Telling.refused_untouched}
 
 -- from another name of its first state
 pub runs_from : (asked : List (List ℕ)) (start old new : BoardState) (status : ℕ) → old ≡ start → RunsOver asked old new status → RunsOver asked start new status

@@ -1,11 +1,11 @@
 -- Runs of the program one after another over a flash with spare blocks.
-use Rattle.std.proofs.Common.{◌≡◌, ℕ, zero, suc, ◌≤◌, Bool, true, false, List, [], ◌∷◌, Some, refl, sym, ◌∙◌, ap, subst, arith, Option}
+use Rattle.std.proofs.Common.{◌≡◌, ℕ, zero, suc, ◌≤◌, Bool, true, false, List, [], ◌∷◌, Some, refl, sym, ◌∙◌, ap, arith, Option}
 use Rattle.std.{specs.Prelude.unwrap_or, specs.FinMap.empty, proofs.lemmas.Option.same_Some}
 use Rattle.pk_base.{specs.Shape.Shape, specs.Page.Flash, specs.Map.Map}
 use Rattle.pk_model.{specs.Spaces.limits_at, specs.Reading.Holds, specs.Reading.reading}
 use Rattle.pk_remap.{specs.Through.through, specs.Remapped.outer_pages, specs.Noted.no_marks}
 use Rattle.pk_top.{specs.Sessions.IsRun, proofs.Runs.left}
-use Rattle.pk_top.specs.SparedSessions.{SparedRun, outer_run, IsSparedRun, IsSparedRefusal, IsSparedIf, SparedRunOn, LeavesMapIf, KeptThroughSpared, KeptThroughSparedRuns}
+use Rattle.pk_top.specs.SparedSessions.{SparedRun, outer_run, IsSparedRun, IsSparedIf, SparedRunOn, LeavesMapIf, KeptThroughSpared, KeptThroughSparedRuns}
 
 told_some : (log : ℕ) → 1 ≤ log → no_marks log ≡ Some []
 told_some zero some = absurd (omega (arith, some))
@@ -32,8 +32,8 @@ module _ (shape : Shape) (spares : ℕ) where
   abbrev Next : List ℕ → SparedRun → Map → Type 0
   Next limits r m = (next : Map) × LeavesMapIf r.loaded shape spares r m next × Holds shape r.left next × (limits_at shape r.left ≡ limits) × (through shape spares r.inner_left ≡ Some r.left)
 
-  next_if : (limits : List ℕ) (start outer : Flash) → through shape spares start ≡ Some outer → (r : SparedRun) → r.inner.pages ≡ start → (m : Map) → Holds shape outer m → limits_at shape outer ≡ limits
-      → (loaded : Bool) → IsSparedIf loaded shape spares r
+  next_if : (limits : List ℕ) (start outer : Flash) → through shape spares start ≡ Some outer → (r : SparedRun) → r.inner.pages ≡ start
+      → (m : Map) → Holds shape outer m → limits_at shape outer ≡ limits → (loaded : Bool) → IsSparedIf loaded shape spares r
       → (next : Map) × LeavesMapIf loaded shape spares r m next × Holds shape r.left next × (limits_at shape r.left ≡ limits) × (through shape spares r.inner_left ≡ Some r.left)
   next_if limits start outer shown r begins m holds within true is =
       let pages : outer_pages shape spares r.inner.pages ≡ outer = ap (λ (f : Flash). outer_pages shape spares f) begins ∙ outer_is start outer shown in

@@ -4,7 +4,7 @@ use Rattle.pk_base.{specs.Shape.Shape, specs.Page.Flash, specs.Mark.erase}
 use Rattle.pk_nand.{specs.BoardState.BoardState, specs.Calls.counted, specs.Operations.EraseFailed}
 use Rattle.pk_remap.{specs.declared.counts.BoardCounts.BoardCounts, specs.Through.MayShow, specs.Serving.PassesCalls, specs.Remapped.with_stop, specs.Remapped.remap_board, specs.Logged.HasLogRoom}
 use Rattle.pk_remap.proofs.LogLemmas.{if_ok}
-use Rattle.pk_remap.proofs.Remapping.{opens_block, erase_answer, erase_refused, shape_open, pages_open, left_open, cause_open, fall_open}
+use Rattle.pk_remap.proofs.Remapping.{opens_block, erase_answer, erase_refused, shape_open, pages_open, left_open, cause_open, fall_open, shown_open}
 use Rattle.pk_remap.{specs.MostCalls.find_calls, specs.MostCalls.CallsUnlessMoved, specs.MostCalls.relocation_calls, proofs.Bounding.calls_none, proofs.Bounding.if_err}
 use Rattle.pk_remap.proofs.nand.RemapNand.erase.Goals as goal
 
@@ -41,6 +41,7 @@ returns-then-has_room g c =
       passes = subst S (sym (pages_open self.image self.work self.log self.counts old has_open)) made.passes;
       calls = subst L (sym (left_open self.image self.work has_open)) c.erase_noted.ensures.calls;
       spares = made.spares;
+      shown = shown_open there.image self.work there.work there.log there.counts (erase c.args.block) old new c.erase_noted.result c.erase_noted.ensures.opened made;
       noted = if_err c.erase_noted.result (inr c.erase_noted.ensures.told);
       fits = if_ok c.erase_noted.result (HasLogRoom self.log 0) (c.has_room.ensures.yes c.if-has_room.true);
       cause = cause_open there.image self.work there.work (erase c.args.block) old new self.log 0 c.erase_noted.result c.erase_noted.ensures.opened made;
@@ -61,6 +62,7 @@ returns-else-has_room g c =
       passes = (0, refl);
       calls = inl (calls_none _ old old refl);
       spares = refl;
+      shown = tt;
       noted = inl (record { no_room = c.has_room.ensures.no c.if-has_room.false; same = refl });
       fits = tt;
       cause = inl (record { no_room = c.has_room.ensures.no c.if-has_room.false; same = refl });
