@@ -1,5 +1,6 @@
 //! The second drive's map becomes the first's again.
 ghost use Rattle.std.specs.Prelude.{◌≡◌, ◌≢◌, ◌<◌, ◌≤◌, ◌^◌, List, ℕ, [], length, true, false, Some, None, Err, OnOk, OnErr, IfOk, IfErr};
+ghost use Rattle.std.specs.List.{AllByRecursion};
 ghost use Rattle.std.specs.Option.{option_copied};
 ghost use Rattle.pk_base.specs.Map.{Map};
 ghost use Rattle.pk_base.specs.Shape.{greatest};
@@ -10,7 +11,7 @@ ghost use Rattle.pk_mirror.specs.Causes.{IsCause, IsReadError, AreAsking, NotEmp
 ghost use Rattle.pk_mirror.specs.Agreement.{NoOther, HaveSame, AreAny, IsPart};
 ghost use Rattle.pk_mirror.specs.Ranks.{IsText, keys_left};
 ghost use Rattle.pk_mirror.specs.Visits.{Turns, VisitsAll, OnlyReadsFail};
-ghost use Rattle.pk_mirror.specs.Spending.{AreOfResync};
+ghost use Rattle.pk_mirror.specs.Spending.{OnlyLooks, AreOfResync};
 ghost use Rattle.pk_mirror.specs.Progress.{Dropped, DropFails, Copied, CopyFails};
 
 use crate::buffers::last_of;
@@ -50,6 +51,8 @@ impl Mirror {
         ensures took_first { TookSome P.took AreAsking first.old first.new }
         ensures took_second { TookSome Q.took (AreOfResync (P.state first.old)
             (Q.state second.old)) second.old second.new }
+        ensures quiet { self.old.split ≡ false → (m : Map) → (P.state first.old).map ≡ Some m
+            → TookSome Q.took (AllByRecursion OnlyLooks) second.old second.new }
         ensures asked { OnOk result (BothAsked P.took Q.took first.old first.new second.old
             second.new) }
     {

@@ -1,7 +1,8 @@
-use Rattle.std.proofs.Common.{◌≡◌, inr, List, ℕ, Some, None, [], refl, arith}
+use Rattle.std.proofs.Common.{◌≡◌, inr, List, ℕ, Some, None, [], length, refl, arith}
 use Rattle.std.specs.FinMap.{get}
 use Rattle.pk_base.specs.Map.{Map}
-use Rattle.pk_host.specs.Outcomes.{retrieved, stored, Fetches}
+use Rattle.pk_nvme.specs.declared.opcode.TheConstants.{STORE}
+use Rattle.pk_host.{specs.Outcomes.retrieved, specs.Outcomes.stored, specs.Outcomes.Fetches, proofs.CommandLemmas.key-of_key}
 use Rattle.pk_mirror.{specs.declared.error.Side.TheVariants.First, specs.Agreement.IsPart, specs.Agreement.HaveSame, specs.Progress.Looked}
 use Rattle.pk_mirror.{proofs.ReplyLemmas.retrieved_tells, proofs.ReplyLemmas.stored_tells, proofs.visiting.copy.Goals.After-retrieve, proofs.visiting.copy.Goals.In-Ok-Some}
 use Rattle.pk_mirror.proofs.KeyLemmas.{fetched_as, fits_told, visits_lacking, visits_stored, first_cause, second_cause, side_unread, store_unread, retrieve_keeps}
@@ -46,7 +47,7 @@ returns-in-Ok-clause-copied g c =
       took_second = (
         _,
         stored_one (g.P.Port.state c.args.first.now) (g.Q.Port.state c.args.second.now) (g.Q.Port.state c.store.new.port) c.args.key.now c.front.result.now
-            (has g at.In-Ok-Some) c.requires.lacked c.in-Ok.ensures.stores,
+            (key-of_key STORE c.args.key.now (length c.front.result.now) 0 c.front.result.now (c.bytes.ensures.key, c.requires.own)) (has g at.In-Ok-Some) c.requires.lacked c.in-Ok.ensures.stores,
         c.store.ensures.took,
       );
       same = looks.first_keeps;
@@ -62,7 +63,7 @@ returns-in-Err-store-clause-fails g c =
       took_second = (
         _,
         storing_one (g.P.Port.state c.args.first.now) (g.Q.Port.state c.args.second.now) (g.Q.Port.state c.store.new.port) c.args.key.now c.front.result.now
-            (has g at.In-Ok-Some) c.requires.lacked,
+            (key-of_key STORE c.args.key.now (length c.front.result.now) 0 c.front.result.now (c.bytes.ensures.key, c.requires.own)) (has g at.In-Ok-Some) c.requires.lacked,
         c.store.ensures.took,
       );
       same = looks.first_keeps;
