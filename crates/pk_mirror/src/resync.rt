@@ -11,7 +11,7 @@ ghost use Rattle.pk_mirror.specs.Causes.{IsCause, IsReadError, AreAsking, NotEmp
 ghost use Rattle.pk_mirror.specs.Agreement.{NoOther, HaveSame, AreAny, IsPart};
 ghost use Rattle.pk_mirror.specs.Ranks.{IsText, keys_left};
 ghost use Rattle.pk_mirror.specs.Visits.{Turns, VisitsAll, OnlyReadsFail};
-ghost use Rattle.pk_mirror.specs.Spending.{OnlyLooks, AreOfResync};
+ghost use Rattle.pk_mirror.specs.Spending.{OnlyLooks, AreOfResync, AreWholeResync};
 ghost use Rattle.pk_mirror.specs.Progress.{Dropped, DropFails, Copied, CopyFails};
 
 use crate::buffers::last_of;
@@ -23,7 +23,8 @@ use pk_host::{Host, KeyPage, Port};
 
 impl Mirror {
     /// Deletes from the second each key that the first lacks or has with another value, then stores
-    /// on it each key that it lacks. The pair is in step then. `Refused` if a read failed, `Port`
+    /// on it each key that it lacks, and deletes and stores nothing else: the second is asked for
+    /// nothing but looks where both maps were the same. The pair is in step then. `Refused` if a read failed, `Port`
     /// if a port failed: the pair is split then, and never in step in between.
     pub fn resync<P: Port, Q: Port>(
         &mut self,
@@ -51,6 +52,8 @@ impl Mirror {
         ensures took_first { TookSome P.took AreAsking first.old first.new }
         ensures took_second { TookSome Q.took (AreOfResync (P.state first.old)
             (Q.state second.old)) second.old second.new }
+        ensures exact { OnOk result (TookSome Q.took (AreWholeResync (P.state first.old)
+            (Q.state second.old)) second.old second.new) }
         ensures quiet { self.old.split ≡ false → (m : Map) → (P.state first.old).map ≡ Some m
             → TookSome Q.took (AllByRecursion OnlyLooks) second.old second.new }
         ensures asked { OnOk result (BothAsked P.took Q.took first.old first.new second.old
@@ -85,6 +88,8 @@ impl Mirror {
         ensures took_first { TookSome P.took AreAsking first.old first.new }
         ensures took_second { TookSome Q.took (AreOfResync (P.state first.old)
             (Q.state second.old)) second.old second.new }
+        ensures exact { OnOk result (TookSome Q.took (AreWholeResync (P.state first.old)
+            (Q.state second.old)) second.old second.new) }
         ensures asked { OnOk result (BothAsked P.took Q.took first.old first.new second.old
             second.new) }
     {
@@ -127,6 +132,8 @@ fn copy_map<P: Port, Q: Port>(
     ensures took_first { TookSome P.took AreAsking first.old first.new }
     ensures took_second { TookSome Q.took (AreOfResync (P.state first.old)
         (Q.state second.old)) second.old second.new }
+    ensures exact { OnOk result (TookSome Q.took (AreWholeResync (P.state first.old)
+        (Q.state second.old)) second.old second.new) }
     ensures asked { OnOk result (BothAsked P.took Q.took first.old first.new second.old
         second.new) }
 {

@@ -1,9 +1,9 @@
 use Rattle.std.proofs.Common.{◌≤◌, length, sym, subst, ◌∙◌, arith}
 use Rattle.pk_base.specs.Shape.{Shape, greatest}
 use Rattle.pk_mirror.{specs.Agreement.IsPart, specs.Spending.ToStore}
-use Rattle.pk_mirror.proofs.PairLemmas.{still_alike, on_ok_map, if_err_map}
+use Rattle.pk_mirror.proofs.PairLemmas.{still_alike, on_ok_map, on_ok_both, if_err_map}
 use Rattle.pk_mirror.proofs.VisitLemmas.{asking_more, cause_later, asked_before, asked_later, any_exit}
-use Rattle.pk_mirror.{proofs.SpendLemmas.resync_took, proofs.SpendLemmas.resync_first, proofs.PageLemmas.both_phases, proofs.PageLemmas.second_phase_fails}
+use Rattle.pk_mirror.{proofs.SpendLemmas.resync_took, proofs.SpendLemmas.resync_whole, proofs.SpendLemmas.resync_first, proofs.PageLemmas.both_phases, proofs.PageLemmas.second_phase_fails}
 use Rattle.pk_nvme.specs.declared.opcode.TheConstants.{STORE}
 use Rattle.pk_mirror.proofs.resync.copy_map.Goals as goal
 
@@ -35,6 +35,10 @@ returns-in-Ok g c =
       took_first = asking_more g.P.Port.took g.met.P.Port.took_both _ _ _ gone.took_first took_first;
       took_second = resync_took g.Q.Port.state g.Q.Port.took g.met.Q.Port.took_both (g.P.Port.state c.args.first.now) (g.P.Port.state c.drop_all.new.first)
           c.args.second.now c.drop_all.new.second c.copy_all.new.second gone.same c.in-Ok.ensures.visits gone.took_second took_second;
+      exact = on_ok_both c.copy_all.result _ _ _
+          (λ all copied. resync_whole g.Q.Port.state g.Q.Port.took g.met.Q.Port.took_both (g.P.Port.state c.args.first.now) (g.P.Port.state c.drop_all.new.first)
+          c.args.second.now c.drop_all.new.second c.copy_all.new.second gone.same c.in-Ok.ensures.visits all gone.took_second copied.took_second)
+          c.copy_all.ensures.visits c.copy_all.ensures.copied;
       asked = on_ok_map c.copy_all.result _ _
           (λ h. (
             asked_later g.P.Port.took g.met.P.Port.took_both _ _ _ _ gone.took_first.2 h,
@@ -52,5 +56,6 @@ returns-in-Err g c =
       unread = failed.unread;
       took_first = failed.took_first;
       took_second = (failed.took_second.0, resync_first (g.P.Port.state c.args.first.now) (g.Q.Port.state c.args.second.now) _ failed.took_second.1, failed.took_second.2);
+      exact = tt;
       asked = tt;
     }
