@@ -8,7 +8,7 @@ use Rattle.pk_model.proofs.MapLemmas.{key_total}
 use Rattle.pk_host.{specs.Port.PortState, specs.Port.Took, specs.Calls.delete_of, specs.Calls.store_of, specs.declared.types.StoreRule.TheVariants.Any}
 use Rattle.pk_host.specs.Outcomes.{TookSome, Fetches, Deletes, Tests, Leaves}
 use Rattle.pk_mirror.{specs.Agreement.NoOther, specs.Agreement.HaveSame, specs.Agreement.AreAny, specs.Agreement.IsPart, specs.Visits.Visits, specs.Visits.VisitsAll}
-use Rattle.pk_mirror.specs.Spending.{OnlyLooks, LooksOr, LooksOrChanges, opcode_count, keys_of, AreOnce, EachOnce, ToDelete, ToStore, ToCopy, OnlyDiffering, AllDiffering, AreOfResync, AreWholeResync, Changed, Spent, Spending, Deleted, Deleting, Stored, Storing}
+use Rattle.pk_mirror.specs.Spending.{OnlyLooks, LooksOr, LooksOrChanges, IsCopy, opcode_count, keys_of, AreOnce, EachOnce, ToDelete, ToStore, ToCopy, OnlyDiffering, AllDiffering, AreOfResync, AreWholeResync, Changed, Spent, Spending, Deleted, Deleting, Stored, Storing}
 use Rattle.pk_mirror.proofs.MapLemmas.{by_key, get_removed, get_removed_other, get_inserted, get_inserted_other, some_len}
 use Rattle.pk_mirror.proofs.KeyLemmas.{found_none, found_some}
 
@@ -112,6 +112,11 @@ looks_no_store c (inl (inl (from, e))) = ap (λ (d : Command). d.opcode == STORE
 looks_no_store c (inl (inr (key, size, e))) = ap (λ (d : Command). d.opcode == STORE) e
 looks_no_store c (inr (key, e)) = ap (λ (d : Command). d.opcode == STORE) e
 
+-- what is no Store is no wrong one
+no_copies : (a : Map) (cs : List Command) → AllByRecursion (IsOther STORE) cs → AllByRecursion (IsCopy a) cs
+no_copies a [] h = tt
+no_copies a (c ∷ cs) h = ((λ is. absurd (let clash : false ≡ true = sym h.0 ∙ ap (λ (n : ℕ). n == STORE) is in cc)), no_copies a cs h.1)
+
 no_store : (c : Command) → LooksOr DELETE c → IsOther STORE c
 no_store c (inl looks) = looks_no_store c looks
 no_store c (inr own) = ap (λ (n : ℕ). n == STORE) own.0
@@ -206,6 +211,7 @@ module _ (Keeps : Map → Map → Type 0) (Wanted : Map → Map → Key → Type
     only = tt;
     changed = λ a b b' ea eb eb' keeps. unchanged Wanted a b b' (some_same b' b (sym eb' ∙ eb));
     lessens = λ deletes a b b' ea eb eb' keeps. part_itself b b' (some_same b' b (sym eb' ∙ eb));
+    copies = λ a ea. tt;
   }
 
   -- commands that only look
@@ -216,6 +222,7 @@ module _ (Keeps : Map → Map → Type 0) (Wanted : Map → Map → Key → Type
     changed = λ a b b' ea eb eb' keeps. subst (Changed Wanted a b b') (sym (keys_none opcode cs (only_map OnlyLooks (IsOther opcode) other cs looks)))
         (unchanged Wanted a b b' (some_same b' b (sym eb' ∙ same ∙ eb)));
     lessens = λ deletes a b b' ea eb eb' keeps. part_itself b b' (some_same b' b (sym eb' ∙ same ∙ eb));
+    copies = λ a ea. no_copies a cs (only_map OnlyLooks (IsOther STORE) looks_no_store cs looks);
   }
 
   spent_more : (first first1 second second1 second' : PortState) (cs ds : List Command) → first1.map ≡ first.map → Goes first second second1 → Spent Keeps Wanted opcode first second second1 cs
@@ -228,6 +235,7 @@ module _ (Keeps : Map → Map → Type 0) (Wanted : Map → Map → Key → Type
         (changed_more Wanted a b b1 b' (keys_of opcode cs) (keys_of opcode ds) (h.changed a b b1 ea eb e1 keeps) (g.changed a b1 b' (same ∙ ea) e1 eb' k1));
     lessens = λ deletes a b b' ea eb eb' keeps.
         let (b1, e1, k1) = goes a b ea eb keeps in part_through b b1 b' (h.lessens deletes a b b1 ea eb e1 keeps) (g.lessens deletes a b1 b' (same ∙ ea) e1 eb' k1);
+    copies = λ a ea. both_only (IsCopy a) cs ds (h.copies a ea) (g.copies a (same ∙ ea));
   }
 
   spending_more : (first first1 second second1 : PortState) (cs ds : List Command) → first1.map ≡ first.map → Goes first second second1 → Spent Keeps Wanted opcode first second second1 cs
@@ -238,6 +246,7 @@ module _ (Keeps : Map → Map → Type 0) (Wanted : Map → Map → Key → Type
         let (b1, e1, k1) = goes a b ea eb keeps in
         subst (EachOnce (Wanted a b)) (sym (keys_of_both opcode cs ds))
         (were_more Wanted a b b1 (keys_of opcode cs) (keys_of opcode ds) (h.changed a b b1 ea eb e1 keeps) (g.were a b1 (same ∙ ea) e1 k1));
+    copies = λ a ea. both_only (IsCopy a) cs ds (h.copies a ea) (g.copies a (same ∙ ea));
   }
 
   spending_spent : (first second second' : PortState) (cs : List Command) → maps_between second second'
@@ -246,12 +255,14 @@ module _ (Keeps : Map → Map → Type 0) (Wanted : Map → Map → Key → Type
   spending_spent first second second' cs to h = record {
     only = h.only;
     were = λ a b ea eb keeps. let (b', eb') = to b eb in (h.changed a b b' ea eb eb' keeps).were;
+    copies = h.copies;
   }
 
   pub spending_looks : ((c : Command) → OnlyLooks c → IsOther opcode c) → (first second : PortState) (cs : List Command) → AllByRecursion OnlyLooks cs → Spending Keeps Wanted opcode first second cs
   spending_looks other first second cs looks = record {
     only = only_map OnlyLooks (LooksOr opcode) (λ c h. inl h) cs looks;
     were = λ a b ea eb keeps. subst (EachOnce (Wanted a b)) (sym (keys_none opcode cs (only_map OnlyLooks (IsOther opcode) other cs looks))) (none_once (Wanted a b));
+    copies = λ a ea. no_copies a cs (only_map OnlyLooks (IsOther STORE) looks_no_store cs looks);
   }
 
   -- ---- ports
@@ -294,6 +305,7 @@ module _ (first q q' : PortState) (k : Key) (named : key (delete_of k) ≡ k) (h
         let one = subst (λ (m : Map). Changed ToDelete a b m (k ∷ [])) (sym (removes a b b' ea eb eb')) (deleted_key a b k (has a b ea eb)) in
         subst (λ (q : Key). Changed ToDelete a b b' (q ∷ [])) (sym named) one;
     lessens = λ is_delete a b b' ea eb eb' keeps. subst (IsPart b) (sym (removes a b b' ea eb eb')) (part_removed b k);
+    copies = λ a ea. no_copies a (delete_of k ∷ []) (refl, tt);
   }
     where
       removes : (a b b' : Map) → first.map ≡ Some a → q.map ≡ Some b → q'.map ≡ Some b' → b' ≡ remove b k
@@ -305,27 +317,31 @@ module _ (first q q' : PortState) (k : Key) (named : key (delete_of k) ≡ k) (h
   deleting_one = record {
     only = (inr (refl, refl), tt);
     were = λ a b ea eb keeps. subst (λ (q : Key). EachOnce (ToDelete a b) (q ∷ [])) (sym named) record { each = (has a b ea eb, tt); once = (tt, tt) };
+    copies = λ a ea. no_copies a (delete_of k ∷ []) (refl, tt);
   }
 
 module _ (p q q' : PortState) (k : Key) (value : List ℕ) (named : key (store_of k value Any) ≡ k)
-    (has : (a b : Map) → p.map ≡ Some a → q.map ≡ Some b → (v : List ℕ) × (get a k ≡ Some v)) (lacked : (b : Map) → q.map ≡ Some b → contains_key b k ≡ false) where
+    (has : (a : Map) → p.map ≡ Some a → get a k ≡ Some value) (lacked : (b : Map) → q.map ≡ Some b → contains_key b k ≡ false) where
+  is_copy : (a : Map) → p.map ≡ Some a → AllByRecursion (IsCopy a) (store_of k value Any ∷ [])
+  is_copy a ea = ((λ is. ap (λ (q : Key). get a q) named ∙ has a ea), tt)
+
   pub stored_one : Leaves q q' (λ m. insert m k value) → Stored p q q' (store_of k value Any ∷ [])
   stored_one leaves = record {
     only = (inr (refl, refl), tt);
     changed = λ a b b' ea eb eb' part.
-        let (v, there) = has a b ea eb in
         let is : b' ≡ insert b k value = some_same b' (insert b k value) (sym eb' ∙ leaves b eb) in
-        let one = subst (λ (m : Map). Changed ToStore a b m (k ∷ [])) (sym is) (stored_key a b k v value there (lacked b eb)) in
+        let one = subst (λ (m : Map). Changed ToStore a b m (k ∷ [])) (sym is) (stored_key a b k value value (has a ea) (lacked b eb)) in
         subst (λ (q : Key). Changed ToStore a b b' (q ∷ [])) (sym named) one;
     lessens = λ is_delete. absurd (let clash : ◌≡◌ {A = ℕ} STORE DELETE = is_delete in cc);
+    copies = is_copy;
   }
 
   pub storing_one : Storing p q (store_of k value Any ∷ [])
   storing_one = record {
     only = (inr (refl, refl), tt);
     were = λ a b ea eb part.
-        let (v, there) = has a b ea eb in
-        subst (λ (q : Key). EachOnce (ToStore a b) (q ∷ [])) (sym named) record { each = ((ap is_some there, lacked b eb), tt); once = (tt, tt) };
+        subst (λ (q : Key). EachOnce (ToStore a b) (q ∷ [])) (sym named) record { each = ((ap is_some (has a ea), lacked b eb), tt); once = (tt, tt) };
+    copies = is_copy;
   }
 
 -- what the second has is not the first's: that lacks the key, or another value was found
@@ -347,8 +363,11 @@ other_differs p q k one two wanted held false f g fits fits2 h a b ea eb is =
     (ap is_some ew, λ s. h (vx ∙ sym (some_same w v (sym ew ∙ s ∙ ev)) ∙ sym wy))
 
 -- the first has the value that was found
-pub found_has : (p : PortState) (k : Key) (len : ℕ) (into : List ℕ) → Fetches p k (Some len) into → (a b : Map) (q : PortState) → p.map ≡ Some a → q.map ≡ Some b → (v : List ℕ) × (get a k ≡ Some v)
-found_has p k len into f a b q ea eb = let (v, ev, front) = found_some (get a k) len into (f a ea) in (v, ev)
+pub found_has : (p : PortState) (k : Key) (len : ℕ) (into value : List ℕ) → Fetches p k (Some len) into
+    → ((m : Map) → p.map ≡ Some m → (v : List ℕ) → get m k ≡ Some v → length v ≤ length into) → value ≡ take len into
+    → (a : Map) → p.map ≡ Some a → get a k ≡ Some value
+found_has p k len into value f fits is a ea =
+    let (v, ev, front) = found_some (get a k) len into (f a ea) in ev ∙ ap (λ (z : List ℕ). Some z) (sym (is ∙ front (fits a ea v ev)))
 
 -- ---- both phases
 
@@ -405,6 +424,7 @@ module _ (first first1 second second1 : PortState) (same : first1.map ≡ first.
   both_differ = record {
     deletes_once = both_deleted;
     stores_once = both_stored;
+    copies = both_only (IsCopy a) cs ds (h.copies a ea) (g.copies a (same ∙ ea));
     deletes = few_deleted a b (cs ++ ds) both_deleted;
     stores = few_stored a b (cs ++ ds) both_stored;
   }
@@ -429,6 +449,7 @@ resync_first first second cs h =
       known = λ a b ea eb. record {
         deletes_once = h.were a b ea eb tt;
         stores_once = stored a b;
+        copies = h.copies a ea;
         deletes = few_deleted a b cs (h.were a b ea eb tt);
         stores = few_stored a b cs (stored a b);
       };
@@ -479,6 +500,7 @@ module _ (first first1 second second1 second' : PortState) (same : first1.map �
   storing = record {
     only = g.only;
     were = λ a b1 ea e1 part. let (b', eb', keeps, all) = come a b1 ea e1 part in (g.changed a b1 b' ea e1 eb' part).were;
+    copies = g.copies;
   }
 
   all_differ : (a b : Map) → first.map ≡ Some a → second.map ≡ Some b → AllDiffering a b (cs ++ ds)

@@ -55,12 +55,18 @@ ToStore first second key = (contains_key first key ≡ true) × (contains_key se
 abbrev pub ToCopy : Map → Map → Key → Type 0
 ToCopy first second key = (contains_key first key ≡ true) × (get second key ≢ get first key)
 
+-- a Store has the value that this map has
+abbrev pub IsCopy : Map → Command → Type 0
+IsCopy m c = c.opcode ≡ STORE → get m (key c) ≡ Some c.value
+
 -- The Deletes and Stores of a resync, or of one that ended early, where the first drive has the map a and the second b: it deletes no key but
 -- those of the second that the first lacks or has with another value, each once, and stores no key but those of the first that the second lacked
--- or had with another value, each once. So it deletes at most as many keys as the second has, and stores at most as many as the first has.
+-- or had with another value, each once and with the first's value. So it deletes at most as many keys as the second has, and stores at most as
+-- many as the first has.
 pub record OnlyDiffering (a b : Map) (cs : List Command) : Type 0 where
   pub deletes_once : EachOnce (ToDelete a b) (keys_of DELETE cs)
   pub stores_once : EachOnce (ToCopy a b) (keys_of STORE cs)
+  pub copies : AllByRecursion (IsCopy a) cs
   pub deletes : opcode_count DELETE cs ≤ len b
   pub stores : opcode_count STORE cs ≤ len a
 
@@ -98,11 +104,13 @@ module _ (Keeps : Map → Map → Type 0) (Wanted : Map → Map → Key → Type
     pub only : AllByRecursion (LooksOr opcode) cs
     pub changed : (a b b' : Map) → first.map ≡ Some a → second.map ≡ Some b → second'.map ≡ Some b' → Keeps a b → Changed Wanted a b b' (keys_of opcode cs)
     pub lessens : opcode ≡ DELETE → (a b b' : Map) → first.map ≡ Some a → second.map ≡ Some b → second'.map ≡ Some b' → Keeps a b → IsPart b b'
+    pub copies : (a : Map) → first.map ≡ Some a → AllByRecursion (IsCopy a) cs
 
   -- At any exit: they name wanted keys, each once.
   pub record Spending (first second : PortState) (cs : List Command) : Type 0 where
     pub only : AllByRecursion (LooksOr opcode) cs
     pub were : (a b : Map) → first.map ≡ Some a → second.map ≡ Some b → Keeps a b → EachOnce (Wanted a b) (keys_of opcode cs)
+    pub copies : (a : Map) → first.map ≡ Some a → AllByRecursion (IsCopy a) cs
 
 abbrev pub Deleted : PortState → PortState → PortState → List Command → Type 0
 Deleted = Spent AreAny ToDelete DELETE
