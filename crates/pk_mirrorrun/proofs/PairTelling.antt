@@ -111,7 +111,7 @@ unworn_by shape start p q has holds begun going before none walk =
     few_unworn p.on.board (metered-unworn run.all (meter p.on.board) (meter q.on.board) (λ nothing. walk.1 (sym run.are ∙ ap commands nothing)) run.metered)
 
 -- neither drive was worn, and the second served all that differed
-record BothUnworn (task : PairTask) (shape : Shape) (m other : Map) (a c d : BoardState) : Type 0 where
+pub record BothUnworn (task : PairTask) (shape : Shape) (m other : Map) (a c d : BoardState) : Type 0 where
   pub first : is_worn a ≡ false
   pub second : is_worn c ≡ false
   pub whole : ServedUnworn (WholeOnSecond task m other) shape c d

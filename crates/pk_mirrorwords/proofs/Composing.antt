@@ -116,6 +116,7 @@ module _ {P : Type 0} (took : P → List Command → P → Type 0) (both : (p : 
 
   pub second_all : (task : PairTask) (first second : PortState) (p q r : P) → TookSome took (AreWholeResync first second) p q
       → TookSome took (AreOfWord task) q r → TookSome took (AsksAllOfSecond task first second) p r
+  unfolding of_both
   second_all task first second p q r h g = (
     h.0 ++ g.0,
     λ a b ea eb. let all = h.1.known a b ea eb in record {
