@@ -114,7 +114,7 @@ pub record BothServed (task : PairTask) (shape : Shape) (m other : Map) (a b c d
   pub posts : OnlyPosts unposted b
   pub second : ServedUnworn (OnSecond task m other) shape c d
 
--- these commands and at least one more are of this kind: so of a word that changes the maps, the command that does is not among them
+-- these commands and at least one more are of this kind: of a word that changes the maps, the command that does comes last, so it was not asked
 abbrev pub SomeRemain : (List Command → Type 0) → List Command → Type 0
 SomeRemain Are cs = (next : Command) × (more : List Command) × Are (cs ++ next ∷ more)
 

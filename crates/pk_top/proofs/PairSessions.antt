@@ -116,20 +116,20 @@ again shape limits limits' one two m n stands one_limit task old new old' new' s
     (ap (λ (ls : List ℕ). limit_of ls 1) here ∙ one_limit ∙ sym (ap (λ (ls : List ℕ). limit_of ls 1) also)) far far' none none' sound sound')
 
 pub kept_through_pair : PairKeptThroughRuns
-kept_through_pair shape limits limits' one two m n [] end also stands (same, same') =
+kept_through_pair shape limits limits' one two m n [] end also stands run =
     let S : Flash → Flash → Type 0 = λ f g. PairStands shape limits limits' f g m n in
-    let there = subst (λ (f : Flash). S f also) (sym same) (subst (λ (g : Flash). S one g) (sym same') stands) in
+    let there = subst (λ (f : Flash). S f also) (sym run.0) (subst (λ (g : Flash). S one g) (sym run.1) stands) in
     (m, n, there, (refl, refl), again shape limits limits' end also m n there)
-kept_through_pair shape limits limits' one two m n (r ∷ runs) end also stands (is, from, from', more) =
-    let here : limits_at shape r.first.old.pages ≡ limits = ap (limits_at shape) from ∙ stands.limits_are in
-    let here' : limits_at shape r.second.old.pages ≡ limits' = ap (limits_at shape) from' ∙ stands.limits_are' in
-    let kept = left shape r is m n (subst (λ (f : Flash). Holds shape f m) (sym from) stands.holds) (subst (λ (f : Flash). Holds shape f n) (sym from') stands.holds') in
+kept_through_pair shape limits limits' one two m n (r ∷ runs) end also stands run =
+    let here : limits_at shape r.first.old.pages ≡ limits = ap (limits_at shape) run.1 ∙ stands.limits_are in
+    let here' : limits_at shape r.second.old.pages ≡ limits' = ap (limits_at shape) run.2 ∙ stands.limits_are' in
+    let kept = left shape r run.0 m n (subst (λ (f : Flash). Holds shape f m) (sym run.1) stands.holds) (subst (λ (f : Flash). Holds shape f n) (sym run.2) stands.holds') in
     let step : LeavesMaps shape limits limits' r m n kept.0 kept.1 =
     subst (λ (x : List ℕ × List ℕ). LeavesMaps shape x.0 x.1 r m n kept.0 kept.1) (λ k. (here k, here' k)) kept.2 in
-    let rest = kept_through_pair shape limits limits' r.first.left r.second.left kept.0 kept.1 runs end also record {
+    let rest = kept_through_pair shape limits limits' r.first.left r.second.left kept.0 kept.1 runs end also (record {
       holds = step.first_holds;
       holds' = step.second_holds;
       limits_are = step.first.same_limits;
       limits_are' = step.second.same_limits;
-    } more in
+    }) run.3 in
     (rest.0, rest.1, rest.2, (kept.0, kept.1, step, rest.3), rest.4)
