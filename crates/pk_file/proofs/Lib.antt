@@ -1,3 +1,4 @@
+pub mod Gathering
 pub mod Rows
 pub mod Slotting
 pub mod Steps
