@@ -1,10 +1,14 @@
 -- Bytes of a row of pages that are gathered and written.
-use Rattle.std.proofs.Common.{◌≡◌, ◌⊎◌, inl, inr, ℕ, zero, suc, ◌+◌, ◌-◌, ◌*◌, ◌<◌, ◌≤◌, List, [], ◌∷◌, ◌++◌, length, get_or, replicate, refl, sym, ap, subst, ◌∙◌, arith, Bool, false, Option}
+use Rattle.std.proofs.Common.{◌≡◌, ◌⊎◌, inl, inr, ℕ, zero, suc, suc-mul, ◌+◌, ◌-◌, ◌*◌, ◌/◌, ◌%◌, ◌<◌, ◌≤◌, List, [], ◌∷◌, ◌++◌, append-nil, length, get_or, replicate, refl, sym, ap, subst, ◌∙◌, arith, Bool, false, Option, None, Some, nat_lt}
+use Rattle.std.{proofs.lemmas.Bool.Decides.nat_tests, proofs.lemmas.Grind.get_or_default_zero}
+use Rattle.std.{proofs.lemmas.Nat.div-mul-add, proofs.lemmas.Nat.mod-mul-add}
+use Rattle.pk_base.{specs.Page.Page, specs.Page.Flash, specs.Page.whole, specs.Page.page_at}
 use Rattle.std.proofs.lemmas.Bool.{cases_lt}
 use Rattle.std.proofs.lemmas.List.{get_or_append_left, get_or-append_right, get_or-replicate, length-append, length-replicate, append_assoc}
 use Rattle.pk_nand.specs.Calls.{longer}
 use Rattle.pk_file.specs.FileSteps.{FileStep, states_set, bytes_written, synced, piece_steps}
 use Rattle.pk_file.{specs.Pieces.Right, specs.Pieces.AllRight, specs.Pieces.Reaches, specs.Pieces.Written, specs.Pieces.Gathered, specs.Pieces.PageWanted, specs.Pieces.Grows}
+use Rattle.pk_file.{specs.RowSteps.wanted, specs.RowSteps.bytes_of_page, specs.RowSteps.is_dirty, specs.RowSteps.BytesOfRow, specs.RowSteps.BytesWritten}
 use Rattle.pk_file.proofs.Steps.{steps_more}
 
 module _ (size : ℕ) where
@@ -182,3 +186,86 @@ grows_none size page front need now next first bytes gap none first' gap' did em
     gathered_none size from (page * size) wanted dirty start next first' none gap' front empty (omega (arith, short, zero_need))
     (subst (λ (n : ℕ). PageWanted size (page * size) wanted dirty front n) zero_need wants)
     (gathered_write size from (page * size) wanted dirty start now next first bytes gap first' none gap' empty did g)
+
+longer_none : {X : Type 0} (o : Option (List X)) → o ≡ longer o []
+longer_none None = refl
+longer_none (Some xs) = ap (λ l. Some l) (sym (append-nil xs))
+
+-- nothing is gathered yet
+pub gathered_start : (size first : ℕ) (wanted : ℕ → ℕ) (dirty : ℕ → Bool) (start : Option (List FileStep)) (page : ℕ) (bytes : List ℕ) (gap : ℕ) → length bytes ≡ 0
+    → Gathered size (first * size) ((first + 0) * size) wanted dirty start start page bytes gap
+gathered_start size first wanted dirty start page bytes gap empty =
+    let none : (first + 0) * size ≡ first * size = ap (λ (n : ℕ). n * size) (omega arith) in
+    record {
+      written = [];
+      steps = longer_none start;
+      right = record {};
+      own = λ q h. absurd (omega (arith, h, empty));
+      cover = λ p low high. absurd (omega (arith, low, high, none));
+      tail = λ p some. absurd (omega (arith, some, empty));
+      end = λ some. absurd (omega (arith, some, empty));
+    }
+
+-- the place of a byte of a page
+place_of : (size : ℕ) (pages : Flash) (k q : ℕ) (bytes : List ℕ) → page_at pages k ≡ whole bytes → q < size → wanted size pages (k * size + q) ≡ get_or bytes q 0
+place_of size pages k q bytes is less =
+    ap (λ (n : ℕ). get_or (bytes_of_page (page_at pages n)) ((k * size + q) % size) 0) (div-mul-add k size q less)
+    ∙ (ap (λ (x : Page). get_or (bytes_of_page x) ((k * size + q) % size) 0) is
+    ∙ ap (λ (n : ℕ). get_or bytes n 0) (mod-mul-add k size q less))
+
+-- beyond the front of a page are zeros
+zero_behind : (front : List ℕ) (zeros q : ℕ) → length front ≤ q → get_or {A = ℕ} (front ++ replicate zeros 0) q 0 ≡ 0
+zero_behind front zeros q past = get_or-append_right front (replicate zeros 0) (length front) q 0 refl past ∙ zeros_all zeros (q - length front)
+  where
+    zeros_all : (n q : ℕ) → get_or {A = ℕ} (replicate n 0) q 0 ≡ 0
+    zeros_all zero q = refl
+    zeros_all (suc n) zero = refl
+    zeros_all (suc n) (suc q) = zeros_all n q
+
+-- a page of a row is the one that is wanted
+pub page_wanted : (size : ℕ) (pages : Flash) (first i : ℕ) (extents front : List ℕ) (zeros need : ℕ) → page_at pages (first + i) ≡ whole (front ++ replicate zeros 0)
+    → length front ≤ size → (get_or extents i 0 ≤ need) ⊎ (size ≤ need) → PageWanted size ((first + i) * size) (wanted size pages) (is_dirty size pages first extents) front need
+page_wanted size pages first i extents front zeros need is fits reach = record {
+  front_is = λ q inside. elim (cases_lt q size) [
+    | inl less ↦ place_of size pages (first + i) q (front ++ replicate zeros 0) is less ∙ get_or_append_left front (replicate zeros 0) 0 q inside
+    | inr past ↦ absurd (omega (arith, inside, past, fits))
+  ];
+  zeros = λ q past less. place_of size pages (first + i) q (front ++ replicate zeros 0) is less ∙ zero_behind front zeros q past;
+  same = λ q past less. ap (λ (n : ℕ). nat_lt n (get_or extents (((first + i) * size + q) / size - first) 0)) (mod-mul-add (first + i) size q less)
+      ∙ (ap (λ (n : ℕ). nat_lt q (get_or extents (n - first) 0)) (div-mul-add (first + i) size q less)
+      ∙ (ap (λ (n : ℕ). nat_lt q (get_or extents n 0)) (omega arith)
+      ∙ clean q (elim reach [ inl low ↦ omega (arith, low, past) | inr full ↦ absurd (omega (arith, full, past, less)) ])));
+}
+  where
+    clean : (q : ℕ) → get_or extents i 0 ≤ q → nat_lt q (get_or extents i 0) ≡ false
+    clean q h = grind (arith, nat_tests)
+
+-- the next page of a row
+pub page_next : (size first i : ℕ) → (first + i) * size + size ≡ (first + (i + 1)) * size
+page_next size first i = let more : first + (i + 1) ≡ suc (first + i) = omega arith in sym (ap (λ (n : ℕ). n * size) more ∙ (suc-mul (first + i) size ∙ omega arith))
+
+-- the extent of a page is needed, or all of it
+pub reach_of : (extents : List ℕ) (i extent size need : ℕ) → i < length extents → extent ≡ get_or extents i extent → (extent ≤ need) ⊎ (size ≤ need)
+    → (get_or extents i 0 ≤ need) ⊎ (size ≤ need)
+reach_of extents i extent size need inside is reach =
+    let own : extent ≡ get_or extents i 0 = is ∙ get_or_default_zero extents i extent inside in
+    elim reach [ inl some ↦ inl (omega (arith, own, some)) | inr full ↦ inr full ]
+
+-- all pages of a row are gathered and written
+pub row_written : (size : ℕ) (pages : Flash) (first : ℕ) (extents : List ℕ) (i : ℕ) (start now : Option (List FileStep)) (page : ℕ) (none : List ℕ) (gap : ℕ)
+    → i ≡ length extents → length none ≡ 0 → ((k : ℕ) → first ≤ k → k < first + i → (bytes : List ℕ) × (page_at pages k ≡ whole bytes))
+    → Gathered size (first * size) ((first + i) * size) (wanted size pages) (is_dirty size pages first extents) start now page none gap → BytesWritten size pages first extents start now
+row_written size pages first extents i start now page none gap all empty are g =
+    let same : (first + i) * size ≡ (first + length extents) * size = ap (λ (n : ℕ). (first + n) * size) all in
+    record {
+      pieces = g.written;
+      steps = g.steps;
+      own = record {
+        are_whole = λ k low high. are k low (omega (arith, high, all));
+        right = right_wider size (first * size) ((first + i) * size) ((first + length extents) * size) (wanted size pages) g.written (omega (arith, same)) g.right;
+        cover = λ p low high. elim (g.cover p low (omega (arith, high, same))) [
+          | inl one ↦ elim one [ inl some ↦ inl some | inr last ↦ (let least = last.0 in let most = last.1 in absurd (omega (arith, least, most, empty))) ]
+          | inr zeros ↦ inr zeros
+        ];
+      };
+    }

@@ -11,7 +11,7 @@ ghost use Rattle.pk_file.specs.Slots.{pages_of, AllFit};
 use crate::image_file::ImageFile;
 use crate::incoming::Incoming;
 use crate::outgoing::Outgoing;
-use crate::pages_to_file::{create_image, erase_pages, find_image};
+use crate::pages_to_file::{create_image, find_image};
 use crate::row::{PageWrites, Row};
 use crate::slot::Slot;
 use crate::slots::{erase_slots, erased_slots, known, read_slot, set_slot};
@@ -138,16 +138,19 @@ fn write_waiting(
     }
 }
 
-/// Erases a block in the file and in memory. A write or sync that fails erases the pages whose state bytes were set.
+/// Erases a block in the file and in memory, after the pages that wait were written. A write or sync that fails erases the pages whose
+/// state bytes were set.
 fn erase_block(
     file: &mut Option<ImageFile>,
     shape: &Option<Shape>,
     slots: &mut Vec<Slot>,
+    row: &mut Row,
     block: u32,
 ) -> Result<(), NandFault>
     requires exists { block < (shape_or_none shape.now).blocks }
     requires count { length slots.old.items ≡ spec.page_count (shape_or_none shape.now) }
     requires fit { AllFit (shape_or_none shape.now) slots.old.items }
+    requires row { row.old.first + length row.old.extents.items ≤ length slots.old.items }
 
     // The whole effect, or a part of it as a cut may leave it.
     ensures pages { OnOk result (pages_of slots.new.items
@@ -158,13 +161,14 @@ fn erase_block(
     // The board keeps its form.
     ensures count { length slots.new.items ≡ length slots.old.items }
     ensures fit { AllFit (shape_or_none shape.now) slots.new.items }
+    ensures row { row.new.first + length row.new.extents.items ≤ length slots.new.items }
 {
     let (Some(file), Some(shape)) = (file, shape) else {
         return Err(NandFault);
     };
     let count = shape.block_pages();
     let first = block * count;
-    let cleared = erase_pages(file, shape, first, count);
+    let cleared = row.erase(file, shape, slots, first, count);
     erase_slots(slots, first as usize, cleared.count as usize);
     if cleared.is_done {
         return Ok(());
@@ -353,13 +357,13 @@ impl Nand for FileBoard<'_> {
 
     fn erase(&mut self, block: u32) -> Result<(), NandFault> {
         raise(&mut self.erases);
-        if !write_waiting(&mut self.file, &self.shape, &self.slots, &mut self.row) {
-            raise(&mut self.flash_faults);
-            raise(&mut self.stop_faults);
-            self.failed_at = Some(block);
-            return Err(NandFault);
-        }
-        match erase_block(&mut self.file, &self.shape, &mut self.slots, block) {
+        match erase_block(
+            &mut self.file,
+            &self.shape,
+            &mut self.slots,
+            &mut self.row,
+            block,
+        ) {
             Ok(()) => Ok(()),
             Err(_) => {
                 raise(&mut self.flash_faults);

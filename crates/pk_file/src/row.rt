@@ -1,10 +1,13 @@
 //! Pages in memory that are not in the file yet, and how they get there.
-ghost use Rattle.std.specs.Prelude.{◌≡◌, ◌≤◌, ◌<◌, ◌+◌, length, true, IfOk};
+ghost use Rattle.std.specs.Prelude.{◌≡◌, ◌⊎◌, [], false, slice_index, ◌≤◌, ◌<◌, ◌+◌, length, true, IfOk};
 ghost use Rattle.pk_base.specs.Shape as spec;
 ghost use Rattle.pk_base.specs.declared.sizes.TheConstants.{MOST_BLOCK_PAGES};
-ghost use Rattle.pk_file.specs.Slots.{AllFit};
+ghost use Rattle.pk_file.specs.Slots.{AllFit, pages_of};
+ghost use Rattle.pk_file.specs.Extents.{extents_of};
+ghost use Rattle.pk_file.specs.RowSteps.{BytesWritten, RowErased, RowGrew, RowProgrammed, RowWritten};
 
 use crate::image_file::PageFile;
+use crate::pages_to_file::{Cleared, erase_pages};
 use crate::piece::Piece;
 use crate::slot::Slot;
 use pk_base::{MOST_BLOCK_PAGES, Shape};
@@ -118,7 +121,16 @@ impl Row {
         requires fit { AllFit shape.now slots.now.items }
         requires row { self.old.first + length self.old.extents.items ≤ length slots.now.items }
         ensures row { self.new.first + length self.new.extents.items ≤ length slots.now.items }
+        ensures added { result ≡ true → RowGrew shape.now.page_bytes (pages_of slots.now.items)
+            self.old.first self.old.extents.items self.new.first self.new.extents.items
+            page (slice_index (extents_of slots.now.items) page)
+            (F.steps file.old) (F.steps file.new) }
+        ensures lost { self.old.is_lost ≡ true → (result ≡ false) × (self.new.is_lost ≡ true)
+            × (F.steps file.new ≡ F.steps file.old) }
     {
+        if self.is_lost {
+            return false;
+        }
         if !self.takes(shape, page) {
             if !self.write(file, shape, slots) {
                 return false;
@@ -136,7 +148,17 @@ impl Row {
         requires fit { AllFit shape.now slots.now.items }
         requires row { self.old.first + length self.old.extents.items ≤ length slots.now.items }
         ensures first { self.new.first ≡ self.old.first }
-        ensures none { length self.new.extents.items ≡ 0 }
+        ensures none { self.new.extents.items ≡ [] }
+        ensures written { result ≡ true → RowWritten shape.now.page_bytes
+            (pages_of slots.now.items) self.old.first self.old.extents.items
+            (F.steps file.old) (F.steps file.new) }
+
+        // Nothing is written after a failure, if pages wait.
+        ensures lost { self.old.is_lost ≡ true → (result ≡ false) × (self.new.is_lost ≡ true)
+            × (F.steps file.new ≡ F.steps file.old) }
+        ensures stops { result ≡ false → self.old.writes ≡ PageWrites.Gathered
+            → self.new.is_lost ≡ true }
+        ensures writes { self.new.writes ≡ self.old.writes }
     {
         if self.is_lost {
             self.extents.clear();
@@ -157,6 +179,47 @@ impl Row {
         self.is_lost = !is_done && self.writes == PageWrites::Gathered;
         is_done
     }
+
+    /// Sets the state bytes of pages to Erased, after the row was written.
+    pub fn erase<F: PageFile>(
+        &mut self,
+        file: &mut F,
+        shape: &Shape,
+        slots: &Vec<Slot>,
+        first: u32,
+        count: u32,
+    ) -> Cleared
+        requires small { count ≤ MOST_BLOCK_PAGES }
+        requires exists { first < spec.page_count shape.now }
+        requires count { length slots.now.items ≡ spec.page_count shape.now }
+        requires fit { AllFit shape.now slots.now.items }
+        requires row { self.old.first + length self.old.extents.items ≤ length slots.now.items }
+        ensures row { self.new.first + length self.new.extents.items ≤ length slots.now.items }
+        ensures most { result.count ≤ count }
+        ensures all { result.is_done ≡ true → result.count ≡ count }
+        ensures done { result.is_done ≡ true → RowErased shape.now.page_bytes
+            (pages_of slots.now.items) self.old.first self.old.extents.items first count
+            (F.steps file.old) (F.steps file.new) }
+        ensures lost { self.old.is_lost ≡ true → (result.count ≡ 0) × (self.new.is_lost ≡ true)
+            × (F.steps file.new ≡ F.steps file.old) }
+    {
+        if !self.write(file, shape, slots) {
+            return Cleared {
+                count: 0,
+                is_done: false,
+            };
+        }
+        erase_pages(file, shape, first, count)
+    }
+}
+
+/// How many bytes of a page have to be written, if it ends in zeros after its front, and its place in the file from the extent on.
+fn needed(front: usize, extent: usize, size: usize) -> usize
+    ensures front { front ≤ result }
+    ensures extent { (extent ≤ result) ⊎ (size ≤ result) }
+    ensures most { front ≤ size → result ≤ size }
+{
+    front.max(extent.min(size))
 }
 
 /// Writes the bytes of pages.
@@ -172,6 +235,8 @@ fn write_bytes<F: PageFile>(
     requires fit { AllFit shape.now slots.now.items }
     requires row { first + length extents.now.items ≤ length slots.now.items }
     requires few { length extents.now.items ≤ MOST_BLOCK_PAGES }
+    ensures { result ≡ true → BytesWritten shape.now.page_bytes (pages_of slots.now.items)
+        first extents.now.items (F.steps file.old) (F.steps file.new) }
 {
     let size = shape.page_bytes() as usize;
     // so that the numbers of the pages are known to be of 32 bits
@@ -183,7 +248,7 @@ fn write_bytes<F: PageFile>(
             return false;
         };
         let front = kept.front.as_slice();
-        let need = front.len().max(extents[i].min(size));
+        let need = needed(front.len(), extents[i], size);
         if need > size || !piece.add(file, shape, page, front, need) {
             return false;
         }
@@ -205,6 +270,8 @@ fn write_row<F: PageFile>(
     requires row { first + length extents.now.items ≤ length slots.now.items }
     requires few { length extents.now.items ≤ MOST_BLOCK_PAGES }
     requires some { 0 < length extents.now.items }
+    ensures { result ≡ true → RowProgrammed shape.now.page_bytes (pages_of slots.now.items)
+        first extents.now.items (F.steps file.old) (F.steps file.new) }
 {
     if file.begin().is_err() {
         return false;
