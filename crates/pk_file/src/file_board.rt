@@ -110,10 +110,11 @@ fn program_page(
             if !is_last || row.write(file, shape, slots) {
                 return Ok(());
             }
-            if row.is_direct() {
-                // the file may have it in part
-                set_slot(slots, page as usize, torn);
+            if !row.is_direct() {
+                return Err(NandFault);
             }
+            // the file may have it in part
+            set_slot(slots, page as usize, torn);
             Err(NandFault)
         }
         _ => Err(NandFault),
@@ -136,6 +137,24 @@ fn write_waiting(
         (Some(file), Some(shape)) => row.write(file, shape, slots),
         _ => true,
     }
+}
+
+/// The same at the end of a run: a failure that was reported is no new one.
+fn write_last(
+    file: &mut Option<ImageFile>,
+    shape: &Option<Shape>,
+    slots: &Vec<Slot>,
+    row: &mut Row,
+) -> bool
+    requires count { length slots.now.items ≡ spec.page_count (shape_or_none shape.now) }
+    requires fit { AllFit (shape_or_none shape.now) slots.now.items }
+    requires row { row.old.first + length row.old.extents.items ≤ length slots.now.items }
+    ensures row { row.new.first + length row.new.extents.items ≤ length slots.now.items }
+{
+    if row.is_lost() {
+        return true;
+    }
+    write_waiting(file, shape, slots, row)
 }
 
 /// Erases a block in the file and in memory, after the pages that wait were written. A write or sync that fails erases the pages whose
@@ -227,9 +246,7 @@ impl<'a> FileBoard<'a> {
         ensures err { OnErr result (Rose self.old.out_faults self.new.out_faults) }
         ensures flash { (self.new.shape ≡ self.old.shape) × (self.new.slots ≡ self.old.slots) }
     {
-        if !self.row.is_lost()
-            && !write_waiting(&mut self.file, &self.shape, &self.slots, &mut self.row)
-        {
+        if !write_last(&mut self.file, &self.shape, &self.slots, &mut self.row) {
             raise(&mut self.out_faults);
             return Err(HostFault { given: 0 });
         }
@@ -279,18 +296,14 @@ impl Nand for FileBoard<'_> {
         if self.shape.is_some() {
             return Ok(self.shape);
         }
-        match find_image(self.rt, alloc, self.path, self.is_durable) {
+        match find_image(self.rt, alloc, self.path, self.is_durable, self.writes) {
             Ok(None) => {
                 self.bare = true;
                 Ok(None)
             }
             Ok(Some(image)) => {
-                let Ok(row) = Row::for_shape(alloc, &image.shape, self.is_durable, self.writes)
-                else {
-                    return Err(LoadFault::Memory);
-                };
                 self.bare = false;
-                self.row = row;
+                self.row = image.row;
                 self.slots = image.slots;
                 self.shape = Some(image.shape);
                 self.file = Some(image.file);

@@ -1,5 +1,5 @@
 //! What is read of an image file and written to it.
-ghost use Rattle.std.specs.Prelude.{◌≡◌, ◌≤◌, ◌<◌, length, true, IfOk};
+ghost use Rattle.std.specs.Prelude.{◌≡◌, ◌≤◌, ◌<◌, ◌+◌, length, true, IfOk};
 ghost use Rattle.pk_base.specs.Shape as spec;
 ghost use Rattle.pk_nand.specs.Calls.{longer};
 ghost use Rattle.pk_file.specs.Slots.{AllFit};
@@ -8,6 +8,7 @@ ghost use Rattle.pk_file.specs.FileSteps.{erase_steps};
 use crate::image_file::{ImageFile, PageFile};
 use crate::opening::{open_alone, sync_folder};
 use crate::page_reader::PageReader;
+use crate::row::{PageWrites, Row};
 use crate::slot::Slot;
 use crate::slots::slots_of;
 use pk_base::{MOST_BLOCK_PAGES, Shape};
@@ -27,8 +28,11 @@ pub struct Image {
     pub file: ImageFile,
     pub shape: Shape,
     pub slots: Vec<Slot>,
+    /// The pages that wait to be written: none.
+    pub row: Row,
     ghost count: { length slots.items ≡ spec.page_count shape },
     ghost fit: { AllFit shape slots.items },
+    ghost waiting: { row.first + length row.extents.items ≤ length slots.items },
 }
 
 /// Opens the image file, with its length in bytes; None if it is missing or empty. An image that
@@ -78,17 +82,27 @@ fn slots_in(alloc: Global, file: &File, shape: &Shape) -> Result<Vec<Slot>, Load
     slots_of(alloc, file, &mut reader, states.as_slice())
 }
 
-/// The image of an open file of this length.
-fn read_image(alloc: Global, file: File, len: u64, is_durable: bool) -> Result<Image, LoadFault> {
+/// The image of an open file of this length, with the memory for pages that wait.
+fn read_image(
+    alloc: Global,
+    file: File,
+    len: u64,
+    is_durable: bool,
+    writes: PageWrites,
+) -> Result<Image, LoadFault> {
     let shape = match shape_of(&file, len) {
         Ok(shape) => shape,
         Err(fault) => return Err(fault),
+    };
+    let Ok(row) = Row::for_shape(alloc, &shape, is_durable, writes) else {
+        return Err(LoadFault::Memory);
     };
     match slots_in(alloc, &file, &shape) {
         Ok(slots) => Ok(Image {
             file: ImageFile::new(file, len, is_durable),
             shape,
             slots,
+            row,
         }),
         Err(fault) => Err(fault),
     }
@@ -101,6 +115,7 @@ pub fn find_image(
     alloc: Global,
     path: &str,
     is_durable: bool,
+    writes: PageWrites,
 ) -> Result<Option<Image>, LoadFault> {
     let (file, len) = match opened(rt, path) {
         Ok(None) => return Ok(None),
@@ -110,7 +125,7 @@ pub fn find_image(
     if is_durable && file.sync_data().is_err() {
         return Err(LoadFault::Fault);
     }
-    match read_image(alloc, file, len, is_durable) {
+    match read_image(alloc, file, len, is_durable, writes) {
         Ok(image) => Ok(Some(image)),
         Err(fault) => Err(fault),
     }
