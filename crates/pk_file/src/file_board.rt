@@ -1,6 +1,6 @@
 //! A board over a file, standard input and standard output. It records neither input, posted bytes
 //! nor trail.
-ghost use Rattle.std.specs.Prelude.{◌≡◌, ◌<◌, ◌*◌, ◌/◌, length, Option, ◌≤◌, ◌+◌, None, Some, OnOk, OnErr, slice_set};
+ghost use Rattle.std.specs.Prelude.{◌≡◌, ◌⊎◌, ◌<◌, ◌≤◌, ◌+◌, ◌*◌, ◌/◌, [], length, Option, None, Some, OnOk, OnErr, true, slice_set};
 ghost use Rattle.pk_base.specs.Shape as spec;
 ghost use Rattle.pk_base.specs.Page.{whole};
 ghost use Rattle.pk_base.specs.Mark.{program, erase, after};
@@ -94,6 +94,10 @@ fn program_page(
     ensures count { length slots.new.items ≡ length slots.old.items }
     ensures fit { AllFit (shape_or_none shape.now) slots.new.items }
     ensures row { row.new.first + length row.new.extents.items ≤ length slots.new.items }
+
+    // A page that is not to wait does not.
+    ensures direct { OnOk result (row.old.writes ≡ PageWrites.Direct
+        → row.new.extents.items ≡ []) }
 {
     known(bytes);
     let Ok(kept) = Trimmed::of(alloc, bytes) else {
@@ -104,13 +108,17 @@ fn program_page(
             if !row.add(file, shape, slots, page) {
                 return Err(NandFault);
             }
-            let is_last = row.is_direct() || ends_pair(slots, page, &kept);
+            let is_direct = row.is_direct();
+            let is_end = ends_pair(slots, page, &kept);
             let torn = slots[page as usize].torn(bytes, kept.front.len());
             set_slot(slots, page as usize, Slot::Whole(kept));
-            if !is_last || row.write(file, shape, slots) {
+            if !is_direct && !is_end {
                 return Ok(());
             }
-            if !row.is_direct() {
+            if row.write(file, shape, slots) {
+                return Ok(());
+            }
+            if !is_direct {
                 return Err(NandFault);
             }
             // the file may have it in part
@@ -132,10 +140,11 @@ fn write_waiting(
     requires fit { AllFit (shape_or_none shape.now) slots.now.items }
     requires row { row.old.first + length row.old.extents.items ≤ length slots.now.items }
     ensures row { row.new.first + length row.new.extents.items ≤ length slots.now.items }
+    ensures none { result ≡ true → row.new.extents.items ≡ [] }
 {
     match (file, shape) {
         (Some(file), Some(shape)) => row.write(file, shape, slots),
-        _ => true,
+        _ => row.is_empty(),
     }
 }
 
@@ -150,6 +159,8 @@ fn write_last(
     requires fit { AllFit (shape_or_none shape.now) slots.now.items }
     requires row { row.old.first + length row.old.extents.items ≤ length slots.now.items }
     ensures row { row.new.first + length row.new.extents.items ≤ length slots.now.items }
+    ensures none { result ≡ true
+        → (row.new.extents.items ≡ []) ⊎ (row.old.is_lost ≡ true) }
 {
     if row.is_lost() {
         return true;
@@ -245,6 +256,8 @@ impl<'a> FileBoard<'a> {
         ensures ok { OnOk result (self.new.out_faults ≡ self.old.out_faults) }
         ensures err { OnErr result (Rose self.old.out_faults self.new.out_faults) }
         ensures flash { (self.new.shape ≡ self.old.shape) × (self.new.slots ≡ self.old.slots) }
+        ensures written { OnOk result ((self.new.row.extents.items ≡ [])
+            ⊎ (self.old.row.is_lost ≡ true)) }
     {
         if !write_last(&mut self.file, &self.shape, &self.slots, &mut self.row) {
             raise(&mut self.out_faults);

@@ -1,9 +1,11 @@
 //! Pages in memory that are not in the file yet, and how they get there.
-ghost use Rattle.std.specs.Prelude.{◌≡◌, ◌⊎◌, [], false, slice_index, ◌≤◌, ◌<◌, ◌+◌, length, true, IfOk};
+ghost use Rattle.std.specs.Prelude.{◌≡◌, ◌≢◌, ◌⊎◌, ◌≤◌, ◌<◌, ◌+◌, ◌%◌, [], length, slice_index, true, false, IfOk};
 ghost use Rattle.pk_base.specs.Shape as spec;
 ghost use Rattle.pk_base.specs.declared.sizes.TheConstants.{MOST_BLOCK_PAGES};
 ghost use Rattle.pk_file.specs.Slots.{AllFit, pages_of};
 ghost use Rattle.pk_file.specs.Extents.{extents_of};
+ghost use Rattle.pk_file.specs.Sectors.{InOneSector, sector_bytes};
+ghost use Rattle.pk_image.specs.Image.{state_place};
 ghost use Rattle.pk_file.specs.RowSteps.{BytesWritten, RowErased, RowGrew, RowProgrammed, RowWritten};
 
 use crate::image_file::PageFile;
@@ -18,7 +20,7 @@ use std::alloc::{AllocError, Global};
 const SECTOR_BYTES: u64 = 512;
 
 /// When a page that was programmed is written to the file.
-#[derive(Clone, Copy, Debug, PartialEq, Eq)]
+#[derive(Clone, Copy, Debug)]
 pub enum PageWrites {
     /// With those that follow it: a failure is reported by a later call.
     Gathered,
@@ -39,6 +41,7 @@ pub struct Row {
     /// A write of pages that waited failed: the pages in memory are ahead of the file from now on, and nothing more is written.
     is_lost: bool,
     ghost few: { length extents.items ≤ MOST_BLOCK_PAGES },
+    ghost sector: { is_durable ≡ true → InOneSector first (length extents.items) },
 }
 
 impl Row {
@@ -57,7 +60,7 @@ impl Row {
         }
     }
 
-    /// No pages, with the memory for all that may wait.
+    /// No pages, with the memory for all that may wait: to add and write some takes none.
     pub fn for_shape(
         alloc: Global,
         shape: &Shape,
@@ -84,13 +87,28 @@ impl Row {
     }
 
     /// Whether each page is written at once.
-    pub fn is_direct(&self) -> bool {
-        self.writes == PageWrites::Direct
+    pub fn is_direct(&self) -> bool
+        ensures direct { self.now.writes ≡ PageWrites.Direct → result ≡ true }
+        ensures gathered { self.now.writes ≡ PageWrites.Gathered → result ≡ false }
+    {
+        match self.writes {
+            PageWrites::Direct => true,
+            PageWrites::Gathered => false,
+        }
     }
 
     /// Whether a write of pages that waited failed.
-    pub fn is_lost(&self) -> bool {
+    pub fn is_lost(&self) -> bool
+        ensures { result ≡ self.now.is_lost }
+    {
         self.is_lost
+    }
+
+    /// Whether no page waits.
+    pub fn is_empty(&self) -> bool
+        ensures { result ≡ true → self.now.extents.items ≡ [] }
+    {
+        self.extents.is_empty()
     }
 
     /// Whether a page may be the next of the row. If a loss of power may leave some of its state bytes, they are within a sector.
@@ -99,6 +117,9 @@ impl Row {
         ensures next { result ≡ true
             → page ≡ self.now.first + length self.now.extents.items }
         ensures room { result ≡ true → length self.now.extents.items < MOST_BLOCK_PAGES }
+        ensures sector { result ≡ true → self.now.is_durable ≡ true
+            → state_place page % sector_bytes ≢ 0 }
+        ensures some { result ≡ true → 0 < length self.now.extents.items }
     {
         let count = self.extents.len();
         count > 0
@@ -108,6 +129,7 @@ impl Row {
             && !(self.is_durable && state_at(shape, page) % SECTOR_BYTES == 0)
     }
 
+    #[tactic(auto, using(crate::proofs::Sectoring::sector_more, crate::proofs::Sectoring::sector_one))]
     /// Adds a page, at whose place the file has zeros from the extent on. A row that it does not belong to is written before.
     pub fn add<F: PageFile>(
         &mut self,
@@ -121,6 +143,7 @@ impl Row {
         requires fit { AllFit shape.now slots.now.items }
         requires row { self.old.first + length self.old.extents.items ≤ length slots.now.items }
         ensures row { self.new.first + length self.new.extents.items ≤ length slots.now.items }
+        ensures writes { self.new.writes ≡ self.old.writes }
         ensures added { result ≡ true → RowGrew shape.now.page_bytes (pages_of slots.now.items)
             self.old.first self.old.extents.items self.new.first self.new.extents.items
             page (slice_index (extents_of slots.now.items) page)
@@ -176,8 +199,11 @@ impl Row {
             &mut self.piece,
         );
         self.extents.clear();
-        self.is_lost = !is_done && self.writes == PageWrites::Gathered;
-        is_done
+        if is_done {
+            return true;
+        }
+        self.is_lost = !self.is_direct();
+        false
     }
 
     /// Sets the state bytes of pages to Erased, after the row was written.
@@ -203,7 +229,8 @@ impl Row {
         ensures lost { self.old.is_lost ≡ true → (result.count ≡ 0) × (self.new.is_lost ≡ true)
             × (F.steps file.new ≡ F.steps file.old) }
     {
-        if !self.write(file, shape, slots) {
+        let is_written = self.write(file, shape, slots);
+        if !is_written {
             return Cleared {
                 count: 0,
                 is_done: false,
