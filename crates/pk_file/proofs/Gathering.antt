@@ -8,7 +8,7 @@ use Rattle.std.proofs.lemmas.List.{get_or_append_left, get_or-append_right, get_
 use Rattle.pk_nand.specs.Calls.{longer}
 use Rattle.pk_file.specs.FileSteps.{FileStep, states_set, bytes_written, synced, piece_steps}
 use Rattle.pk_file.{specs.Pieces.Right, specs.Pieces.AllRight, specs.Pieces.Reaches, specs.Pieces.Written, specs.Pieces.Gathered, specs.Pieces.PageWanted, specs.Pieces.Grows}
-use Rattle.pk_file.{specs.RowSteps.wanted, specs.RowSteps.bytes_of_page, specs.RowSteps.is_dirty, specs.RowSteps.BytesOfRow, specs.RowSteps.BytesWritten}
+use Rattle.pk_file.{specs.RowSteps.wanted, specs.RowSteps.bytes_of_page, specs.RowSteps.is_dirty, specs.RowSteps.BytesWritten}
 use Rattle.pk_file.proofs.Steps.{steps_more}
 
 module _ (size : ℕ) where

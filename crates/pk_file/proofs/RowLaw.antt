@@ -1,5 +1,5 @@
 -- What a file shows while a row of pages is written to it.
-use Rattle.std.proofs.Common.{◌≡◌, ◌⊎◌, inl, inr, ℕ, zero, suc, ◌+◌, ◌-◌, ◌*◌, ◌/◌, ◌%◌, ◌<◌, ◌≤◌, List, [], ◌∷◌, ◌++◌, length, take, min, get_or, refl, sym, ap, subst, ◌∙◌, arith, Bool, false, Option}
+use Rattle.std.proofs.Common.{◌≡◌, ◌⊎◌, inl, inr, ℕ, ◌+◌, ◌-◌, ◌*◌, ◌%◌, ◌<◌, ◌≤◌, List, [], ◌∷◌, ◌++◌, length, take, min, get_or, refl, sym, ap, subst, ◌∙◌, arith, Option}
 use Rattle.std.{proofs.lemmas.Bool.cases_lt, proofs.lemmas.List.get_or-take, proofs.lemmas.List.length-take, proofs.lemmas.Nat.div-mul-add, proofs.lemmas.Nat.mod-mul-add}
 use Rattle.std.proofs.Math.Nat.{mul-le-mul_right}
 use Rattle.pk_base.proofs.BlockLemmas.{apart}
@@ -7,8 +7,8 @@ use Rattle.pk_base.{specs.Page.Page, specs.Page.Flash, specs.Page.whole, specs.P
 use Rattle.pk_image.specs.declared.tag.TheConstants.{WHOLE, TORN}
 use Rattle.pk_file.{specs.Content.Content, specs.Content.Follows, specs.Content.After, specs.Content.During, specs.Content.Shows}
 use Rattle.pk_file.{specs.FileSteps.FileStep, specs.FileSteps.states_set, specs.FileSteps.bytes_written, specs.FileSteps.synced, specs.FileSteps.row_steps}
-use Rattle.pk_file.{specs.Pieces.Right, specs.Pieces.AllRight, specs.Pieces.Reaches, specs.Pieces.Written}
-use Rattle.pk_file.{specs.RowSteps.wanted, specs.RowSteps.bytes_of_page, specs.RowSteps.is_dirty, specs.RowSteps.BytesOfRow, specs.RowSteps.ZerosBehind, specs.RowSteps.RowShown, specs.RowSteps.RowProgrammed, specs.RowSteps.RowWritten}
+use Rattle.pk_file.{specs.Pieces.Right, specs.Pieces.AllRight, specs.Pieces.Written}
+use Rattle.pk_file.{specs.RowSteps.wanted, specs.RowSteps.bytes_of_page, specs.RowSteps.BytesOfRow, specs.RowSteps.ZerosBehind, specs.RowSteps.RowShown, specs.RowSteps.RowProgrammed, specs.RowSteps.RowWritten}
 
 -- ---- steps after others
 

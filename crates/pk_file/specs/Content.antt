@@ -1,5 +1,5 @@
 -- What an image file holds, what steps make of it, and which pages it shows.
-use Rattle.std.specs.Prelude.{◌≡◌, ◌⊎◌, ℕ, ◌+◌, ◌-◌, ◌*◌, ◌<◌, ◌≤◌, List, [], ◌∷◌, length, slice_index}
+use Rattle.std.specs.Prelude.{◌≡◌, ◌⊎◌, ℕ, ◌+◌, ◌*◌, ◌<◌, ◌≤◌, List, [], ◌∷◌, length, slice_index}
 use Rattle.pk_base.{specs.Page.Page, specs.Page.erased, specs.Page.whole, specs.Page.torn}
 use Rattle.pk_image.specs.declared.tag.TheConstants.{ERASED, WHOLE, TORN}
 use Rattle.pk_file.specs.FileSteps.{FileStep, states_set, bytes_written, synced, part_of}

@@ -1,5 +1,5 @@
 -- What is asked of an image file, in order.
-use Rattle.std.specs.Prelude.{◌≡◌, ℕ, min, List, [], ◌∷◌, ◌++◌, take}
+use Rattle.std.specs.Prelude.{ℕ, min, List, [], ◌∷◌, ◌++◌, take}
 use Rattle.pk_image.specs.declared.tag.TheConstants.{ERASED, WHOLE, TORN}
 
 pub data FileStep : Type 0 where

@@ -1,7 +1,7 @@
-use Rattle.std.proofs.Common.{◌≡◌, ◌⊎◌, ◌∙◌, ◌+◌, ◌*◌, ◌<◌, ◌≤◌, ℕ, inl, inr, [], ◌∷◌, List, Option, length, ap, sym, subst, arith}
+use Rattle.std.proofs.Common.{◌≡◌, ◌⊎◌, ◌∙◌, ◌+◌, ◌*◌, ◌<◌, ◌≤◌, ℕ, inl, inr, List, length, ap, sym, subst, arith}
 use Rattle.std.proofs.Math.Nat.{mul-le-mul_right}
 use Rattle.std.proofs.lemmas.Bool.{cases_lt}
-use Rattle.pk_base.specs.Page.{Page, whole, page_at}
+use Rattle.pk_base.specs.Page.{whole, page_at}
 use Rattle.pk_file.{specs.Slots.pages_of, specs.Slots.slot_page, specs.Pieces.PageWanted, specs.Pieces.Gathered, specs.RowSteps.wanted, specs.RowSteps.is_dirty}
 use Rattle.pk_file.proofs.Slotting.{page_here}
 use Rattle.pk_file.proofs.Gathering.{gathered_start, gathered_write, page_wanted, page_next, reach_of, row_written}
