@@ -135,8 +135,8 @@ ssize_t pwrite(int fd, const void *bytes, size_t len, off_t at) {
     if (fd != image) return real_write(fd, bytes, len, at);
     if (fails()) { errno = EIO; return -1; }
     if (count == room) kept = realloc(kept, (room = 2 * room + 64) * sizeof *kept);
-    size_t all = whole && at >= whole ? SECTOR : len;   /* a page of these drives has as many bytes as a sector */
-    if (all < len) abort();
+    /* A page of these drives has as many bytes as a sector; a write begins with one, and may go on in the next. */
+    size_t all = whole && at >= whole ? (len + SECTOR - 1) / SECTOR * SECTOR : len;
     kept[count].at = at;
     kept[count].len = all;
     kept[count].bytes = calloc(1, all);

@@ -1,7 +1,7 @@
 //! The program: serves a key-value drive in an image file, over standard input and output.
 #![tactic(auto)]
 
-use pk_file::FileBoard;
+use pk_file::{FileBoard, PageWrites};
 use pk_top::{Status, run, run_pair, run_spared};
 use std::env;
 use std::env::VarError;
@@ -29,7 +29,7 @@ fn words_of(rt: &HostRuntime) -> Result<Vec<String>, Status> {
     Ok(words)
 }
 
-/// Whether each change has to be on the disk when its call returns: `PINK_SYNC` is in the environment, and is not 0.
+/// Whether each change has to be on the disk before its answer leaves: `PINK_SYNC` is in the environment, and is not 0.
 fn is_durable(rt: &HostRuntime) -> bool {
     match env::var(rt, "PINK_SYNC") {
         Ok(value) => value.as_str() != "0",
@@ -39,17 +39,13 @@ fn is_durable(rt: &HostRuntime) -> bool {
 }
 
 /// The board over the image file of this path.
-fn board_over<'a>(rt: &'a HostRuntime, image: &'a str) -> FileBoard<'a> {
-    if is_durable(rt) {
-        FileBoard::durable(rt, image)
-    } else {
-        FileBoard::new(rt, image)
-    }
+fn board_over<'a>(rt: &'a HostRuntime, image: &'a str, writes: PageWrites) -> FileBoard<'a> {
+    FileBoard::with(rt, image, is_durable(rt), writes)
 }
 
 /// Does over the image file of this path what the other words ask for.
 fn run_on(rt: &HostRuntime, image: &str, words: &[&str]) -> Status {
-    let mut board = board_over(rt, image);
+    let mut board = board_over(rt, image, PageWrites::Gathered);
     let status = run(rt.alloc(), words, &mut board);
     // What was posted last may still be buffered. If writing it fails, that came before whatever
     // ended the run.
@@ -59,9 +55,11 @@ fn run_on(rt: &HostRuntime, image: &str, words: &[&str]) -> Status {
     }
 }
 
-/// Does over the image file of this path, which has spare blocks, what these words ask for; the first of them says so.
+/// Does over the image file of this path, which has spare blocks, what these words ask for; the first of them says so. A block is moved
+/// when a program of it fails, so each page is written by its program.
 fn run_on_spared(rt: &HostRuntime, image: &str, words: &[&str]) -> Status {
-    let (status, remap) = run_spared(rt.alloc(), words, board_over(rt, image), 0);
+    let board = board_over(rt, image, PageWrites::Direct);
+    let (status, remap) = run_spared(rt.alloc(), words, board, 0);
     match remap {
         Some(remap) => {
             let mut board = remap.into_inner();
@@ -82,17 +80,19 @@ fn run_on_one(rt: &HostRuntime, image: &str, words: &[&str]) -> Status {
     }
 }
 
-/// Does over the two image files of these paths what the other words ask for. Texts go out over the first.
+/// Does over the two image files of these paths what the other words ask for. Texts go out over the first, so nothing would make the pages
+/// of the second leave before an answer: each is written by its program.
 fn run_on_pair(rt: &HostRuntime, image: &str, other: &str, words: &[&str]) -> Status {
     if image == other || image == PAIR || other == PAIR {
         return Status::WORDS;
     }
-    let mut first = board_over(rt, image);
-    let mut second = board_over(rt, other);
+    let mut first = board_over(rt, image, PageWrites::Gathered);
+    let mut second = board_over(rt, other, PageWrites::Direct);
     let status = run_pair(rt.alloc(), words, &mut first, &mut second);
-    match first.finish() {
-        Ok(()) => status,
-        Err(_) => Status::OUTPUT,
+    let (one, two) = (first.finish(), second.finish());
+    match (one, two) {
+        (Ok(()), Ok(())) => status,
+        _ => Status::OUTPUT,
     }
 }
 

@@ -1,4 +1,7 @@
+pub mod Gathering
+pub mod RowLaw
 pub mod Rows
+pub mod Sectoring
 pub mod Slotting
 pub mod Steps
 pub mod Trimming

@@ -1,5 +1,5 @@
 -- Rows of pages that become Erased.
-use Rattle.std.proofs.Common.{◌≡◌, ◌⊎◌, inl, inr, ℕ, suc, ◌+◌, ◌-◌, ◌*◌, ◌/◌, ◌<◌, ◌≤◌, List, [], length, length-set, slice_set, refl, sym, ap, subst, ◌∙◌, arith, zero-add, Option, Some, None}
+use Rattle.std.proofs.Common.{◌≡◌, ◌⊎◌, inl, inr, ℕ, suc, ◌+◌, ◌*◌, ◌/◌, ◌<◌, ◌≤◌, [], length, length-set, slice_set, refl, sym, ap, subst, ◌∙◌, arith, zero-add, Option, Some, None}
 use Rattle.std.{proofs.Math.Nat.mul-le-mul_right, proofs.Math.Nat.suc-mul, proofs.Math.Nat.mul_comm, proofs.lemmas.Bool.Decides.eqb_tells, proofs.lemmas.Bool.cases_lt}
 use Rattle.pk_base.{specs.Shape.Shape, specs.Shape.IsShape, specs.Shape.page_count, specs.Page.Flash, specs.Page.page_at, specs.Page.erased}
 use Rattle.pk_base.{specs.Mark.erase, specs.Mark.after, specs.Mark.erased_from, proofs.BlockLemmas.in_block, proofs.BlockLemmas.of_block}

@@ -1,5 +1,5 @@
 -- Slots as the pages of a flash.
-use Rattle.std.proofs.Common.{◌≡◌, ℕ, zero, suc, ◌+◌, ◌<◌, List, [], ◌∷◌, ◌++◌, length, take, drop, get_or, replicate, slice_set, refl, sym, ap, subst, ◌∙◌, arith, Option, Some, None, true, false}
+use Rattle.std.proofs.Common.{◌≡◌, ℕ, zero, suc, ◌+◌, ◌<◌, List, [], ◌∷◌, ◌++◌, length, take, drop, get_or, replicate, slice_set, refl, sym, ap, subst, ◌∙◌, arith, Option, Some, None, true}
 use Rattle.std.{specs.Prelude.nat_le, proofs.lemmas.Bool.Decides.nat_tests, proofs.lemmas.List.length-map, proofs.lemmas.List.drop_more, proofs.lemmas.List.take_more}
 use Rattle.pk_base.{specs.Shape.Shape, specs.Shape.page_count, specs.Page.Flash, specs.Page.page_at, specs.Page.erased, specs.Page.whole, specs.Page.IsFlash}
 use Rattle.pk_nand.specs.BoardState.{shape_or_none}

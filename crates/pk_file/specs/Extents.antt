@@ -16,10 +16,6 @@ extents_of slots = map extent_of slots
 abbrev pub overwritten : List ℕ → List ℕ → List ℕ
 overwritten part old = part ++ drop (length part) old
 
--- Written over any bytes that are zeros from the extent on, the prefix gives these bytes.
-abbrev pub Restores : List ℕ → ℕ → List ℕ → Type 0
-Restores part extent bytes = (old : List ℕ) → length old ≡ length bytes → ZerosFrom extent old → overwritten part old ≡ bytes
-
 -- However many of these bytes are written over others that are zeros from one extent on, the outcome is zeros from the other one on.
 abbrev pub StaysWithin : ℕ → List ℕ → ℕ → Type 0
 StaysWithin before bytes after =

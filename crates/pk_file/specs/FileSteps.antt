@@ -1,26 +1,29 @@
 -- What is asked of an image file, in order.
-use Rattle.std.specs.Prelude.{◌≡◌, ℕ, List, [], ◌∷◌, Option}
+use Rattle.std.specs.Prelude.{ℕ, min, List, [], ◌∷◌, ◌++◌, take}
 use Rattle.pk_image.specs.declared.tag.TheConstants.{ERASED, WHOLE, TORN}
-use Rattle.pk_nand.specs.Calls.{longer}
-use Rattle.pk_file.specs.Extents.{Restores}
 
 pub data FileStep : Type 0 where
   -- from a page on, n state bytes become this one
   states_set : ℕ → ℕ → ℕ → FileStep
   -- bytes are written from the first of a page on
-  prefix_written : ℕ → List ℕ → FileStep
+  bytes_written : ℕ → List ℕ → FileStep
   -- what was written is on the disk
   synced : FileStep
 
--- The page is Torn until all its bytes are on the disk.
-abbrev pub program_steps : ℕ → List ℕ → List FileStep
-program_steps page part = states_set page 1 TORN ∷ prefix_written page part ∷ synced ∷ states_set page 1 WHOLE ∷ synced ∷ []
+-- a step of which only m bytes were written
+abbrev pub part_of : ℕ → FileStep → FileStep
+part_of m (states_set first n byte) = states_set first (min m n) byte
+part_of m (bytes_written page bytes) = bytes_written page (take m bytes)
+part_of m synced = synced
 
 abbrev pub erase_steps : ℕ → ℕ → List FileStep
 erase_steps first count = states_set first count ERASED ∷ synced ∷ []
 
--- A page was programmed, whose bytes in the file were zeros from the extent on.
-pub record FileProgrammed (page extent : ℕ) (bytes : List ℕ) (old new : Option (List FileStep)) : Type 0 where
-  pub part : List ℕ
-  pub restores : Restores part extent bytes
-  pub steps : new ≡ longer old (program_steps page part)
+-- The first of the pages is Torn while their bytes are written; when these are on the disk, all of them become Whole.
+abbrev pub row_steps : ℕ → ℕ → List FileStep → List FileStep
+row_steps first count pieces = states_set first 1 TORN ∷ (pieces ++ (synced ∷ states_set first count WHOLE ∷ synced ∷ []))
+
+-- bytes are written, if there are some
+abbrev pub piece_steps : ℕ → List ℕ → List FileStep
+piece_steps first [] = []
+piece_steps first (byte ∷ bytes) = bytes_written first (byte ∷ bytes) ∷ []

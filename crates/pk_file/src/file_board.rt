@@ -1,6 +1,6 @@
 //! A board over a file, standard input and standard output. It records neither input, posted bytes
 //! nor trail.
-ghost use Rattle.std.specs.Prelude.{◌≡◌, ◌<◌, ◌*◌, ◌/◌, length, Option, None, Some, OnOk, OnErr, slice_set};
+ghost use Rattle.std.specs.Prelude.{◌≡◌, ◌⊎◌, ◌<◌, ◌≤◌, ◌+◌, ◌*◌, ◌/◌, [], length, Option, None, Some, OnOk, OnErr, true, slice_set};
 ghost use Rattle.pk_base.specs.Shape as spec;
 ghost use Rattle.pk_base.specs.Page.{whole};
 ghost use Rattle.pk_base.specs.Mark.{program, erase, after};
@@ -11,7 +11,8 @@ ghost use Rattle.pk_file.specs.Slots.{pages_of, AllFit};
 use crate::image_file::ImageFile;
 use crate::incoming::Incoming;
 use crate::outgoing::Outgoing;
-use crate::pages_to_file::{Written, create_image, erase_pages, find_image, write_page};
+use crate::pages_to_file::{create_image, find_image};
+use crate::row::{PageWrites, Row};
 use crate::slot::Slot;
 use crate::slots::{erase_slots, erased_slots, known, read_slot, set_slot};
 use crate::trimmed::Trimmed;
@@ -25,13 +26,16 @@ use std::rt::{Stdin, Stdout};
 pub struct FileBoard<'a> {
     rt: &'a HostRuntime,
     path: &'a str,
-    /// Whether each change has to be on the disk when its call returns.
+    /// Whether what is written has to be on the disk before a post leaves.
     is_durable: bool,
+    writes: PageWrites,
     file: Option<ImageFile>,
     /// Whether a load found no file, and none was made since.
     bare: bool,
     shape: Option<Shape>,
     slots: Vec<Slot>,
+    /// The pages that are not in the file yet.
+    row: Row,
     input: Incoming<Stdin>,
     output: Outgoing<Stdout>,
     reads: u64,
@@ -46,15 +50,31 @@ pub struct FileBoard<'a> {
     out_faults: u64,
     ghost count: { length slots.items ≡ spec.page_count (shape_or_none shape) },
     ghost fit: { AllFit (shape_or_none shape) slots.items },
+    ghost waiting: { row.first + length row.extents.items ≤ length slots.items },
 }
 
-/// Programs a page in the file and in memory. A write or sync that fails leaves both alike; without memory for the page nothing is
-/// done.
+/// Whether a page has the same bytes as the one before it, as the second of a pair that ends a
+/// commit or a root.
+fn ends_pair(slots: &Vec<Slot>, page: u32, kept: &Trimmed) -> bool
+    requires { page < length slots.now.items }
+{
+    if page == 0 {
+        return false;
+    }
+    match &slots[page as usize - 1] {
+        Slot::Whole(other) => other.front.as_slice() == kept.front.as_slice(),
+        _ => false,
+    }
+}
+
+/// Programs a page in memory, and adds it to those that wait for the file. They are written before, if it is not the next of them; and
+/// after it, if it ends a pair or is not to wait. Without memory for the page nothing is done.
 fn program_page(
     alloc: Global,
     file: &mut Option<ImageFile>,
     shape: &Option<Shape>,
     slots: &mut Vec<Slot>,
+    row: &mut Row,
     page: u32,
     bytes: &[u8],
 ) -> Result<(), NandFault>
@@ -62,6 +82,7 @@ fn program_page(
     requires full { length bytes.now ≡ (shape_or_none shape.now).page_bytes }
     requires count { length slots.old.items ≡ spec.page_count (shape_or_none shape.now) }
     requires fit { AllFit (shape_or_none shape.now) slots.old.items }
+    requires row { row.old.first + length row.old.extents.items ≤ length slots.old.items }
 
     // The whole effect, or a part of it as a cut may leave it.
     ensures pages { OnOk result
@@ -72,52 +93,94 @@ fn program_page(
     // The board keeps its form.
     ensures count { length slots.new.items ≡ length slots.old.items }
     ensures fit { AllFit (shape_or_none shape.now) slots.new.items }
+    ensures row { row.new.first + length row.new.extents.items ≤ length slots.new.items }
+
+    // A page that is not to wait does not.
+    ensures direct { OnOk result (row.old.writes ≡ PageWrites.Direct
+        → row.new.extents.items ≡ []) }
 {
     known(bytes);
     let Ok(kept) = Trimmed::of(alloc, bytes) else {
         return Err(NandFault);
     };
-    let front = kept.front.len();
     match (file, shape) {
         (Some(file), Some(shape)) => {
-            match write_page(
-                file,
-                shape,
-                page,
-                bytes,
-                front,
-                slots[page as usize].extent(),
-            ) {
-                Written::Whole => {
-                    set_slot(slots, page as usize, Slot::Whole(kept));
-                    Ok(())
-                }
-                Written::Unsynced => {
-                    set_slot(slots, page as usize, Slot::Whole(kept));
-                    Err(NandFault)
-                }
-                Written::Torn => {
-                    let slot = slots[page as usize].torn(bytes, front);
-                    set_slot(slots, page as usize, slot);
-                    Err(NandFault)
-                }
-                Written::Nothing => Err(NandFault),
+            if !row.add(file, shape, slots, page) {
+                return Err(NandFault);
             }
+            let is_direct = row.is_direct();
+            let is_end = ends_pair(slots, page, &kept);
+            let torn = slots[page as usize].torn(bytes, kept.front.len());
+            set_slot(slots, page as usize, Slot::Whole(kept));
+            if !is_direct && !is_end {
+                return Ok(());
+            }
+            if row.write(file, shape, slots) {
+                return Ok(());
+            }
+            if !is_direct {
+                return Err(NandFault);
+            }
+            // the file may have it in part
+            set_slot(slots, page as usize, torn);
+            Err(NandFault)
         }
         _ => Err(NandFault),
     }
 }
 
-/// Erases a block in the file and in memory. A write or sync that fails erases the pages whose state bytes were set.
+/// Writes the pages that wait to the file.
+fn write_waiting(
+    file: &mut Option<ImageFile>,
+    shape: &Option<Shape>,
+    slots: &Vec<Slot>,
+    row: &mut Row,
+) -> bool
+    requires count { length slots.now.items ≡ spec.page_count (shape_or_none shape.now) }
+    requires fit { AllFit (shape_or_none shape.now) slots.now.items }
+    requires row { row.old.first + length row.old.extents.items ≤ length slots.now.items }
+    ensures row { row.new.first + length row.new.extents.items ≤ length slots.now.items }
+    ensures none { result ≡ true → row.new.extents.items ≡ [] }
+{
+    match (file, shape) {
+        (Some(file), Some(shape)) => row.write(file, shape, slots),
+        _ => row.is_empty(),
+    }
+}
+
+/// The same at the end of a run: a failure that was reported is no new one.
+fn write_last(
+    file: &mut Option<ImageFile>,
+    shape: &Option<Shape>,
+    slots: &Vec<Slot>,
+    row: &mut Row,
+) -> bool
+    requires count { length slots.now.items ≡ spec.page_count (shape_or_none shape.now) }
+    requires fit { AllFit (shape_or_none shape.now) slots.now.items }
+    requires row { row.old.first + length row.old.extents.items ≤ length slots.now.items }
+    ensures row { row.new.first + length row.new.extents.items ≤ length slots.now.items }
+    ensures none { result ≡ true
+        → (row.new.extents.items ≡ []) ⊎ (row.old.is_lost ≡ true) }
+{
+    if row.is_lost() {
+        return true;
+    }
+    write_waiting(file, shape, slots, row)
+}
+
+/// Erases a block in the file and in memory, after the pages that wait were written. A write or sync that fails erases the pages whose
+/// state bytes were set.
 fn erase_block(
     file: &mut Option<ImageFile>,
     shape: &Option<Shape>,
     slots: &mut Vec<Slot>,
+    row: &mut Row,
     block: u32,
 ) -> Result<(), NandFault>
     requires exists { block < (shape_or_none shape.now).blocks }
     requires count { length slots.old.items ≡ spec.page_count (shape_or_none shape.now) }
     requires fit { AllFit (shape_or_none shape.now) slots.old.items }
+    requires row { row.old.first + length row.old.extents.items ≤ length slots.old.items }
 
     // The whole effect, or a part of it as a cut may leave it.
     ensures pages { OnOk result (pages_of slots.new.items
@@ -128,13 +191,14 @@ fn erase_block(
     // The board keeps its form.
     ensures count { length slots.new.items ≡ length slots.old.items }
     ensures fit { AllFit (shape_or_none shape.now) slots.new.items }
+    ensures row { row.new.first + length row.new.extents.items ≤ length slots.new.items }
 {
     let (Some(file), Some(shape)) = (file, shape) else {
         return Err(NandFault);
     };
     let count = shape.block_pages();
     let first = block * count;
-    let cleared = erase_pages(file, shape, first, count);
+    let cleared = row.erase(file, shape, slots, first, count);
     erase_slots(slots, first as usize, cleared.count as usize);
     if cleared.is_done {
         return Ok(());
@@ -143,32 +207,34 @@ fn erase_block(
 }
 
 impl<'a> FileBoard<'a> {
-    /// A board whose image is the file at this path. Nothing is opened before `load` or `make`. The system brings changes to the disk
-    /// when it likes.
+    /// A board whose image is the file at this path. Nothing is opened before `load` or `make`. Pages that were programmed are gathered
+    /// and written before a post, and the system brings them to the disk when it likes.
     pub fn new(rt: &'a HostRuntime, path: &'a str) -> FileBoard<'a>
         ensures { result.shape ≡ None }
     {
-        FileBoard::with(rt, path, false)
+        FileBoard::with(rt, path, false, PageWrites::Gathered)
     }
 
-    /// The same, with each program and erase on the disk when its call returns, and the file and its name when a `make` does.
-    pub fn durable(rt: &'a HostRuntime, path: &'a str) -> FileBoard<'a>
-        ensures { result.shape ≡ None }
-    {
-        FileBoard::with(rt, path, true)
-    }
-
-    fn with(rt: &'a HostRuntime, path: &'a str, is_durable: bool) -> FileBoard<'a>
+    /// The same. If it is to be durable, what was programmed and erased is on the disk before a post, or when its call returns if
+    /// pages are written at once; and the file and its name when a `make` returns.
+    pub fn with(
+        rt: &'a HostRuntime,
+        path: &'a str,
+        is_durable: bool,
+        writes: PageWrites,
+    ) -> FileBoard<'a>
         ensures { result.shape ≡ None }
     {
         FileBoard {
             rt,
             path,
             is_durable,
+            writes,
             file: None,
             bare: false,
             shape: None,
             slots: Vec::new(rt.alloc()),
+            row: Row::new(rt.alloc(), is_durable, writes),
             input: Incoming::new(rt.alloc(), rt.stdin()),
             output: Outgoing::new(rt.alloc(), rt.stdout()),
             reads: 0,
@@ -184,13 +250,19 @@ impl<'a> FileBoard<'a> {
         }
     }
 
-    /// Sends what was posted and has not left: the end of a run, which is lost without this call. A
-    /// write that failed, now or after the last post, is reported here.
+    /// Writes the pages that wait, and sends what was posted and has not left: the end of a run, which is lost without this call. A
+    /// write that failed, now or after the last post, is reported here; one of pages that failed before was reported then.
     pub fn finish(&mut self) -> Result<(), HostFault>
         ensures ok { OnOk result (self.new.out_faults ≡ self.old.out_faults) }
         ensures err { OnErr result (Rose self.old.out_faults self.new.out_faults) }
         ensures flash { (self.new.shape ≡ self.old.shape) × (self.new.slots ≡ self.old.slots) }
+        ensures written { OnOk result ((self.new.row.extents.items ≡ [])
+            ⊎ (self.old.row.is_lost ≡ true)) }
     {
+        if !write_last(&mut self.file, &self.shape, &self.slots, &mut self.row) {
+            raise(&mut self.out_faults);
+            return Err(HostFault { given: 0 });
+        }
         match self.output.send() {
             Ok(()) => Ok(()),
             Err(fault) => {
@@ -237,13 +309,14 @@ impl Nand for FileBoard<'_> {
         if self.shape.is_some() {
             return Ok(self.shape);
         }
-        match find_image(self.rt, alloc, self.path, self.is_durable) {
+        match find_image(self.rt, alloc, self.path, self.is_durable, self.writes) {
             Ok(None) => {
                 self.bare = true;
                 Ok(None)
             }
             Ok(Some(image)) => {
                 self.bare = false;
+                self.row = image.row;
                 self.slots = image.slots;
                 self.shape = Some(image.shape);
                 self.file = Some(image.file);
@@ -266,11 +339,15 @@ impl Nand for FileBoard<'_> {
         let Ok(slots) = erased_slots(alloc, &shape) else {
             return Err(LoadFault::Memory);
         };
+        let Ok(row) = Row::for_shape(alloc, &shape, self.is_durable, self.writes) else {
+            return Err(LoadFault::Memory);
+        };
         self.bare = false;
         let Ok(file) = create_image(self.rt, self.path, &shape, self.is_durable) else {
             raise(&mut self.flash_faults);
             return Err(LoadFault::Fault);
         };
+        self.row = row;
         self.slots = slots;
         self.shape = Some(shape);
         self.file = Some(file);
@@ -290,6 +367,7 @@ impl Nand for FileBoard<'_> {
             &mut self.file,
             &self.shape,
             &mut self.slots,
+            &mut self.row,
             page,
             bytes,
         ) {
@@ -305,7 +383,13 @@ impl Nand for FileBoard<'_> {
 
     fn erase(&mut self, block: u32) -> Result<(), NandFault> {
         raise(&mut self.erases);
-        match erase_block(&mut self.file, &self.shape, &mut self.slots, block) {
+        match erase_block(
+            &mut self.file,
+            &self.shape,
+            &mut self.slots,
+            &mut self.row,
+            block,
+        ) {
             Ok(()) => Ok(()),
             Err(_) => {
                 raise(&mut self.flash_faults);
@@ -341,6 +425,10 @@ impl Board for FileBoard<'_> {
     }
 
     fn post(&mut self, bytes: &[u8]) -> Result<(), HostFault> {
+        if !write_waiting(&mut self.file, &self.shape, &self.slots, &mut self.row) {
+            raise(&mut self.out_faults);
+            return Err(HostFault { given: 0 });
+        }
         match self.output.post(bytes) {
             Ok(()) => Ok(()),
             Err(_) => {

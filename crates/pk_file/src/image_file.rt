@@ -4,7 +4,7 @@ ghost use Rattle.pk_base.specs.Shape as spec;
 ghost use Rattle.pk_image.specs.Image.{byte_of};
 ghost use Rattle.pk_image.specs.declared.tag.TheConstants.{ERASED};
 ghost use Rattle.pk_nand.specs.Calls.{longer};
-ghost use Rattle.pk_file.specs.FileSteps.{FileStep, states_set, prefix_written, synced};
+ghost use Rattle.pk_file.specs.FileSteps.{FileStep, states_set, bytes_written, synced};
 
 use pk_base::{MOST_BLOCK_PAGES, Shape};
 use pk_image::{PageTag, page_at, state_at};
@@ -22,17 +22,18 @@ pub trait PageFile {
     fn begin(&mut self) -> io::Result<()>
         ensures { steps self.new ≡ steps self.old };
 
-    /// Sets the state byte of a page.
-    fn set_state(&mut self, shape: &Shape, page: u32, tag: PageTag) -> io::Result<()>
-        requires { page < spec.page_count shape.now }
+    /// Sets the state bytes of pages, from the first on.
+    fn set_states(&mut self, shape: &Shape, first: u32, count: u32, tag: PageTag) -> io::Result<()>
+        requires small { count ≤ MOST_BLOCK_PAGES }
+        requires exists { first < spec.page_count shape.now }
         ensures { OnOk result (steps self.new
-            ≡ longer (steps self.old) (states_set page 1 (byte_of tag) ∷ [])) };
+            ≡ longer (steps self.old) (states_set first count (byte_of tag) ∷ [])) };
 
-    /// Writes the first bytes of a page.
-    fn write_prefix(&mut self, shape: &Shape, page: u32, part: &[u8]) -> io::Result<()>
+    /// Writes bytes from the first of a page on, which may go on in the pages after it.
+    fn write_from(&mut self, shape: &Shape, page: u32, part: &[u8]) -> io::Result<()>
         requires { page < spec.page_count shape.now }
         ensures { OnOk result (steps self.new
-            ≡ longer (steps self.old) (prefix_written page part.now ∷ [])) };
+            ≡ longer (steps self.old) (bytes_written page part.now ∷ [])) };
 
     /// Sets the state bytes of pages to Erased, and answers of how many.
     fn erase_states(&mut self, shape: &Shape, first: u32, count: u32) -> u32
@@ -79,11 +80,19 @@ impl PageFile for ImageFile {
         }
     }
 
-    fn set_state(&mut self, shape: &Shape, page: u32, tag: PageTag) -> io::Result<()> {
-        self.file.write_all_at(&[tag.byte()], state_at(shape, page))
+    fn set_states(
+        &mut self,
+        shape: &Shape,
+        first: u32,
+        count: u32,
+        tag: PageTag,
+    ) -> io::Result<()> {
+        let states = [tag.byte(); MOST_BLOCK_PAGES as usize];
+        self.file
+            .write_all_at(&states[..count as usize], state_at(shape, first))
     }
 
-    fn write_prefix(&mut self, shape: &Shape, page: u32, part: &[u8]) -> io::Result<()> {
+    fn write_from(&mut self, shape: &Shape, page: u32, part: &[u8]) -> io::Result<()> {
         self.file.write_all_at(part, page_at(shape, page))
     }
 

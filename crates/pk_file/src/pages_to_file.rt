@@ -1,20 +1,18 @@
 //! What is read of an image file and written to it.
-ghost use Rattle.std.specs.Prelude.{◌≡◌, ◌≤◌, ◌<◌, length, true, IfOk};
+ghost use Rattle.std.specs.Prelude.{◌≡◌, ◌≤◌, ◌<◌, ◌+◌, length, true, IfOk};
 ghost use Rattle.pk_base.specs.Shape as spec;
 ghost use Rattle.pk_nand.specs.Calls.{longer};
 ghost use Rattle.pk_file.specs.Slots.{AllFit};
-ghost use Rattle.pk_file.specs.Trims.{ZerosFrom};
-ghost use Rattle.pk_file.specs.Extents.{Restores};
-ghost use Rattle.pk_file.specs.FileSteps.{FileProgrammed, erase_steps};
-ghost use Rattle.pk_file.specs.declared.pages_to_file.Written.{Written};
+ghost use Rattle.pk_file.specs.FileSteps.{erase_steps};
 
 use crate::image_file::{ImageFile, PageFile};
 use crate::opening::{open_alone, sync_folder};
 use crate::page_reader::PageReader;
+use crate::row::{PageWrites, Row};
 use crate::slot::Slot;
 use crate::slots::slots_of;
 use pk_base::{MOST_BLOCK_PAGES, Shape};
-use pk_image::{HEADER_BYTES, ImageError, PageTag, file_len, header, read_header};
+use pk_image::{HEADER_BYTES, ImageError, file_len, header, read_header};
 use pk_nand::LoadFault;
 use std::alloc::Global;
 use std::fs::{File, OpenOptions};
@@ -30,8 +28,11 @@ pub struct Image {
     pub file: ImageFile,
     pub shape: Shape,
     pub slots: Vec<Slot>,
+    /// The pages that wait to be written: none.
+    pub row: Row,
     ghost count: { length slots.items ≡ spec.page_count shape },
     ghost fit: { AllFit shape slots.items },
+    ghost waiting: { row.first + length row.extents.items ≤ length slots.items },
 }
 
 /// Opens the image file, with its length in bytes; None if it is missing or empty. An image that
@@ -81,17 +82,27 @@ fn slots_in(alloc: Global, file: &File, shape: &Shape) -> Result<Vec<Slot>, Load
     slots_of(alloc, file, &mut reader, states.as_slice())
 }
 
-/// The image of an open file of this length.
-fn read_image(alloc: Global, file: File, len: u64, is_durable: bool) -> Result<Image, LoadFault> {
+/// The image of an open file of this length, with the memory for pages that wait.
+fn read_image(
+    alloc: Global,
+    file: File,
+    len: u64,
+    is_durable: bool,
+    writes: PageWrites,
+) -> Result<Image, LoadFault> {
     let shape = match shape_of(&file, len) {
         Ok(shape) => shape,
         Err(fault) => return Err(fault),
+    };
+    let Ok(row) = Row::for_shape(alloc, &shape, is_durable, writes) else {
+        return Err(LoadFault::Memory);
     };
     match slots_in(alloc, &file, &shape) {
         Ok(slots) => Ok(Image {
             file: ImageFile::new(file, len, is_durable),
             shape,
             slots,
+            row,
         }),
         Err(fault) => Err(fault),
     }
@@ -104,6 +115,7 @@ pub fn find_image(
     alloc: Global,
     path: &str,
     is_durable: bool,
+    writes: PageWrites,
 ) -> Result<Option<Image>, LoadFault> {
     let (file, len) = match opened(rt, path) {
         Ok(None) => return Ok(None),
@@ -113,7 +125,7 @@ pub fn find_image(
     if is_durable && file.sync_data().is_err() {
         return Err(LoadFault::Fault);
     }
-    match read_image(alloc, file, len, is_durable) {
+    match read_image(alloc, file, len, is_durable, writes) {
         Ok(image) => Ok(Some(image)),
         Err(fault) => Err(fault),
     }
@@ -147,63 +159,6 @@ pub fn create_image(
         sync_folder(rt, path)?;
     }
     Ok(ImageFile::new(file, len, is_durable))
-}
-
-/// The bytes of a page that a file may lack at its place, if it has zeros from the extent on: the
-/// zeros that end the page are not written there. Only zeros follow the first `front` bytes of the
-/// page.
-fn unlike(bytes: &[u8], front: usize, extent: usize) -> &[u8]
-    requires { ZerosFrom front bytes.now }
-    ensures { Restores result.now extent bytes.now }
-{
-    &bytes[..front.max(extent).min(bytes.len())]
-}
-
-/// What a program left of a page in the file.
-#[derive(Clone, Copy, Debug, PartialEq, Eq)]
-pub enum Written {
-    Nothing,
-    Torn,
-    /// It is Whole, and not known to be on the disk.
-    Unsynced,
-    Whole,
-}
-
-/// Writes a page, at whose place the file has zeros from the extent on. It counts as Torn until its bytes are written, and on the
-/// disk if they have to be, so that a kill in between, or a loss of power, leaves a Torn page and never a wrong one.
-pub fn write_page<F: PageFile>(
-    file: &mut F,
-    shape: &Shape,
-    page: u32,
-    bytes: &[u8],
-    front: usize,
-    extent: usize,
-) -> Written
-    requires exists { page < spec.page_count shape.now }
-    requires zeros { ZerosFrom front bytes.now }
-    ensures { result ≡ Written.Whole
-        → FileProgrammed page extent bytes.now (F.steps file.old) (F.steps file.new) }
-{
-    let part = unlike(bytes, front, extent);
-    if file.begin().is_err() {
-        return Written::Nothing;
-    }
-    let Ok(()) = file.set_state(shape, page, PageTag::Torn) else {
-        return Written::Nothing;
-    };
-    let Ok(()) = file.write_prefix(shape, page, part) else {
-        return Written::Torn;
-    };
-    let Ok(()) = file.sync() else {
-        return Written::Torn;
-    };
-    let Ok(()) = file.set_state(shape, page, PageTag::Whole) else {
-        return Written::Torn;
-    };
-    match file.sync() {
-        Ok(()) => Written::Whole,
-        Err(_) => Written::Unsynced,
-    }
 }
 
 /// What an erase left of pages in the file.

@@ -83,7 +83,11 @@ fn first_board(
     if !make_and_program(&mut board, rt.alloc(), shape, bytes) {
         return None;
     }
-    Some(loaded(rt, path))
+    let other = loaded(rt, path);
+    match board.finish() {
+        Ok(()) => Some(other),
+        Err(_) => None,
+    }
 }
 
 // Reads the first page by a board of its own, and erases its block.

@@ -1,4 +1,4 @@
-use Rattle.std.proofs.Common.{◌≡◌, ◌∙◌, ◌+◌, ◌<◌, ℕ, arith, ap, sym, subst, slice_set}
+use Rattle.std.proofs.Common.{◌∙◌, ◌+◌, ◌<◌, ℕ, arith, ap, sym, subst, slice_set}
 use Rattle.std.proofs.lemmas.List.{length-map}
 use Rattle.pk_base.specs.Page.{Page, Flash}
 use Rattle.pk_file.{specs.Slots.pages_of, specs.Slots.slot_page, specs.Slots.ErasedRow, proofs.Rows.row_more, proofs.Slotting.erased_fits, proofs.Slotting.same_extent}
