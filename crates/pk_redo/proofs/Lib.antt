@@ -1,0 +1,5 @@
+pub mod Numbers
+pub mod Parts
+pub mod Zeros
+pub mod Batches
+pub mod Gates
