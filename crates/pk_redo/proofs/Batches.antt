@@ -338,6 +338,16 @@ walks_once log at (b ∷ bs) (c ∷ cs) to end one other last none =
     let first : b ≡ c = one.1 ∙ sym other.1 in
     ap (λ (x : List ℕ). x ∷ bs) first ∙ ap (λ (xs : List (List ℕ)). c ∷ xs) (walks_once log (next_at log at) bs cs to end one.2 other.2 last none)
 
+-- a batch behind others is among those of the log
+pub batches_through : (log : List ℕ) (at : ℕ) (bs cs : List (List ℕ)) (to end : ℕ) → Walks log at bs to → Walks log at cs end → IsBatch log to → ¬ IsBatch log end
+    → (rest : List (List ℕ)) × (cs ≡ bs ++ (body_at log to ∷ rest))
+batches_through log at [] [] to end one other more none = absurd (none (rw (← other) (rw (← one) at more)))
+batches_through log at [] (c ∷ cs) to end one other more none = (cs, ap (λ (x : List ℕ). x ∷ cs) (other.1 ∙ ap (body_at log) one))
+batches_through log at (b ∷ bs) [] to end one other more none = absurd (none (rw (← other) one.0))
+batches_through log at (b ∷ bs) (c ∷ cs) to end one other more none =
+    let (rest, is) = batches_through log (next_at log at) bs cs to end one.2 other.2 more none in
+    (rest, ap (λ (x : List ℕ). x ∷ cs) (other.1 ∙ sym one.1) ∙ ap (λ (xs : List (List ℕ)). b ∷ xs) is)
+
 pub reads_once : ReadsOnce
 reads_once log one other this that =
     elim this [
