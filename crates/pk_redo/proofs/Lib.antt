@@ -4,5 +4,6 @@ pub mod Zeros
 pub mod Batches
 pub mod Gates
 pub mod Stepping
+pub mod Tables
 pub mod Replay
 pub mod Writes

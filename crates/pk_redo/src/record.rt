@@ -1,6 +1,6 @@
 //! The record with which a log begins. It ties the log to its image: a log of another image is not
 //! put over this one.
-ghost use Rattle.std.specs.Prelude.{◌≡◌, ◌⊎◌, ◌+◌, ◌-◌, ◌*◌, ◌/◌, ◌%◌, ◌^◌, ◌<◌, ◌≤◌, ◌↔◌, ℕ, List, [], length, drop, slice_index, get_or, true, false, IsTrue, IfOk};
+ghost use Rattle.std.specs.Prelude.{◌≡◌, ◌⊎◌, ◌+◌, ◌-◌, ◌*◌, ◌/◌, ◌%◌, ◌^◌, ◌<◌, ◌≤◌, ◌↔◌, ℕ, List, [], length, take, drop, slice_index, get_or, true, false, IsTrue, IfOk};
 ghost use Rattle.pk_base.specs.Shape as spec;
 ghost use Rattle.pk_base.specs.Mark.{Mark};
 ghost use Rattle.pk_image.specs.Header.{header_bytes};
@@ -86,7 +86,7 @@ fn state_at_page(bytes: &[u8], page: usize) -> u8
     }
 }
 
-/// Pages that stand in a row are among those that steps set.
+/// Pages that stand in a row are among those that steps set; there may be none of these numbers.
 fn note_row(set: &mut [bool], first: usize, count: usize)
     requires { first + count < 2 ^ 63 }
     ensures inside { (k : ℕ) → first ≤ k → k < first + count → k < length set.old
@@ -95,10 +95,9 @@ fn note_row(set: &mut [bool], first: usize, count: usize)
         → get_or set.new k false ≡ get_or set.old k false }
     ensures len { length set.new ≡ length set.old }
 {
-    for i in 0..count {
-        if first + i < set.len() {
-            set[first + i] = true;
-        }
+    let end = (first + count).min(set.len());
+    for page in first..end {
+        set[page] = true;
     }
 }
 
@@ -132,6 +131,14 @@ pub fn set_pages(alloc: Global, shape: &Shape, steps: &[Step]) -> Result<Vec<boo
     Ok(set)
 }
 
+/// Whether a record begins with this header.
+fn has_header(bytes: &[u8], header: &[u8]) -> bool
+    requires { HEADER_BYTES ≤ length bytes.now }
+    ensures { IsTrue result ↔ (take HEADER_BYTES bytes.now ≡ header.now) }
+{
+    &bytes[..HEADER_BYTES] == header
+}
+
 /// Whether a record is of an image with this header and these state bytes, but for pages that steps
 /// set.
 pub fn is_record_of(
@@ -149,7 +156,7 @@ pub fn is_record_of(
         → IsTrue result ↔ RecordFits shape.now bytes.now header.now
             (λ k. said (slice_index states.now k)) marks }
 {
-    if bytes.len() != record_len(shape) || &bytes[..HEADER_BYTES] != header {
+    if bytes.len() != record_len(shape) || !has_header(bytes, header) {
         return false;
     }
     for k in 0..states.len() {

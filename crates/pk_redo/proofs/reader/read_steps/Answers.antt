@@ -1,6 +1,7 @@
-use Rattle.std.proofs.Common.{◌≡◌, ℕ, ◌+◌, ◌≤◌, List, [], ◌∷◌, ◌++◌, length, arith, ap, sym, subst, inl, inr}
+use Rattle.std.proofs.Common.{◌≡◌, ℕ, ◌+◌, ◌≤◌, List, [], ◌∷◌, ◌++◌, length, arith, ap, Err, sym, subst, inl, inr}
 use Rattle.pk_base.specs.Mark.{Mark}
 use Rattle.pk_redo.specs.declared.batch.TheConstants.{FIRST_BATCH}
+use Rattle.pk_redo.specs.declared.reader.LogFault.TheVariants.{BadStep}
 use Rattle.pk_redo.specs.Bytes.{bytes_at}
 use Rattle.pk_redo.specs.Log.{Walks, body_at, next_at}
 use Rattle.pk_redo.specs.Steps.{BodySays, BodiesSay}
@@ -22,7 +23,8 @@ returns-in-Err-clause-bad c at is batches marks holds says =
           let (now, own) = bodies_behind shape before.later _ rest marks told in
           let here : BodySays shape (bytes_at log (c.loop-len.at + 9) c.in-Some-batch_at.len) now = rw len own in
           let steps = body_of_steps shape log (c.loop-len.at + 9) c.in-Some-batch_at.len now (omega (arith, whole.within, len)) here in
-          c.in-Err.ensures.bad at is now steps
+          let same : c.in-Err.fault ≡ BadStep at = cc in
+          c.in-Err.ensures.bad at (ap Err same) now steps
       | inr shut ↦ absurd (shut.0 before.open)
     ]
 

@@ -1,0 +1,61 @@
+-- Tables of states, four in a byte; and pages that are noted as set.
+use Rattle.std.proofs.Common.{◌≡◌, ◌≢◌, ◌⊎◌, ℕ, ◌+◌, ◌*◌, ◌/◌, ◌%◌, ◌^◌, ◌<◌, ◌≤◌, List, [], length, slice_index, slice_set, get_or, sym, refl, ◌∙◌, ap, inl, inr, arith, Bool, true, false}
+use Rattle.std.{proofs.lemmas.Bool.cases_eq, proofs.lemmas.Bool.cases_lt, proofs.lemmas.List.get_or-set_same, proofs.lemmas.List.get_or-set_other}
+use Rattle.pk_redo.specs.Record.{state_in, said}
+
+digit_0 : (a b c d p : ℕ) → a < 4 → b < 4 → c < 4 → d < 4 → p ≡ a + 4 * b + 16 * c + 64 * d → p / 4 ^ 0 % 4 ≡ a
+digit_0 a b c d p ha hb hc hd is = omega arith
+
+digit_1 : (a b c d p : ℕ) → a < 4 → b < 4 → c < 4 → d < 4 → p ≡ a + 4 * b + 16 * c + 64 * d → p / 4 ^ 1 % 4 ≡ b
+digit_1 a b c d p ha hb hc hd is = omega arith
+
+digit_2 : (a b c d p : ℕ) → a < 4 → b < 4 → c < 4 → d < 4 → p ≡ a + 4 * b + 16 * c + 64 * d → p / 4 ^ 2 % 4 ≡ c
+digit_2 a b c d p ha hb hc hd is = omega arith
+
+digit_3 : (a b c d p : ℕ) → a < 4 → b < 4 → c < 4 → d < 4 → p ≡ a + 4 * b + 16 * c + 64 * d → p / 4 ^ 3 % 4 ≡ d
+digit_3 a b c d p ha hb hc hd is = omega arith
+
+-- a byte of the table, whose states are some of a page by its number
+digit : (states : ℕ → ℕ) → ((k : ℕ) → states k < 4) → (first r p : ℕ) → r < 4 → p ≡ states first + 4 * states (first + 1) + 16 * states (first + 2) + 64 * states (first + 3)
+    → p / 4 ^ r % 4 ≡ states (first + r)
+digit states small first r p low is =
+    elim (cases_eq r 0) [
+      | inl e ↦ let here : first + 0 ≡ first = omega arith in rw (e, here) (digit_0 _ _ _ _ p (small first) (small (first + 1)) (small (first + 2)) (small (first + 3)) is)
+      | inr none ↦ elim (cases_eq r 1) [
+        | inl e ↦ rw e (digit_1 _ _ _ _ p (small first) (small (first + 1)) (small (first + 2)) (small (first + 3)) is)
+        | inr one ↦ elim (cases_eq r 2) [
+          | inl e ↦ rw e (digit_2 _ _ _ _ p (small first) (small (first + 1)) (small (first + 2)) (small (first + 3)) is)
+          | inr two ↦ let e : r ≡ 3 = omega arith in rw e (digit_3 _ _ _ _ p (small first) (small (first + 1)) (small (first + 2)) (small (first + 3)) is)
+        ]
+      ]
+    ]
+
+-- four more states in a table
+pub table_more : (batch : List ℕ) (states : ℕ → ℕ) (at i p : ℕ) → ((k : ℕ) → states k < 4) → at + i < length batch
+    → p ≡ states (4 * i) + 4 * states (4 * i + 1) + 16 * states (4 * i + 2) + 64 * states (4 * i + 3)
+    → ((k : ℕ) → k < 4 * i → state_in batch at k ≡ states k) → (k : ℕ) → k < 4 * (i + 1) → state_in (slice_set batch (at + i) p) at k ≡ states k
+unfolding state_in
+table_more batch states at i p small inside is before k low =
+    elim (cases_lt k (4 * i)) [
+      | inl old ↦
+          let apart : at + k / 4 ≢ at + i = λ e. omega (arith, e, old) in
+          ap (λ (b : ℕ). b / 4 ^ (k % 4) % 4) (get_or-set_other batch (at + i) (at + k / 4) p 0 apart) ∙ before k old
+      | inr new ↦
+          let byte : k / 4 ≡ i = omega arith in
+          let place : at + k / 4 ≡ at + i = ap (λ (n : ℕ). at + n) byte in
+          let whole : 4 * i + k % 4 ≡ k = omega arith in
+          let there : slice_index (slice_set batch (at + i) p) (at + k / 4) ≡ p = ap (slice_index (slice_set batch (at + i) p)) place ∙ get_or-set_same batch (at + i) p 0 inside in
+          ap (λ (b : ℕ). b / 4 ^ (k % 4) % 4) there ∙ digit states small (4 * i) (k % 4) p (omega arith) is ∙ ap states whole
+    ]
+
+-- a state that is read out of its byte
+pub state_read : (bytes : List ℕ) (at page r : ℕ) → page % 4 ≡ r → slice_index bytes (at + page / 4) / 4 ^ r % 4 ≡ state_in bytes at page
+unfolding state_in
+state_read bytes at page r is = rw is refl
+
+pub said_small : (byte : ℕ) → said byte < 4
+said_small byte =
+    elim (cases_eq byte 0) [
+      | inl e ↦ rw e (omega arith)
+      | inr none ↦ elim (cases_eq byte 1) [ inl e ↦ rw e (omega arith) | inr other ↦ ? ]
+    ]
