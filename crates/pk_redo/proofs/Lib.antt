@@ -5,5 +5,6 @@ pub mod Batches
 pub mod Gates
 pub mod Stepping
 pub mod Tables
+pub mod Records
 pub mod Replay
 pub mod Writes

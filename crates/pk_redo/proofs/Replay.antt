@@ -10,6 +10,7 @@ use Rattle.pk_redo.specs.Bytes.{bytes_at}
 use Rattle.pk_redo.specs.Steps.{SetBy, Sets}
 use Rattle.pk_redo.specs.Image.{SameButSet, BelongTo, ReadAs, ReplayIsAbsolute, flash_after}
 use Rattle.pk_redo.specs.Log.{LogHolds}
+use Rattle.pk_redo.specs.Record.{RecordFits}
 use Rattle.pk_redo.proofs.Parts.{same_parts, held_is_part}
 
 -- ---- steps that set a page
@@ -138,7 +139,7 @@ same_replay shape marks base file same =
       | inr not ↦ inr (page_of_flash shape file k low ∙ unset_page shape marks base file same k low not ∙ sym (page_of_flash shape base k low))
     ])
 
-same_header : (shape : Shape) (marks : List Mark) (base file : List ℕ) → SameButSet shape marks base file → take 32 file ≡ take 32 base
+pub same_header : (shape : Shape) (marks : List Mark) (base file : List ℕ) → SameButSet shape marks base file → take 32 file ≡ take 32 base
 same_header shape marks base file same =
     let fits : 32 ≤ length base = omega (arith, same.fits) in
     let long : length (take 32 file) ≡ 32 = length-take-le 32 file (omega (arith, fits, same.same_size)) in
@@ -192,3 +193,18 @@ pub written_reads_record : (shape : Shape) (marks : List Mark) (base file log fi
     → ((k : ℕ) → k < page_count shape → page_in_file shape file k ≡ page_at (flash_after shape marks base) k) → ReadAs shape log file (flash_after shape marks base)
 written_reads_record shape marks base file log first one own written =
     record { batches = first ∷ []; stands = one; marks = []; says = refl; belongs = own; gives = written_flash shape marks base file written }
+
+-- the record of the pages in memory is one of an image that has them
+pub recorded_of : (shape : Shape) (marks : List Mark) (base file first : List ℕ) (page_of : ℕ → Page) → SameButSet shape marks base file
+    → ((k : ℕ) → k < page_count shape → page_in_file shape file k ≡ page_of k) → RecordFits shape first (take 32 base) (λ k. state_byte (page_of k)) []
+    → BelongTo shape (first ∷ []) [] file
+recorded_of shape marks base file first page_of same written recorded =
+    record {
+      size = recorded.size;
+      same_header = recorded.same_header ∙ sym (same_header shape marks base file same);
+      same_states = λ k low not. recorded.same_states k low not ∙ sym (ap state_byte (written k low));
+    }
+
+-- the image is long enough for its pages
+pub has_room : (shape : Shape) (marks : List Mark) (base file : List ℕ) → SameButSet shape marks base file → file_size shape ≤ length file
+has_room shape marks base file same = omega (arith, same.fits, same.same_size)

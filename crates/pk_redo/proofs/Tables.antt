@@ -1,6 +1,12 @@
 -- Tables of states, four in a byte; and pages that are noted as set.
-use Rattle.std.proofs.Common.{◌≡◌, ◌≢◌, ◌⊎◌, ℕ, ◌+◌, ◌*◌, ◌/◌, ◌%◌, ◌^◌, ◌<◌, ◌≤◌, List, [], length, slice_index, slice_set, get_or, sym, refl, ◌∙◌, ap, inl, inr, arith, Bool, true, false}
+use Rattle.std.proofs.Common.{◌≡◌, ◌≢◌, ◌⊎◌, ℕ, ◌+◌, ◌*◌, ◌/◌, ◌%◌, ◌^◌, ◌<◌, ◌≤◌, List, [], ◌∷◌, ◌++◌, length, slice_index, slice_set, get_or, sym, refl, ◌∙◌, ap, inl, inr, arith, Bool, true, false}
 use Rattle.std.{proofs.lemmas.Bool.cases_eq, proofs.lemmas.Bool.cases_lt, proofs.lemmas.List.get_or-set_same, proofs.lemmas.List.get_or-set_other}
+use Rattle.std.specs.Prelude.{if◌then◌else◌, ◌==◌}
+use Rattle.std.proofs.Math.Nat.{mul_assoc}
+use Rattle.pk_base.{specs.Shape.Shape, specs.Shape.IsShape, specs.Shape.page_count, specs.Page.erased, specs.Page.whole, specs.Page.torn, specs.Mark.Mark}
+use Rattle.pk_base.proofs.BlockLemmas.{in_block, of_block}
+use Rattle.pk_image.specs.Image.{state_byte}
+use Rattle.pk_redo.specs.Steps.{SetBy, Sets}
 use Rattle.pk_redo.specs.Record.{state_in, said}
 
 digit_0 : (a b c d p : ℕ) → a < 4 → b < 4 → c < 4 → d < 4 → p ≡ a + 4 * b + 16 * c + 64 * d → p / 4 ^ 0 % 4 ≡ a
@@ -53,9 +59,54 @@ pub state_read : (bytes : List ℕ) (at page r : ℕ) → page % 4 ≡ r → sli
 unfolding state_in
 state_read bytes at page r is = rw is refl
 
+-- a state byte says one of three states
+state_small : (a b : Bool) (bytes : List ℕ) → state_byte (if a then erased else if b then whole bytes else torn) < 4
+state_small true b bytes = omega arith
+state_small false true bytes = omega arith
+state_small false false bytes = omega arith
+
 pub said_small : (byte : ℕ) → said byte < 4
-said_small byte =
-    elim (cases_eq byte 0) [
-      | inl e ↦ rw e (omega arith)
-      | inr none ↦ elim (cases_eq byte 1) [ inl e ↦ rw e (omega arith) | inr other ↦ ? ]
+said_small byte = state_small (byte == 0) (byte == 1) []
+
+-- a shape has a multiple of four pages
+pub fours : (shape : Shape) → IsShape shape → page_count shape % 4 ≡ 0
+fours shape is =
+    let eights : shape.block_pages % 8 ≡ 0 = is.eights in
+    let quarter : shape.block_pages ≡ 4 * (shape.block_pages / 4) = omega (arith, eights) in
+    let all : page_count shape ≡ 4 * (shape.block_pages / 4 * shape.blocks) = ap (λ (n : ℕ). n * shape.blocks) quarter ∙ mul_assoc 4 (shape.block_pages / 4) shape.blocks in
+    omega (arith, all)
+
+-- a page of a table is in it
+pub in_table : (shape : Shape) (k : ℕ) → IsShape shape → k < page_count shape → k / 4 < page_count shape / 4
+in_table shape k is low = let all = fours shape is in omega (arith, all, low)
+
+-- ---- pages that steps set
+
+pub sets_last : (shape : Shape) (xs : List Mark) (mark : Mark) (k : ℕ) → SetBy shape mark k → Sets shape (xs ++ (mark ∷ [])) k
+sets_last shape [] mark k is = inl is
+sets_last shape (x ∷ xs) mark k is = inr (sets_last shape xs mark k is)
+
+pub sets_either : (shape : Shape) (xs : List Mark) (mark : Mark) (k : ℕ) → Sets shape (xs ++ (mark ∷ [])) k → Sets shape xs k ⊎ SetBy shape mark k
+sets_either shape [] mark k sets = elim sets [ inl is ↦ inr is | inr none ↦ absurd none ]
+sets_either shape (x ∷ xs) mark k sets =
+    elim sets [ inl is ↦ inl (inl is) | inr later ↦ elim (sets_either shape xs mark k later) [ inl early ↦ inl (inr early) | inr last ↦ inr last ] ]
+
+-- the pages of a row became set, and the others are as they were
+pub row_set : (shape : Shape) (block k : ℕ) (old new : List Bool) → 0 < shape.block_pages → k < length old
+    → ((k : ℕ) → block * shape.block_pages ≤ k → k < block * shape.block_pages + shape.block_pages → k < length old → get_or new k false ≡ true)
+    → ((k : ℕ) → (k < block * shape.block_pages) ⊎ (block * shape.block_pages + shape.block_pages ≤ k) → get_or new k false ≡ get_or old k false)
+    → (get_or new k false ≡ true → (get_or old k false ≡ true) ⊎ (k / shape.block_pages ≡ block)) × ((get_or old k false ≡ true) ⊎ (k / shape.block_pages ≡ block) → get_or new k false ≡ true)
+row_set shape block k old new some low inside outside =
+    elim (cases_lt k (block * shape.block_pages)) [
+      | inl before ↦ (λ is. inl (sym (outside k (inl before)) ∙ is), λ known. elim known [
+        | inl is ↦ outside k (inl before) ∙ is
+        | inr e ↦ let place = of_block shape.block_pages block k some e in absurd (omega (arith, place.0, before))
+      ])
+      | inr from ↦ elim (cases_lt k (block * shape.block_pages + shape.block_pages)) [
+        | inl to ↦ (λ is. inr (in_block shape.block_pages block k from to), λ known. inside k from to low)
+        | inr past ↦ (λ is. inl (sym (outside k (inr past)) ∙ is), λ known. elim known [
+          | inl is ↦ outside k (inr past) ∙ is
+          | inr e ↦ let place = of_block shape.block_pages block k some e in absurd (omega (arith, place.1, past))
+        ])
+      ]
     ]

@@ -227,6 +227,7 @@ pub fn finish<D: Disk>(
         → LogSays D.Disk log.new shape.now (D.Disk.seen image.old) []
             (FIRST_BATCH + length first.now) (FIRST_BATCH + length first.now + length blank.now)
             × Only (D.Disk.seen image.old) (D.Disk.may_leave image.new)) }
+    ensures seen { D.Disk.seen image.new ≡ D.Disk.seen image.old }
     ensures usable { OnOk result
         (IsTrue (D.Disk.is_usable log.new) × IsTrue (D.Disk.is_usable image.new)) }
 {

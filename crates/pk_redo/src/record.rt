@@ -78,22 +78,27 @@ fn state_at_page(bytes: &[u8], page: usize) -> u8
     ensures { result ≡ state_in bytes.now HEADER_BYTES page }
 {
     let byte = bytes[HEADER_BYTES + page / 4];
-    match page % 4 {
-        0 => byte % 4,
-        1 => byte / 4 % 4,
-        2 => byte / 16 % 4,
-        _ => byte / 64,
+    let place = page % 4;
+    if place == 0 {
+        return byte % 4;
     }
+    if place == 1 {
+        return byte / 4 % 4;
+    }
+    if place == 2 {
+        return byte / 16 % 4;
+    }
+    byte / 64
 }
 
 /// Pages that stand in a row are among those that steps set; there may be none of these numbers.
-fn note_row(set: &mut [bool], first: usize, count: usize)
+fn note_row(set: &mut Vec<bool>, first: usize, count: usize)
     requires { first + count < 2 ^ 63 }
-    ensures inside { (k : ℕ) → first ≤ k → k < first + count → k < length set.old
-        → get_or set.new k false ≡ true }
+    ensures inside { (k : ℕ) → first ≤ k → k < first + count → k < length set.old.items
+        → get_or set.new.items k false ≡ true }
     ensures outside { (k : ℕ) → (k < first) ⊎ (first + count ≤ k)
-        → get_or set.new k false ≡ get_or set.old k false }
-    ensures len { length set.new ≡ length set.old }
+        → get_or set.new.items k false ≡ get_or set.old.items k false }
+    ensures len { length set.new.items ≡ length set.old.items }
 {
     let end = (first + count).min(set.len());
     for page in first..end {
@@ -102,12 +107,12 @@ fn note_row(set: &mut [bool], first: usize, count: usize)
 }
 
 /// The pages that a step sets are among those that steps set.
-fn note_step(set: &mut [bool], shape: &Shape, step: &Step)
-    requires { length set.old ≡ spec.page_count shape.now }
+fn note_step(set: &mut Vec<bool>, shape: &Shape, step: &Step)
+    requires { length set.old.items ≡ spec.page_count shape.now }
     ensures set { (log : List ℕ) (k : ℕ) → k < spec.page_count shape.now
-        → (get_or set.new k false ≡ true)
-            ↔ ((get_or set.old k false ≡ true) ⊎ SetBy shape.now (step_mark shape.now log step.now) k) }
-    ensures len { length set.new ≡ length set.old }
+        → (get_or set.new.items k false ≡ true)
+            ↔ ((get_or set.old.items k false ≡ true) ⊎ SetBy shape.now (step_mark shape.now log step.now) k) }
+    ensures len { length set.new.items ≡ length set.old.items }
 {
     match step {
         Step::Program { page, .. } => note_row(set, *page as usize, 1),
@@ -125,8 +130,8 @@ pub fn set_pages(alloc: Global, shape: &Shape, steps: &[Step]) -> Result<Vec<boo
     ensures len { IfOk result (λ v. length v.items ≡ spec.page_count shape.now) }
 {
     let mut set = Vec::from_elem(alloc, false, shape.page_count() as usize)?;
-    for step in steps {
-        note_step(set.as_mut_slice(), shape, step);
+    for i in 0..steps.len() {
+        note_step(&mut set, shape, &steps[i]);
     }
     Ok(set)
 }
@@ -156,6 +161,7 @@ pub fn is_record_of(
         → IsTrue result ↔ RecordFits shape.now bytes.now header.now
             (λ k. said (slice_index states.now k)) marks }
 {
+    shape.known();
     if bytes.len() != record_len(shape) || !has_header(bytes, header) {
         return false;
     }

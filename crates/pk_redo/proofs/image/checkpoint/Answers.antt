@@ -17,7 +17,6 @@ loop-page-preserved g c =
     elim c.if-differs.branch [
       | then-differs+in_ok-put_cell w ↦ rw w.image-is (record {
         usable = w.put_cell.ensures.usable;
-        buffer = ?;
         crash = λ marks base all within. w.put_cell.ensures.crash marks base (all page (sym w.if-differs.ensures)) (before.crash marks base all within);
         long = λ fits.
             let same = w.put_cell.ensures.seen (only page) _ (only_sets shape page) (same_itself shape (only page) _ (before.long fits)) in
@@ -25,14 +24,13 @@ loop-page-preserved g c =
         written = λ fits known k low which.
             let same = w.put_cell.ensures.seen (only page) _ (only_sets shape page) (same_itself shape (only page) _ (before.long fits)) in
             elim (cases_eq k page) [
-              | inl is ↦ rw is (w.in_ok-put_cell.ensures.own ∙ sym w.copy_to-tag.ensures)
+              | inl is ↦ rw is (w.in_ok-put_cell.ensures.own ∙ sym w.copy_to-tag.ensures.page)
               | inr other ↦ unset_page shape (only page) _ _ same k low (sets_only shape page k other)
                   ∙ before.written fits known k low (elim which [ inl early ↦ inl (omega arith) | inr still ↦ inr still ])
             ];
       })
       | else-differs w ↦ rw w.image-is (record {
         usable = before.usable;
-        buffer = ?;
         crash = before.crash;
         long = before.long;
         written = λ fits known k low which. before.written fits known k low (elim which [

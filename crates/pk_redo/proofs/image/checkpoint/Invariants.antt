@@ -8,7 +8,6 @@ use Rattle.pk_redo.proofs.image.checkpoint.Given as goal
 abbrev pub invariant-loop-page : goal.invariant-loop-page
 invariant-loop-page g l = record {
   usable : IsTrue (g.D.Disk.is_usable l.image);
-  buffer : length l.buffer ≡ l.shape.page_bytes;
   crash : (marks : List Mark) (base : List ℕ) → ((k : ℕ) → g.P.Pages.is_new l.pages k ≡ true → Sets l.shape marks k) → AllSameBut g.D.Disk l.fn.image l.shape marks base
       → AllSameBut g.D.Disk l.image l.shape marks base;
   long : file_size l.shape ≤ length (g.D.Disk.seen l.fn.image) → file_size l.shape ≤ length (g.D.Disk.seen l.image);

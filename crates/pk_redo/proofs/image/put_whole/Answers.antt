@@ -1,4 +1,5 @@
-use Rattle.std.proofs.Common.{arith}
+use Rattle.std.proofs.Common.{ℕ, ap, ◌∙◌, arith}
+use Rattle.pk_image.specs.Image.{page_by}
 use Rattle.std.proofs.lemmas.Result.{on_ok_weaker}
 use Rattle.pk_redo.proofs.Writes.{own_page, one_row}
 use Rattle.pk_redo.proofs.image.put_whole.Goals as goal
@@ -31,4 +32,5 @@ pub returns-clause-own : goal.returns-clause-own
 returns-clause-own g c =
     on_ok_weaker c.put_states-2.result (λ holds.
     own_page c.args.shape.now _ _ c.args.bytes.now _ c.args.page c.requires.exists c.requires.full
-    (c.in_ok-put_page.ensures.written (omega (arith, c.requires.full, c.known.ensures.page_least))) c.put_states-2.ensures.torn (holds (omega arith))) c.put_states-2.ensures.written
+    (c.in_ok-put_page.ensures.written (omega (arith, c.requires.full, c.known.ensures.page_least))) c.put_states-2.ensures.torn (holds (omega arith))
+    ∙ ap (λ (b : ℕ). page_by b c.args.bytes.now) c.byte-2.ensures) c.put_states-2.ensures.written
