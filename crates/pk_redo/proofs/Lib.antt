@@ -4,7 +4,7 @@ pub mod Zeros
 pub mod Batches
 pub mod Gates
 pub mod Stepping
+pub mod Replay
 pub mod Tables
 pub mod Records
-pub mod Replay
 pub mod Writes

@@ -1,12 +1,14 @@
 -- Tables of states, four in a byte; and pages that are noted as set.
-use Rattle.std.proofs.Common.{◌≡◌, ◌≢◌, ◌⊎◌, ℕ, ◌+◌, ◌*◌, ◌/◌, ◌%◌, ◌^◌, ◌<◌, ◌≤◌, List, [], ◌∷◌, ◌++◌, length, slice_index, slice_set, get_or, sym, refl, ◌∙◌, ap, inl, inr, arith, Bool, true, false}
-use Rattle.std.{proofs.lemmas.Bool.cases_eq, proofs.lemmas.Bool.cases_lt, proofs.lemmas.List.get_or-set_same, proofs.lemmas.List.get_or-set_other}
-use Rattle.std.specs.Prelude.{if◌then◌else◌, ◌==◌}
+use Rattle.std.proofs.Common.{◌≡◌, ◌≢◌, ◌⊎◌, ℕ, ◌+◌, ◌*◌, ◌/◌, ◌%◌, ◌^◌, ◌<◌, ◌≤◌, List, [], ◌∷◌, ◌++◌, length, take, slice_index, slice_set, get_or, sym, refl, ◌∙◌, ap, inl, inr, arith, Bool, true, false}
+use Rattle.std.{proofs.lemmas.Bool.cases_eq, proofs.lemmas.Bool.cases_lt, proofs.lemmas.List.get_or-set_same, proofs.lemmas.List.take_more, proofs.lemmas.List.map-append, proofs.lemmas.List.get_or-set_other}
+use Rattle.std.specs.Prelude.{if◌then◌else◌, ◌==◌, ◌↔◌}
 use Rattle.std.proofs.Math.Nat.{mul_assoc}
 use Rattle.pk_base.{specs.Shape.Shape, specs.Shape.IsShape, specs.Shape.page_count, specs.Page.erased, specs.Page.whole, specs.Page.torn, specs.Mark.Mark}
 use Rattle.pk_base.proofs.BlockLemmas.{in_block, of_block}
 use Rattle.pk_image.specs.Image.{state_byte}
-use Rattle.pk_redo.specs.Steps.{SetBy, Sets}
+use Rattle.pk_redo.specs.declared.step.Step.{Step}
+use Rattle.pk_redo.specs.Steps.{SetBy, Sets, step_mark, step_marks}
+use Rattle.pk_redo.proofs.Replay.{sets_first}
 use Rattle.pk_redo.specs.Record.{state_in, said}
 
 digit_0 : (a b c d p : ℕ) → a < 4 → b < 4 → c < 4 → d < 4 → p ≡ a + 4 * b + 16 * c + 64 * d → p / 4 ^ 0 % 4 ≡ a
@@ -110,3 +112,19 @@ row_set shape block k old new some low inside outside =
         ])
       ]
     ]
+
+-- one more step is noted
+pub sets_more : (shape : Shape) (log : List ℕ) (steps : List Step) (i : ℕ) (d : Step) (k : ℕ) (old new : List Bool) → i < length steps
+    → ((get_or old k false ≡ true) ↔ Sets shape (step_marks shape log (take i steps)) k)
+    → ((get_or new k false ≡ true) ↔ ((get_or old k false ≡ true) ⊎ SetBy shape (step_mark shape log (get_or steps i d)) k))
+    → (get_or new k false ≡ true) ↔ Sets shape (step_marks shape log (take (i + 1) steps)) k
+sets_more shape log steps i d k old new low was is =
+    let mark : Mark = step_mark shape log (get_or steps i d) in
+    let all = ap (step_marks shape log) (take_more steps i d low) ∙ map-append (step_mark shape log) (take i steps) (get_or steps i d ∷ []) in
+    rw all (
+      λ now. elim (is.0 now) [
+        | inl before ↦ sets_first shape (step_marks shape log (take i steps)) (mark ∷ []) k (was.0 before)
+        | inr here ↦ sets_last shape (step_marks shape log (take i steps)) mark k here
+      ],
+      λ sets. is.1 (elim (sets_either shape (step_marks shape log (take i steps)) mark k sets) [ inl before ↦ inl (was.1 before) | inr here ↦ inr here ]),
+    )

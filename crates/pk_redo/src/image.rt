@@ -153,16 +153,21 @@ fn put_cell<D: Disk>(
 
 /// The pages in memory, and which of them the image may lack.
 pub trait Pages {
+    ghost shape_of: { Self → spec.Shape };
+
     ghost page_of: { Self → ℕ → Page };
 
     ghost is_new: { Self → ℕ → Bool };
 
     /// Whether the image may lack this page.
     fn differs(&self, page: u32) -> bool
+        requires { page < spec.page_count (shape_of self.now) }
         ensures { result ≡ is_new self.now page };
 
     /// The state of a page. If it is Whole, these are its bytes.
     fn copy_to(&self, page: u32, bytes: &mut [u8]) -> PageTag
+        requires exists { page < spec.page_count (shape_of self.now) }
+        requires full { length bytes.old ≡ (shape_of self.now).page_bytes }
         ensures page { page_of self.now page ≡ page_by (byte_of result) bytes.new };
 }
 
@@ -174,6 +179,7 @@ pub fn checkpoint<D: Disk, P: Pages>(
     buffer: &mut [u8],
 ) -> io::Result<()>
     requires usable { IsTrue (D.Disk.is_usable image.old) }
+    requires shape { P.shape_of pages.now ≡ shape.now }
     requires buffer { length buffer.old ≡ shape.now.page_bytes }
     // If steps set these pages, the image differs as before at most in pages that steps set.
     ensures crash { (marks : List Mark) (base : List ℕ)
@@ -269,6 +275,7 @@ pub fn settle<D: Disk, P: Pages>(
 ) -> io::Result<()>
     requires log_usable { IsTrue (D.Disk.is_usable log.old) }
     requires image_usable { IsTrue (D.Disk.is_usable image.old) }
+    requires shape { P.shape_of pages.now ≡ shape.now }
     requires buffer { length buffer.old ≡ shape.now.page_bytes }
     requires sealed { IsSealed first.now }
     requires room { FIRST_BATCH + length first.now + length blank.now < 2 ^ 63 }
