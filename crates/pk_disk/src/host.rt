@@ -9,11 +9,17 @@ use std::{fs, io};
 
 /// The number of each call in the record.
 const SETTLED: u64 = 0;
+
 const MEASURED: u64 = 1;
+
 const READ: u64 = 2;
+
 const WRITTEN: u64 = 3;
+
 const CUT: u64 = 4;
+
 const FLUSHED: u64 = 5;
+
 const TESTED: u64 = 6;
 
 /// The greatest place in a file that the system takes.

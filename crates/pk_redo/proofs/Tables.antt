@@ -100,16 +100,22 @@ pub row_set : (shape : Shape) (block k : ℕ) (old new : List Bool) → 0 < shap
     → (get_or new k false ≡ true → (get_or old k false ≡ true) ⊎ (k / shape.block_pages ≡ block)) × ((get_or old k false ≡ true) ⊎ (k / shape.block_pages ≡ block) → get_or new k false ≡ true)
 row_set shape block k old new some low inside outside =
     elim (cases_lt k (block * shape.block_pages)) [
-      | inl before ↦ (λ is. inl (sym (outside k (inl before)) ∙ is), λ known. elim known [
-        | inl is ↦ outside k (inl before) ∙ is
-        | inr e ↦ let place = of_block shape.block_pages block k some e in absurd (omega (arith, place.0, before))
-      ])
+      | inl before ↦ (
+        λ is. inl (sym (outside k (inl before)) ∙ is),
+        λ known. elim known [
+          | inl is ↦ outside k (inl before) ∙ is
+          | inr e ↦ let place = of_block shape.block_pages block k some e in absurd (omega (arith, place.0, before))
+        ],
+      )
       | inr from ↦ elim (cases_lt k (block * shape.block_pages + shape.block_pages)) [
         | inl to ↦ (λ is. inr (in_block shape.block_pages block k from to), λ known. inside k from to low)
-        | inr past ↦ (λ is. inl (sym (outside k (inr past)) ∙ is), λ known. elim known [
-          | inl is ↦ outside k (inr past) ∙ is
-          | inr e ↦ let place = of_block shape.block_pages block k some e in absurd (omega (arith, place.1, past))
-        ])
+        | inr past ↦ (
+          λ is. inl (sym (outside k (inr past)) ∙ is),
+          λ known. elim known [
+            | inl is ↦ outside k (inr past) ∙ is
+            | inr e ↦ let place = of_block shape.block_pages block k some e in absurd (omega (arith, place.1, past))
+          ],
+        )
       ]
     ]
 

@@ -38,16 +38,16 @@ pub fn barrier<D: Disk>(
         → BodySays shape.now (drop BATCH_HEAD batch.now) now
         → (l i : List ℕ) → D.Disk.may_leave log.new l → D.Disk.may_leave image.now i
         → ReadAs shape.now l i (flash_after shape.now marks base)
-            ⊎ ReadAs shape.now l i (flash_after shape.now (marks ++ now) base) }
+        ⊎ ReadAs shape.now l i (flash_after shape.now (marks ++ now) base) }
     // Once it returned success, as those after them, and the log is ready for more.
     ensures done { OnOk result ((base : List ℕ) (marks now : List Mark)
         → LogSays D.Disk log.old shape.now base marks end room
         → AllSameBut D.Disk image.now shape.now marks base
         → BodySays shape.now (drop BATCH_HEAD batch.now) now
         → LogSays D.Disk log.new shape.now base (marks ++ now) (end + length batch.now) room
-            × AllSameBut D.Disk image.now shape.now (marks ++ now) base
-            × BothRead D.Disk log.new image.now shape.now
-                (flash_after shape.now (marks ++ now) base)) }
+        × AllSameBut D.Disk image.now shape.now (marks ++ now) base
+        × BothRead D.Disk log.new image.now shape.now
+        (flash_after shape.now (marks ++ now) base)) }
     ensures usable { OnOk result (IsTrue (D.Disk.is_usable log.new)) }
 {
     let _ = image;
@@ -189,7 +189,7 @@ pub fn checkpoint<D: Disk, P: Pages>(
     // If it had the others, it has all.
     ensures written { OnOk result (file_size shape.now ≤ length (D.Disk.seen image.old)
         → ((k : ℕ) → k < spec.page_count shape.now → P.is_new pages.now k ≡ false
-            → page_in_file shape.now (D.Disk.seen image.old) k ≡ P.page_of pages.now k)
+        → page_in_file shape.now (D.Disk.seen image.old) k ≡ P.page_of pages.now k)
         → (k : ℕ) → k < spec.page_count shape.now
         → page_in_file shape.now (D.Disk.seen image.new) k ≡ P.page_of pages.now k) }
     ensures usable { IsTrue (D.Disk.is_usable image.new) }
@@ -224,21 +224,21 @@ pub fn finish<D: Disk>(
         → LogStands D.Disk log.old shape.now base marks
         → AllSameBut D.Disk image.old shape.now marks base
         → ((k : ℕ) → k < spec.page_count shape.now → page_in_file shape.now (D.Disk.seen image.old) k
-            ≡ page_at (flash_after shape.now marks base) k)
+        ≡ page_at (flash_after shape.now marks base) k)
         → BelongTo shape.now (drop BATCH_HEAD first.now ∷ []) [] (D.Disk.seen image.old)
         → BothRead D.Disk log.new image.new shape.now (flash_after shape.now marks base) }
     // The image alone holds them then, and the log is ready for more steps.
     ensures done { OnOk result (IsTrue (D.Disk.is_clean log.new)
         → BelongTo shape.now (drop BATCH_HEAD first.now ∷ []) [] (D.Disk.seen image.old)
         → LogSays D.Disk log.new shape.now (D.Disk.seen image.old) []
-            (FIRST_BATCH + length first.now) (FIRST_BATCH + length first.now + length blank.now)
-            × Only (D.Disk.seen image.old) (D.Disk.may_leave image.new)) }
+        (FIRST_BATCH + length first.now) (FIRST_BATCH + length first.now + length blank.now)
+        × Only (D.Disk.seen image.old) (D.Disk.may_leave image.new)) }
     ensures seen { D.Disk.seen image.new ≡ D.Disk.seen image.old }
     ensures usable { OnOk result
         (IsTrue (D.Disk.is_usable log.new) × IsTrue (D.Disk.is_usable image.new)) }
 {
     let _ = shape;
-    image.sync()?;
+    image.sync()?; // before the log has no batch any more
     reset(log, first, blank)
 }
 
@@ -251,11 +251,11 @@ pub fn close<D: Disk>(log: &mut D, image: &mut D, shape: &Shape) -> io::Result<(
         → LogStands D.Disk log.old shape.now base marks
         → AllSameBut D.Disk image.old shape.now marks base
         → ((k : ℕ) → k < spec.page_count shape.now → page_in_file shape.now (D.Disk.seen image.old) k
-            ≡ page_at (flash_after shape.now marks base) k)
+        ≡ page_at (flash_after shape.now marks base) k)
         → BothRead D.Disk log.new image.new shape.now (flash_after shape.now marks base) }
     ensures done { OnOk result (IsTrue (D.Disk.is_clean log.new)
         → LogStands D.Disk log.new shape.now (D.Disk.seen image.old) []
-            × Only (D.Disk.seen image.old) (D.Disk.may_leave image.new)) }
+        × Only (D.Disk.seen image.old) (D.Disk.may_leave image.new)) }
 {
     let _ = shape;
     image.sync()?;
@@ -284,14 +284,14 @@ pub fn settle<D: Disk, P: Pages>(
     // Whatever a crash leaves of both files, they are read as the pages in memory.
     ensures crash { IsTrue (D.Disk.is_clean log.new) → (base : List ℕ) (marks : List Mark)
         → MayCheckpoint D.Disk log.old image.old shape.now base marks
-            (P.is_new pages.now) (P.page_of pages.now) (drop BATCH_HEAD first.now)
+        (P.is_new pages.now) (P.page_of pages.now) (drop BATCH_HEAD first.now)
         → BothRead D.Disk log.new image.new shape.now (flash_after shape.now marks base) }
     ensures done { OnOk result (IsTrue (D.Disk.is_clean log.new) → (base : List ℕ) (marks : List Mark)
         → MayCheckpoint D.Disk log.old image.old shape.now base marks
-            (P.is_new pages.now) (P.page_of pages.now) (drop BATCH_HEAD first.now)
+        (P.is_new pages.now) (P.page_of pages.now) (drop BATCH_HEAD first.now)
         → LogSays D.Disk log.new shape.now (D.Disk.seen image.new) []
-            (FIRST_BATCH + length first.now) (FIRST_BATCH + length first.now + length blank.now)
-            × Only (D.Disk.seen image.new) (D.Disk.may_leave image.new)) }
+        (FIRST_BATCH + length first.now) (FIRST_BATCH + length first.now + length blank.now)
+        × Only (D.Disk.seen image.new) (D.Disk.may_leave image.new)) }
     ensures usable { OnOk result
         (IsTrue (D.Disk.is_usable log.new) × IsTrue (D.Disk.is_usable image.new)) }
 {

@@ -17,10 +17,10 @@ fn commit_counted<D: Disk>(disk: &mut D, end: usize, room: usize, batch: &[u8]) 
     requires room { room < 2 ^ 63 }
     ensures crash { (bs : List (List ℕ)) → AllReady D.Disk disk.old bs end room
         → AtEachCrash D.Disk disk.new
-            (λ c. LogHolds c bs ⊎ LogHolds c (bs ++ (drop BATCH_HEAD batch.now ∷ []))) }
+        (λ c. LogHolds c bs ⊎ LogHolds c (bs ++ (drop BATCH_HEAD batch.now ∷ []))) }
     ensures done { OnOk result ((bs : List (List ℕ)) → AllReady D.Disk disk.old bs end room
         → AllReady D.Disk disk.new (bs ++ (drop BATCH_HEAD batch.now ∷ []))
-            (end + length batch.now) room) }
+        (end + length batch.now) room) }
     ensures usable { OnOk result (IsTrue (D.Disk.is_usable disk.new)) }
 {
     disk.write_at(end, batch)?;
@@ -36,10 +36,10 @@ fn commit_twice<D: Disk>(disk: &mut D, end: usize, room: usize, batch: &[u8]) ->
     requires room { room < 2 ^ 63 }
     ensures crash { (bs : List (List ℕ)) → AllReady D.Disk disk.old bs end room
         → AtEachCrash D.Disk disk.new
-            (λ c. LogHolds c bs ⊎ LogHolds c (bs ++ (drop BATCH_HEAD batch.now ∷ []))) }
+        (λ c. LogHolds c bs ⊎ LogHolds c (bs ++ (drop BATCH_HEAD batch.now ∷ []))) }
     ensures done { OnOk result ((bs : List (List ℕ)) → AllReady D.Disk disk.old bs end room
         → AllReady D.Disk disk.new (bs ++ (drop BATCH_HEAD batch.now ∷ []))
-            (end + length batch.now) room) }
+        (end + length batch.now) room) }
     ensures usable { OnOk result (IsTrue (D.Disk.is_usable disk.new)) }
 {
     disk.write_at(end + 1, &batch[1..])?;
@@ -57,11 +57,11 @@ pub fn commit<D: Disk>(disk: &mut D, end: usize, room: usize, batch: &[u8]) -> i
     // A crash leaves the batches without this one, or with all of it.
     ensures crash { (bs : List (List ℕ)) → AllReady D.Disk disk.old bs end room
         → AtEachCrash D.Disk disk.new
-            (λ c. LogHolds c bs ⊎ LogHolds c (bs ++ (drop BATCH_HEAD batch.now ∷ []))) }
+        (λ c. LogHolds c bs ⊎ LogHolds c (bs ++ (drop BATCH_HEAD batch.now ∷ []))) }
     // A commit that returned success is there, and one more may follow.
     ensures done { OnOk result ((bs : List (List ℕ)) → AllReady D.Disk disk.old bs end room
         → AllReady D.Disk disk.new (bs ++ (drop BATCH_HEAD batch.now ∷ []))
-            (end + length batch.now) room) }
+        (end + length batch.now) room) }
     ensures usable { OnOk result (IsTrue (D.Disk.is_usable disk.new)) }
 {
     if disk.mixes() {
@@ -142,11 +142,11 @@ pub fn reset<D: Disk>(disk: &mut D, first: &[u8], blank: &[u8]) -> io::Result<()
     ensures crash { IsTrue (D.Disk.is_clean disk.new) → (bs : List (List ℕ))
         → AllStand D.Disk disk.old bs
         → AtEachCrash D.Disk disk.new (λ c. LogHolds c bs
-            ⊎ (LogHolds c [] ⊎ LogHolds c (drop BATCH_HEAD first.now ∷ []))) }
+        ⊎ (LogHolds c [] ⊎ LogHolds c (drop BATCH_HEAD first.now ∷ []))) }
     ensures done { OnOk result (IsTrue (D.Disk.is_clean disk.new)
         → AllReady D.Disk disk.new (drop BATCH_HEAD first.now ∷ [])
-            (FIRST_BATCH + length first.now)
-            (FIRST_BATCH + length first.now + length blank.now)) }
+        (FIRST_BATCH + length first.now)
+        (FIRST_BATCH + length first.now + length blank.now)) }
     ensures usable { OnOk result (IsTrue (D.Disk.is_usable disk.new)) }
 {
     shut(disk)?;

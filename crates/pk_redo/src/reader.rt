@@ -70,7 +70,7 @@ fn read_body(
     requires short { length log.now < 2 ^ 62 }
     ensures read { OnOk result ((marks : List Mark) × AreSteps shape.now log.now from marks to
         × (step_marks shape.now log.now steps.new.items
-            ≡ step_marks shape.now log.now steps.old.items ++ marks)) }
+        ≡ step_marks shape.now log.now steps.old.items ++ marks)) }
     // They are refused only if they are no steps.
     ensures bad { (at : ℕ) → result ≡ Err (LogFault.BadStep at)
         → (marks : List Mark) → ¬ AreSteps shape.now log.now from marks to }

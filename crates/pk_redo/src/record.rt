@@ -111,7 +111,7 @@ fn note_step(set: &mut Vec<bool>, shape: &Shape, step: &Step)
     requires { length set.old.items ≡ spec.page_count shape.now }
     ensures set { (log : List ℕ) (k : ℕ) → k < spec.page_count shape.now
         → (get_or set.new.items k false ≡ true)
-            ↔ ((get_or set.old.items k false ≡ true) ⊎ SetBy shape.now (step_mark shape.now log step.now) k) }
+        ↔ ((get_or set.old.items k false ≡ true) ⊎ SetBy shape.now (step_mark shape.now log step.now) k) }
     ensures len { length set.new.items ≡ length set.old.items }
 {
     match step {
@@ -146,20 +146,14 @@ fn has_header(bytes: &[u8], header: &[u8]) -> bool
 
 /// Whether a record is of an image with this header and these state bytes, but for pages that steps
 /// set.
-pub fn is_record_of(
-    shape: &Shape,
-    bytes: &[u8],
-    header: &[u8],
-    states: &[u8],
-    set: &[bool],
-) -> bool
+pub fn is_record_of(shape: &Shape, bytes: &[u8], header: &[u8], states: &[u8], set: &[bool]) -> bool
     requires header { length header.now ≡ HEADER_BYTES }
     requires states { length states.now ≡ spec.page_count shape.now }
     requires set { length set.now ≡ spec.page_count shape.now }
     ensures { (marks : List Mark) → ((k : ℕ) → k < spec.page_count shape.now
-            → (get_or set.now k false ≡ true) ↔ Sets shape.now marks k)
+        → (get_or set.now k false ≡ true) ↔ Sets shape.now marks k)
         → IsTrue result ↔ RecordFits shape.now bytes.now header.now
-            (λ k. said (slice_index states.now k)) marks }
+        (λ k. said (slice_index states.now k)) marks }
 {
     shape.known();
     if bytes.len() != record_len(shape) || !has_header(bytes, header) {

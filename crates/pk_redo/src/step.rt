@@ -35,7 +35,7 @@ pub fn put_program(batch: &mut [u8], at: usize, shape: &Shape, page: u32, front:
     // The steps that were read before this place are read, and this one follows.
     ensures read { (from : ℕ) (marks : List Mark) → AreSteps shape.now batch.old from marks at
         → AreSteps shape.now batch.new from
-            (marks ++ (program page (padded shape.now.page_bytes front.now) ∷ [])) result }
+        (marks ++ (program page (padded shape.now.page_bytes front.now) ∷ [])) result }
 {
     shape.known();
     put_number(batch, at, page);
@@ -93,8 +93,8 @@ pub(crate) fn step_at(shape: &Shape, log: &[u8], at: usize) -> Option<(Step, usi
     requires { at < 2 ^ 63 }
     ensures { MatchOption result (¬ IsStep shape.now log.now at)
         (λ it. IsStep shape.now log.now at
-            × (step_mark shape.now log.now it.0 ≡ mark_at shape.now log.now at)
-            × (it.1 ≡ after_step log.now at)) }
+        × (step_mark shape.now log.now it.0 ≡ mark_at shape.now log.now at)
+        × (it.1 ≡ after_step log.now at)) }
 {
     if log.len() < at + STEP_BYTES {
         return None;

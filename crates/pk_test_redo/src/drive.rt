@@ -1,10 +1,11 @@
-//! The pages of a drive in memory, each of which is filled by one byte.
-ghost use Rattle.std.specs.Prelude.{◌≡◌, length, get_or, false, []};
+//! The pages of a drive in memory. A Whole one has a front of five bytes of one value, and zeros.
+ghost use Rattle.std.specs.Prelude.{◌≡◌, length, replicate, get_or, false};
+ghost use Rattle.pk_base.specs.Fields.{padded};
 ghost use Rattle.pk_base.specs.Shape as spec;
 ghost use Rattle.pk_image.specs.Image.{byte_of, page_by};
 ghost use Rattle.pk_image.specs.declared.tag.PageTag.TheVariants.{Torn};
 
-use pk_base::Shape;
+use pk_base::{Shape, put_padded};
 use pk_image::PageTag;
 use pk_redo::Pages;
 use std::alloc::{AllocError, Global};
@@ -12,23 +13,27 @@ use std::alloc::{AllocError, Global};
 /// Bytes of a page of the drives of these tests.
 pub const PAGE: usize = 512;
 
+/// Bytes of the front of a Whole page.
+pub const FRONT: usize = 5;
+
 /// The pages, and which of them the image may lack.
 #[derive(Drop)]
 pub struct Drive {
     pub shape: Shape,
     tags: Vec<PageTag>,
-    pages: Vec<[u8; PAGE]>,
+    fronts: Vec<u8>,
     new: Vec<bool>,
     ghost size: { shape.page_bytes ≡ PAGE },
     ghost tag_count: { length tags.items ≡ spec.page_count shape },
-    ghost page_count: { length pages.items ≡ spec.page_count shape },
+    ghost front_count: { length fronts.items ≡ spec.page_count shape },
     ghost new_count: { length new.items ≡ spec.page_count shape },
 }
 
 impl Pages for Drive {
     ghost shape_of = { λ d. d.shape };
 
-    ghost page_of = { λ d k. page_by (byte_of (get_or d.tags.items k Torn)) (get_or d.pages.items k []) };
+    ghost page_of = { λ d k. page_by (byte_of (get_or d.tags.items k Torn))
+        (padded PAGE (replicate FRONT (get_or d.fronts.items k 0))) };
 
     ghost is_new = { λ d k. get_or d.new.items k false };
 
@@ -37,7 +42,7 @@ impl Pages for Drive {
     }
 
     fn copy_to(&self, page: u32, bytes: &mut [u8]) -> PageTag {
-        bytes.copy_from_slice(&self.pages[page as usize]);
+        put_padded(bytes, 0, PAGE, &[self.fronts[page as usize]; FRONT]);
         self.tags[page as usize]
     }
 }
@@ -55,18 +60,16 @@ impl Drive {
         Ok(Some(Drive {
             shape,
             tags: Vec::from_elem(alloc, PageTag::Erased, count)?,
-            pages: Vec::from_elem(alloc, [0u8; PAGE], count)?,
+            fronts: Vec::from_elem(alloc, 0u8, count)?,
             new: Vec::from_elem(alloc, false, count)?,
         }))
     }
 
-    /// Programs a page: so many bytes of this value, and zeros.
-    pub fn program(&mut self, page: u32, byte: u8, len: usize) {
+    /// Programs a page.
+    pub fn program(&mut self, page: u32, front: u8) {
         let page = page as usize;
-        if page < self.tags.len() && len <= PAGE {
-            let mut bytes = [0u8; PAGE];
-            bytes[..len].fill(byte);
-            self.pages[page] = bytes;
+        if page < self.tags.len() {
+            self.fronts[page] = front;
             self.tags[page] = PageTag::Whole;
             self.new[page] = true;
         }
@@ -85,13 +88,15 @@ impl Drive {
 
     /// The image has all pages now.
     pub fn settled(&mut self) {
-        self.new.fill(false);
+        for page in 0..self.new.len() {
+            self.new[page] = false;
+        }
     }
 
-    /// The state byte of a page, and its first byte if it is Whole.
+    /// The state byte of a page, and the first byte of a Whole one.
     pub fn shown(&self, page: usize) -> (u8, u8) {
-        match (self.tags.get(page), self.pages.get(page)) {
-            (Some(PageTag::Whole), Some(bytes)) => (PageTag::Whole.byte(), bytes[0]),
+        match (self.tags.get(page), self.fronts.get(page)) {
+            (Some(PageTag::Whole), Some(front)) => (PageTag::Whole.byte(), *front),
             (Some(tag), _) => (tag.byte(), 0),
             (None, _) => (9, 9),
         }

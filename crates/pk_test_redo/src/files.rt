@@ -20,12 +20,7 @@ fn image_path(rt: &HostRuntime, name: &str) -> io::Result<String> {
 }
 
 // Makes a log in a file, commits a batch to it, and reads how many batches there are.
-fn commits<S: Start>(
-    rt: &HostRuntime,
-    file: File,
-    syncs: Syncs,
-    _start: S,
-) -> io::Result<usize> {
+fn commits<S: Start>(rt: &HostRuntime, file: File, syncs: Syncs, _start: S) -> io::Result<usize> {
     let mut disk = open_disk::<S>(file, true, syncs)?;
     let mut batch = [7u8; 12];
     seal(&mut batch);
@@ -60,7 +55,10 @@ fn a_log_is_made_found_and_removed(rt: HostRuntime) -> Result<(), Fail> {
     let log = log_path(&rt, link.as_str())?;
     assert!(rt; find_log(&rt, log.as_str(), &image)?.is_none());
     let made = make_log(&rt, log.as_str(), &image, Syncs::Made)?;
-    assert_eq!(rt; made.metadata()?.mode() & 0o777, image.metadata()?.mode() & 0o777);
+    assert_eq!(rt;
+        made.metadata()?.mode() & 0o777,
+        image.metadata()?.mode() & 0o777
+    );
     assert_eq!(rt; commits(&rt, made, Syncs::Made, Unknown)?, 2);
     match find_log(&rt, log.as_str(), &image)? {
         Some(found) => assert_eq!(rt; commits(&rt, found, Syncs::None, Wary)?, 2),

@@ -114,7 +114,14 @@ fn steps_are_read_as_they_were_written(rt: HostRuntime) -> Result<(), Fail> {
     match read_steps(rt.alloc(), &shape, &log) {
         Ok(steps) => {
             assert_eq!(rt; steps.len(), 2);
-            assert!(rt; steps.get(0) == Some(&Step::Program { page: 3, at: 45, len: 5 }));
+            assert!(rt;
+                steps.get(0)
+                    == Some(&Step::Program {
+                        page: 3,
+                        at: 45,
+                        len: 5
+                    })
+            );
             assert!(rt; steps.get(1) == Some(&Step::Erase { block: 2 }));
         }
         Err(_) => assert!(rt; false),

@@ -3,7 +3,7 @@
 ghost use Rattle.std.specs.Prelude.{◌≡◌, length, IsTrue};
 ghost use Rattle.pk_redo.specs.Log.{IsSealed};
 
-use crate::drive::{Drive, PAGE};
+use crate::drive::{Drive, FRONT, PAGE};
 use pk_base::Shape;
 use pk_image::{HEADER_BYTES, header};
 use pk_redo::{
@@ -16,12 +16,12 @@ use std::test::Fail;
 
 // Pages of a drive, and bytes of its image, of a record with the head of its batch, and of a batch.
 const PAGES: usize = 272;
-const IMAGE: usize = HEADER_BYTES + PAGES * (PAGE + 1);
-const RECORD: usize = 109;
-const BATCH: usize = 43;
 
-// Bytes of each front that is written.
-const FRONT: usize = 5;
+const IMAGE: usize = HEADER_BYTES + PAGES * (PAGE + 1);
+
+const RECORD: usize = 109;
+
+const BATCH: usize = 43;
 
 // What the steps of a session do, by their numbers: two programs and an erase, and so on.
 #[derive(Clone, Copy)]
@@ -49,7 +49,7 @@ fn deed_of(number: u32) -> Deed {
 
 fn apply(drive: &mut Drive, deed: Deed) {
     match deed {
-        Deed::Program { page, byte } => drive.program(page, byte, FRONT),
+        Deed::Program { page, byte } => drive.program(page, byte),
         Deed::Erase { block } => drive.erase(block),
     }
 }
@@ -190,20 +190,26 @@ fn read_drive(alloc: Global, log: &[u8], image: &[u8]) -> Result<Option<Drive>, 
             return Ok(None);
         }
         let record = &log[at..at + len];
-        if !is_record_of(&shape, record, &image[..HEADER_BYTES], states, set.as_slice()) {
+        if !is_record_of(
+            &shape,
+            record,
+            &image[..HEADER_BYTES],
+            states,
+            set.as_slice(),
+        ) {
             return Ok(None);
         }
     }
     for page in 0..PAGES {
         if states[page] == 1 {
             let place = HEADER_BYTES + PAGES + page * PAGE;
-            drive.program(page as u32, image[place], FRONT);
+            drive.program(page as u32, image[place]);
         }
     }
     for step in steps.iter() {
         match step {
-            Step::Program { page, at, len } => match log.get(*at) {
-                Some(byte) => drive.program(*page, *byte, *len),
+            Step::Program { page, at, .. } => match log.get(*at) {
+                Some(byte) => drive.program(*page, *byte),
                 None => return Ok(None),
             },
             Step::Erase { block } => drive.erase(*block),
@@ -293,14 +299,45 @@ fn is_safe(alloc: Global, log_calls: u64, image_calls: u64) -> Result<bool, Allo
     image.crash();
     let log_kept = copied(alloc, log.inner().bytes())?;
     let image_kept = copied(alloc, image.inner().bytes())?;
-    let log_mixed = mixed(alloc, log_kept.as_slice(), log_seen.as_slice(), log_calls as u32)?;
+    let log_mixed = mixed(
+        alloc,
+        log_kept.as_slice(),
+        log_seen.as_slice(),
+        log_calls as u32,
+    )?;
     match (after(alloc, reached.durable)?, after(alloc, reached.tried)?) {
         (Some(least), Some(most)) => Ok(
-            is_kept(alloc, &least, &most, log_seen.as_slice(), image_seen.as_slice())?
-                && is_kept(alloc, &least, &most, log_seen.as_slice(), image_kept.as_slice())?
-                && is_kept(alloc, &least, &most, log_kept.as_slice(), image_seen.as_slice())?
-                && is_kept(alloc, &least, &most, log_kept.as_slice(), image_kept.as_slice())?
-                && is_kept(alloc, &least, &most, log_mixed.as_slice(), image_seen.as_slice())?,
+            is_kept(
+                alloc,
+                &least,
+                &most,
+                log_seen.as_slice(),
+                image_seen.as_slice(),
+            )? && is_kept(
+                alloc,
+                &least,
+                &most,
+                log_seen.as_slice(),
+                image_kept.as_slice(),
+            )? && is_kept(
+                alloc,
+                &least,
+                &most,
+                log_kept.as_slice(),
+                image_seen.as_slice(),
+            )? && is_kept(
+                alloc,
+                &least,
+                &most,
+                log_kept.as_slice(),
+                image_kept.as_slice(),
+            )? && is_kept(
+                alloc,
+                &least,
+                &most,
+                log_mixed.as_slice(),
+                image_seen.as_slice(),
+            )?,
         ),
         _ => Ok(false),
     }
@@ -310,8 +347,8 @@ fn is_safe(alloc: Global, log_calls: u64, image_calls: u64) -> Result<bool, Allo
 fn a_session_that_is_stopped_by_its_log_keeps_what_it_answered(
     rt: HostRuntime,
 ) -> Result<(), Fail> {
-    for calls in 0..3u64 {
-        assert!(rt; is_safe(rt.alloc(), calls * 15, 10_000)?);
+    for calls in 0..60u64 {
+        assert!(rt; is_safe(rt.alloc(), calls, 10_000)?);
     }
     Ok(())
 }
@@ -320,8 +357,8 @@ fn a_session_that_is_stopped_by_its_log_keeps_what_it_answered(
 fn a_session_that_is_stopped_by_its_image_keeps_what_it_answered(
     rt: HostRuntime,
 ) -> Result<(), Fail> {
-    for calls in 0..3u64 {
-        assert!(rt; is_safe(rt.alloc(), 10_000, calls * 15)?);
+    for calls in 0..60u64 {
+        assert!(rt; is_safe(rt.alloc(), 10_000, calls)?);
     }
     Ok(())
 }

@@ -21,8 +21,7 @@ returns-clause-done g c =
     let shape = c.args.shape.now in
     let all = done (says.first ∷ says.later) says.ready in
     let more = bodies_more shape says.later marks _ now says.says own in
-    let files = λ (i : List ℕ) (may : g.D.Disk.may_leave c.args.image.now i). within_more shape marks now base i (within i may) in
-    (
+    let files = λ (i : List ℕ) (may : g.D.Disk.may_leave c.args.image.now i). within_more shape marks now base i (within i may) in (
       record { first = says.first; later = _; ready = all; says = more; of_base = says.of_base },
       files,
       λ l i may_l may_i. replay_is_absolute shape l base i _ _ (ready_stands l _ _ _ c.requires.fits (all l may_l)) more says.of_base (files i may_i),
