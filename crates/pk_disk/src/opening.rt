@@ -16,8 +16,8 @@ const STANDARD_ERROR: i32 = 2;
 /// The bits of a file's mode that say who may use it.
 const MODE_BITS: u32 = 0o777;
 
-/// The path of the log of an image: in the folder of the file itself, so that two names of one image
-/// that are links have one log.
+/// The path of the log of an image: in the folder of the file itself, so that two names of one
+/// image that are links have one log.
 pub fn log_path(rt: &HostRuntime, image: &str) -> io::Result<String> {
     let own = canonicalize(rt, image)?;
     match format!(in rt.alloc(); "{}-wal", own.as_str()) {
@@ -34,8 +34,8 @@ fn has_one_name(file: &File) -> io::Result<()> {
     Err(io::Error::from(io::ErrorKind::Unsupported))
 }
 
-/// The file is the regular one that has this name, which no link has put there, on a descriptor above
-/// those of the standard streams.
+/// The file is the regular one that has this name, which no link has put there, on a descriptor
+/// above those of the standard streams.
 fn named(rt: &HostRuntime, path: &str, file: File) -> io::Result<File> {
     let (found, name) = (file.metadata()?, symlink_metadata(rt, path)?);
     let is_same = found.dev() == name.dev() && found.ino() == name.ino();
@@ -46,8 +46,8 @@ fn named(rt: &HostRuntime, path: &str, file: File) -> io::Result<File> {
     Ok(file)
 }
 
-/// Opens the log at this path; None if there is none. The board has the lock of the image then, so no
-/// other one has the log open.
+/// Opens the log at this path; None if there is none. The board has the lock of the image then, so
+/// no other one has the log open.
 pub fn find_log(rt: &HostRuntime, path: &str, image: &File) -> io::Result<Option<File>> {
     match OpenOptions::new().read(true).write(true).open(rt, path) {
         Ok(file) => {
@@ -59,8 +59,8 @@ pub fn find_log(rt: &HostRuntime, path: &str, image: &File) -> io::Result<Option
     }
 }
 
-/// Makes the log at this path, where no file is, for whoever may use the image; with its name on the
-/// disk, if syncs are made.
+/// Makes the log at this path, where no file is, for whoever may use the image; with its name on
+/// the disk, if syncs are made.
 pub fn make_log(rt: &HostRuntime, path: &str, image: &File, syncs: Syncs) -> io::Result<File> {
     has_one_name(image)?;
     let mode = image.metadata()?.mode() & MODE_BITS;
@@ -87,14 +87,14 @@ fn bring_name(rt: &HostRuntime, path: &str, syncs: Syncs) -> io::Result<()> {
     }
 }
 
-/// Removes the name of a log, which has to be shut and synced before: a name that comes back after a
-/// loss of power is that of a shut log.
+/// Removes the name of a log, which has to be shut and synced before: a name that comes back after
+/// a loss of power is that of a shut log.
 pub fn remove_log(rt: &HostRuntime, path: &str) -> io::Result<()> {
     remove_file(rt, path)
 }
 
-/// An open file as a disk, which holds what is on the disk once it was synced. `S` stands for that, and
-/// its value is used up, so that code over any `S` opens one pair.
+/// An open file as a disk, which holds what is on the disk once it was synced. `S` stands for that,
+/// and its value is used up, so that code over any `S` opens one pair.
 pub fn open_disk<S: Start>(file: File, is_log: bool, syncs: Syncs) -> io::Result<DiskFile<S>>
     ensures usable { IfOk result (λ disk. IsTrue (disk_file_is_usable S.Start disk)) }
     ensures fresh { IfOk result (λ disk. IsJustSettled is_log disk) }

@@ -1,5 +1,6 @@
 -- Batches in a log.
-use Rattle.std.proofs.Common.{◌≡◌, ◌⊎◌, ℕ, ◌+◌, ◌-◌, ◌*◌, ◌<◌, ◌≤◌, List, [], ◌∷◌, ◌++◌, length, drop, slice_index, slice_set, sym, refl, ◌∙◌, ap, subst, inl, inr, arith, rules, ext_get_or, get_or-drop, length-drop, length-set, take_all}
+use Rattle.std.proofs.Common.{◌≡◌, ◌⊎◌, ℕ, ◌+◌, ◌-◌, ◌*◌, ◌<◌, ◌≤◌, List, [], ◌∷◌, ◌++◌, length, drop, slice_index}
+use Rattle.std.proofs.Common.{slice_set, sym, refl, ◌∙◌, ap, subst, inl, inr, arith, rules, ext_get_or, get_or-drop, length-drop, length-set, take_all}
 use Rattle.std.proofs.lemmas.Bool.{cases_eq, cases_lt}
 use Rattle.std.proofs.lemmas.List.{places}
 use Rattle.sqlite_disk.specs.Disk.{Holds, Torn, Mixed}

@@ -36,7 +36,8 @@ module _ (old new bytes : List ℕ) (at n : ℕ) (fits : at + n ≤ length old) 
   pub stands_there : drop at new ≡ bytes ++ drop (at + n) new
   stands_there =
       ap (drop at) (sym (take-append-drop (at + n) new)) ∙ ap (λ (xs : List ℕ). drop at (xs ++ drop (at + n) new)) front ∙ ap (drop at) (append_assoc (take at old) bytes (drop (at + n) new))
-      ∙ drop-append-le at (take at old) (bytes ++ drop (at + n) new) (omega (arith, before)) ∙ ap (λ (xs : List ℕ). xs ++ (bytes ++ drop (at + n) new)) (drop_all at (take at old) (omega (arith, before)))
+      ∙ drop-append-le at (take at old) (bytes ++ drop (at + n) new) (omega (arith, before))
+      ∙ ap (λ (xs : List ℕ). xs ++ (bytes ++ drop (at + n) new)) (drop_all at (take at old) (omega (arith, before)))
 
 -- a number that was written is read
 pub number_written : (old new : List ℕ) (at x : ℕ) → at + 4 ≤ length old → x < 2 ^ 32 → take (at + 4) new ≡ take at old ++ little_bytes 4 x → drop (at + 4) new ≡ drop (at + 4) old

@@ -1,8 +1,10 @@
 -- A replay gives the same whatever the pages hold that its steps set.
-use Rattle.std.proofs.Common.{◌≡◌, ◌≢◌, ◌⊎◌, ℕ, zero, suc, ◌+◌, ◌*◌, ◌/◌, ◌<◌, ◌≤◌, List, [], ◌∷◌, ◌++◌, length, take, drop, slice_index, sym, refl, ◌∙◌, ap, inl, inr, arith, zero-add, get_or-take, ext_get_or}
+use Rattle.std.proofs.Common.{◌≡◌, ◌≢◌, ◌⊎◌, ℕ, zero, suc, ◌+◌, ◌*◌, ◌/◌, ◌<◌, ◌≤◌, List, [], ◌∷◌}
+use Rattle.std.proofs.Common.{◌++◌, length, take, drop, slice_index, sym, refl, ◌∙◌, ap, inl, inr, arith, zero-add, get_or-take, ext_get_or}
 use Rattle.std.{proofs.Math.Nat.mul-le-mul_right, proofs.Math.Nat.mul-suc, proofs.lemmas.Bool.cases_eq, proofs.lemmas.Bool.cases_lt, proofs.lemmas.List.length-take-le}
 use Rattle.sqlite_disk.specs.Disk.{Holds, Torn}
-use Rattle.pk_image.{specs.Header.file_size, specs.Image.state_place, specs.Image.page_place, specs.Image.page_by, specs.Image.page_in_file, specs.Image.pages_in_file, specs.Image.flash_in_file, specs.Image.state_byte}
+use Rattle.pk_image.{specs.Header.file_size, specs.Image.state_place, specs.Image.page_place, specs.Image.page_by}
+use Rattle.pk_image.{specs.Image.page_in_file, specs.Image.pages_in_file, specs.Image.flash_in_file, specs.Image.state_byte}
 use Rattle.pk_base.{specs.Shape.Shape, specs.Shape.page_count, specs.Page.Page, specs.Page.Flash, specs.Page.page_at, specs.Page.torn}
 use Rattle.pk_base.specs.Mark.{Mark, program, erase, post, after, after_all}
 use Rattle.pk_nand.proofs.Leaving.{page_at-slice_set, page_at-slice_set_same, page_at-erased_from, page-erased_in, length-after, same_pages}

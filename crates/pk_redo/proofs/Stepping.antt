@@ -1,5 +1,6 @@
 -- Steps one after another.
-use Rattle.std.proofs.Common.{◌≡◌, ◌⊎◌, ℕ, ◌+◌, ◌-◌, ◌*◌, ◌<◌, ◌≤◌, List, [], ◌∷◌, ◌++◌, length, drop, slice_index, sym, refl, ◌∙◌, ap, subst, inl, inr, arith, append_assoc, zero-add, take, true, false}
+use Rattle.std.proofs.Common.{◌≡◌, ◌⊎◌, ℕ, ◌+◌, ◌-◌, ◌*◌, ◌<◌, ◌≤◌, List, [], ◌∷◌, ◌++◌, length, drop}
+use Rattle.std.proofs.Common.{slice_index, sym, refl, ◌∙◌, ap, subst, inl, inr, arith, append_assoc, zero-add, take, true, false}
 use Rattle.std.specs.Prelude.{nat_lt}
 use Rattle.std.{proofs.lemmas.List.append-nil, proofs.lemmas.List.take_at, proofs.lemmas.Bool.Decides.nat_tests, proofs.Math.Nat.mul-le-mul}
 use Rattle.sqlite_disk.specs.Disk.{Torn}
@@ -197,7 +198,8 @@ module _ (shape : Shape) (old one two : List ℕ) (at number len : ℕ) (fits : 
         can_be = rw (number_is, len_is) (inl (exists, short));
         within = rw len_is (omega (arith, room, long));
       } in
-      let all = put_step shape old three from at marks (program number (padded shape.page_bytes front)) (omega (arith, room, long)) (λ i low. kept i (omega (arith, low)) ∙ same_before i low) whole mark
+      let all = put_step shape old three from at marks (program number (padded shape.page_bytes front)) (omega (arith, room, long))
+      (λ i low. kept i (omega (arith, low)) ∙ same_before i low) whole mark
       steps in
       let end : at + 8 + number_in three (at + 4) ≡ at + 8 + length front = omega (arith, len_is) in
       rw end at all

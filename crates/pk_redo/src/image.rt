@@ -30,8 +30,8 @@ pub fn barrier<D: Disk>(
     requires sealed { IsSealed batch.now }
     requires fits { end + length batch.now < room }
     requires room { room < 2 ^ 63 }
-    // Whatever a crash leaves of both files, they are read as the pages before these steps, or as those
-    // after all of them.
+    // Whatever a crash leaves of both files, they are read as the pages before these steps, or as
+    // those after all of them.
     ensures crash { (base : List ℕ) (marks now : List Mark)
         → LogSays D.Disk log.old shape.now base marks end room
         → AllSameBut D.Disk image.now shape.now marks base
@@ -101,8 +101,8 @@ pub fn put_page<D: Disk>(image: &mut D, shape: &Shape, page: u32, front: &[u8]) 
     image.write_at(page_at(shape, page) as usize, front)
 }
 
-/// Writes a Whole page. It counts as Torn until all its bytes are written, for a reader of the image
-/// without its log.
+/// Writes a Whole page. It counts as Torn until all its bytes are written, for a reader of the
+/// image without its log.
 fn put_whole<D: Disk>(image: &mut D, shape: &Shape, page: u32, bytes: &[u8]) -> io::Result<()>
     requires usable { IsTrue (D.Disk.is_usable image.old) }
     requires exists { page < spec.page_count shape.now }
@@ -203,8 +203,8 @@ pub fn checkpoint<D: Disk, P: Pages>(
     Ok(())
 }
 
-/// Ends a checkpoint: once the image is synced, the log is emptied, and begins with the record of the
-/// image as it is now.
+/// Ends a checkpoint: once the image is synced, the log is emptied, and begins with the record of
+/// the image as it is now.
 pub fn finish<D: Disk>(
     log: &mut D,
     image: &mut D,
@@ -218,12 +218,13 @@ pub fn finish<D: Disk>(
     requires room { FIRST_BATCH + length first.now + length blank.now < 2 ^ 63 }
     requires blank { (i : ℕ) → i < length blank.now → slice_index blank.now i ≡ 0 }
     requires long { 0 < length blank.now }
-    // Whatever a crash leaves of both files, they are read as the pages after the steps of the log, if
-    // the checkpoint wrote these pages.
+    // Whatever a crash leaves of both files, they are read as the pages after the steps of the log,
+    // if the checkpoint wrote these pages.
     ensures crash { IsTrue (D.Disk.is_clean log.new) → (base : List ℕ) (marks : List Mark)
         → LogStands D.Disk log.old shape.now base marks
         → AllSameBut D.Disk image.old shape.now marks base
-        → ((k : ℕ) → k < spec.page_count shape.now → page_in_file shape.now (D.Disk.seen image.old) k
+        → ((k : ℕ) → k < spec.page_count shape.now
+        → page_in_file shape.now (D.Disk.seen image.old) k
         ≡ page_at (flash_after shape.now marks base) k)
         → BelongTo shape.now (drop BATCH_HEAD first.now ∷ []) [] (D.Disk.seen image.old)
         → BothRead D.Disk log.new image.new shape.now (flash_after shape.now marks base) }
@@ -250,7 +251,8 @@ pub fn close<D: Disk>(log: &mut D, image: &mut D, shape: &Shape) -> io::Result<(
     ensures crash { IsTrue (D.Disk.is_clean log.new) → (base : List ℕ) (marks : List Mark)
         → LogStands D.Disk log.old shape.now base marks
         → AllSameBut D.Disk image.old shape.now marks base
-        → ((k : ℕ) → k < spec.page_count shape.now → page_in_file shape.now (D.Disk.seen image.old) k
+        → ((k : ℕ) → k < spec.page_count shape.now
+        → page_in_file shape.now (D.Disk.seen image.old) k
         ≡ page_at (flash_after shape.now marks base) k)
         → BothRead D.Disk log.new image.new shape.now (flash_after shape.now marks base) }
     ensures done { OnOk result (IsTrue (D.Disk.is_clean log.new)
@@ -262,8 +264,8 @@ pub fn close<D: Disk>(log: &mut D, image: &mut D, shape: &Shape) -> io::Result<(
     shut(log)
 }
 
-/// A whole checkpoint: the image gets the pages that it may lack, and then the log is emptied. The log
-/// begins with the record of the pages in memory.
+/// A whole checkpoint: the image gets the pages that it may lack, and then the log is emptied. The
+/// log begins with the record of the pages in memory.
 pub fn settle<D: Disk, P: Pages>(
     log: &mut D,
     image: &mut D,
@@ -286,7 +288,8 @@ pub fn settle<D: Disk, P: Pages>(
         → MayCheckpoint D.Disk log.old image.old shape.now base marks
         (P.is_new pages.now) (P.page_of pages.now) (drop BATCH_HEAD first.now)
         → BothRead D.Disk log.new image.new shape.now (flash_after shape.now marks base) }
-    ensures done { OnOk result (IsTrue (D.Disk.is_clean log.new) → (base : List ℕ) (marks : List Mark)
+    ensures done { OnOk result (IsTrue (D.Disk.is_clean log.new)
+        → (base : List ℕ) (marks : List Mark)
         → MayCheckpoint D.Disk log.old image.old shape.now base marks
         (P.is_new pages.now) (P.page_of pages.now) (drop BATCH_HEAD first.now)
         → LogSays D.Disk log.new shape.now (D.Disk.seen image.new) []

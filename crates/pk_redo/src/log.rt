@@ -7,8 +7,8 @@ use crate::batch::{BATCH_HEAD, BEGUN, FIRST_BATCH, OPEN};
 use sqlite_disk::Disk;
 use std::io;
 
-/// Adds a batch by one sync, where a crash leaves of each byte that is written the old one or the new
-/// one: it is written over zeros, and its count tells whether one is missing.
+/// Adds a batch by one sync, where a crash leaves of each byte that is written the old one or the
+/// new one: it is written over zeros, and its count tells whether one is missing.
 fn commit_counted<D: Disk>(disk: &mut D, end: usize, room: usize, batch: &[u8]) -> io::Result<()>
     requires usable { IsTrue (D.Disk.is_usable disk.old) }
     requires mixing { IsTrue (D.Disk.is_mixing disk.old) }
@@ -27,8 +27,8 @@ fn commit_counted<D: Disk>(disk: &mut D, end: usize, room: usize, batch: &[u8]) 
     disk.sync()
 }
 
-/// Adds a batch by two syncs, whatever a crash leaves where it is written: its first byte is written
-/// last.
+/// Adds a batch by two syncs, whatever a crash leaves where it is written: its first byte is
+/// written last.
 fn commit_twice<D: Disk>(disk: &mut D, end: usize, room: usize, batch: &[u8]) -> io::Result<()>
     requires usable { IsTrue (D.Disk.is_usable disk.old) }
     requires sealed { IsSealed batch.now }
@@ -71,7 +71,8 @@ pub fn commit<D: Disk>(disk: &mut D, end: usize, room: usize, batch: &[u8]) -> i
     }
 }
 
-/// Writes zeros behind those that there are up to `room`, and syncs: there is room for more batches.
+/// Writes zeros behind those that there are up to `room`, and syncs: there is room for more
+/// batches.
 pub fn extend<D: Disk>(disk: &mut D, end: usize, room: usize, blank: &[u8]) -> io::Result<()>
     requires usable { IsTrue (D.Disk.is_usable disk.old) }
     requires some { end < room }
@@ -109,8 +110,8 @@ fn needs_shut<D: Disk>(disk: &mut D) -> io::Result<bool>
     Ok(byte[0] == OPEN)
 }
 
-/// Shuts the log, so that a reader finds no batch in it, and syncs. What its batches changed has to be
-/// elsewhere, synced.
+/// Shuts the log, so that a reader finds no batch in it, and syncs. What its batches changed has to
+/// be elsewhere, synced.
 pub fn shut<D: Disk>(disk: &mut D) -> io::Result<()>
     requires { IsTrue (D.Disk.is_usable disk.old) }
     // A crash leaves all batches, or none.

@@ -92,8 +92,8 @@ fn read_body(
     Ok(())
 }
 
-/// The steps of a log, the oldest first: those of all its batches but the first, which is the record
-/// of its image.
+/// The steps of a log, the oldest first: those of all its batches but the first, which is the
+/// record of its image.
 pub fn read_steps(alloc: Global, shape: &Shape, log: &[u8]) -> Result<Vec<Step>, LogFault>
     requires { length log.now < 2 ^ 62 }
     ensures found { IfOk result (λ v. (batches : List (List ℕ)) × LogHolds log.now batches

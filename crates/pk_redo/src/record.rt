@@ -111,7 +111,8 @@ fn note_step(set: &mut Vec<bool>, shape: &Shape, step: &Step)
     requires { length set.old.items ≡ spec.page_count shape.now }
     ensures set { (log : List ℕ) (k : ℕ) → k < spec.page_count shape.now
         → (get_or set.new.items k false ≡ true)
-        ↔ ((get_or set.old.items k false ≡ true) ⊎ SetBy shape.now (step_mark shape.now log step.now) k) }
+        ↔ ((get_or set.old.items k false ≡ true)
+        ⊎ SetBy shape.now (step_mark shape.now log step.now) k) }
     ensures len { length set.new.items ≡ length set.old.items }
 {
     match step {

@@ -122,8 +122,8 @@ struct Reached {
     tried: u32,
 }
 
-// Four batches of three steps each, with a checkpoint after each second one, and the end of a run; or as much of it as the disks let
-// through.
+// Four batches of three steps each, with a checkpoint after each second one, and the end of a run;
+// or as much of it as the disks let through.
 fn session<D: Disk>(log: &mut D, image: &mut D, drive: &mut Drive) -> Reached {
     let mut reached = Reached {
         durable: 0,
@@ -248,7 +248,8 @@ fn copied(alloc: Global, bytes: &[u8]) -> Result<Vec<u8>, AllocError> {
     Ok(copy)
 }
 
-// An outcome of writes that were not synced: where the bytes before and after them differ, either, or others.
+// An outcome of writes that were not synced: where the bytes before and after them differ, either,
+// or others.
 fn mixed(alloc: Global, old: &[u8], new: &[u8], seed: u32) -> Result<Vec<u8>, AllocError> {
     let mut outcome = copied(alloc, new)?;
     let mut random = seed;
