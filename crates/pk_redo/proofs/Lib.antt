@@ -1,0 +1,10 @@
+pub mod Numbers
+pub mod Parts
+pub mod Zeros
+pub mod Batches
+pub mod Gates
+pub mod Stepping
+pub mod Replay
+pub mod Tables
+pub mod Records
+pub mod Writes

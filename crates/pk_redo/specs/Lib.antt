@@ -1,0 +1,5 @@
+pub mod Bytes
+pub mod Log
+pub mod Steps
+pub mod Record
+pub mod Image

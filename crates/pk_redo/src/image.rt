@@ -1,0 +1,303 @@
+//! The image beside its log: what a barrier promises of both, what a checkpoint writes, and its end.
+ghost use Rattle.std.specs.Prelude.{◌≡◌, ◌⊎◌, ◌+◌, ◌^◌, ◌<◌, ◌≤◌, ℕ, List, [], ◌∷◌, ◌++◌, length, slice_index, drop, Bool, true, false, OnOk, IsTrue};
+ghost use Rattle.sqlite_disk.specs.Disk.{Holds, Torn, Only};
+ghost use Rattle.pk_base.specs.Shape as spec;
+ghost use Rattle.pk_base.specs.Page.{Page, page_at};
+ghost use Rattle.pk_base.specs.Mark.{Mark};
+ghost use Rattle.pk_image.specs.Header.{file_size};
+ghost use Rattle.pk_image.specs.Image.{byte_of, page_by, page_in_file, state_place, page_place};
+ghost use Rattle.pk_redo.specs.Log.{IsSealed};
+ghost use Rattle.pk_redo.specs.Steps.{BodySays, Sets};
+ghost use Rattle.pk_redo.specs.Image.{SameButSet, AllSameBut, BelongTo, LogSays, LogStands, MayCheckpoint, ReadAs, BothRead, flash_after};
+
+use crate::batch::{BATCH_HEAD, FIRST_BATCH};
+use crate::log::{commit, reset, shut};
+use pk_base::Shape;
+use pk_image::{PageTag, page_at, state_at};
+use sqlite_disk::Disk;
+use std::io;
+
+/// Makes the steps of a sealed batch durable: they get to the log, and the image does not change.
+pub fn barrier<D: Disk>(
+    log: &mut D,
+    image: &D,
+    shape: &Shape,
+    end: usize,
+    room: usize,
+    batch: &[u8],
+) -> io::Result<()>
+    requires usable { IsTrue (D.Disk.is_usable log.old) }
+    requires sealed { IsSealed batch.now }
+    requires fits { end + length batch.now < room }
+    requires room { room < 2 ^ 63 }
+    // Whatever a crash leaves of both files, they are read as the pages before these steps, or as
+    // those after all of them.
+    ensures crash { (base : List ℕ) (marks now : List Mark)
+        → LogSays D.Disk log.old shape.now base marks end room
+        → AllSameBut D.Disk image.now shape.now marks base
+        → BodySays shape.now (drop BATCH_HEAD batch.now) now
+        → (l i : List ℕ) → D.Disk.may_leave log.new l → D.Disk.may_leave image.now i
+        → ReadAs shape.now l i (flash_after shape.now marks base)
+        ⊎ ReadAs shape.now l i (flash_after shape.now (marks ++ now) base) }
+    // Once it returned success, as those after them, and the log is ready for more.
+    ensures done { OnOk result ((base : List ℕ) (marks now : List Mark)
+        → LogSays D.Disk log.old shape.now base marks end room
+        → AllSameBut D.Disk image.now shape.now marks base
+        → BodySays shape.now (drop BATCH_HEAD batch.now) now
+        → LogSays D.Disk log.new shape.now base (marks ++ now) (end + length batch.now) room
+        × AllSameBut D.Disk image.now shape.now (marks ++ now) base
+        × BothRead D.Disk log.new image.now shape.now
+        (flash_after shape.now (marks ++ now) base)) }
+    ensures usable { OnOk result (IsTrue (D.Disk.is_usable log.new)) }
+{
+    let _ = image;
+    let _ = shape;
+    commit(log, end, room, batch)
+}
+
+/// Sets the state bytes of pages that stand in a row.
+pub fn put_states<D: Disk>(
+    image: &mut D,
+    shape: &Shape,
+    first: u32,
+    states: &[u8],
+) -> io::Result<()>
+    requires usable { IsTrue (D.Disk.is_usable image.old) }
+    requires exists { first < spec.page_count shape.now }
+    requires row { first + length states.now ≤ spec.page_count shape.now }
+    // If steps set these pages, the image differs as before at most in pages that steps set.
+    ensures crash { (marks : List Mark) (base : List ℕ)
+        → ((k : ℕ) → first ≤ k → k < first + length states.now → Sets shape.now marks k)
+        → AllSameBut D.Disk image.old shape.now marks base
+        → AllSameBut D.Disk image.new shape.now marks base }
+    ensures seen { (marks : List Mark) (base : List ℕ)
+        → ((k : ℕ) → first ≤ k → k < first + length states.now → Sets shape.now marks k)
+        → SameButSet shape.now marks base (D.Disk.seen image.old)
+        → SameButSet shape.now marks base (D.Disk.seen image.new) }
+    ensures written { OnOk result (0 < length states.now
+        → Holds (D.Disk.seen image.new) (state_place first) states.now) }
+    ensures torn { Torn (state_place first) (length states.now)
+        (D.Disk.seen image.old) (D.Disk.seen image.new) }
+    ensures usable { IsTrue (D.Disk.is_usable image.new) }
+{
+    image.write_at(state_at(shape, first) as usize, states)
+}
+
+/// Writes the first bytes of a page.
+pub fn put_page<D: Disk>(image: &mut D, shape: &Shape, page: u32, front: &[u8]) -> io::Result<()>
+    requires usable { IsTrue (D.Disk.is_usable image.old) }
+    requires exists { page < spec.page_count shape.now }
+    requires short { length front.now ≤ shape.now.page_bytes }
+    ensures crash { (marks : List Mark) (base : List ℕ) → Sets shape.now marks page
+        → AllSameBut D.Disk image.old shape.now marks base
+        → AllSameBut D.Disk image.new shape.now marks base }
+    ensures seen { (marks : List Mark) (base : List ℕ) → Sets shape.now marks page
+        → SameButSet shape.now marks base (D.Disk.seen image.old)
+        → SameButSet shape.now marks base (D.Disk.seen image.new) }
+    ensures written { OnOk result (0 < length front.now
+        → Holds (D.Disk.seen image.new) (page_place shape.now page) front.now) }
+    ensures usable { IsTrue (D.Disk.is_usable image.new) }
+{
+    image.write_at(page_at(shape, page) as usize, front)
+}
+
+/// Writes a Whole page. It counts as Torn until all its bytes are written, for a reader of the
+/// image without its log.
+fn put_whole<D: Disk>(image: &mut D, shape: &Shape, page: u32, bytes: &[u8]) -> io::Result<()>
+    requires usable { IsTrue (D.Disk.is_usable image.old) }
+    requires exists { page < spec.page_count shape.now }
+    requires full { length bytes.now ≡ shape.now.page_bytes }
+    ensures crash { (marks : List Mark) (base : List ℕ) → Sets shape.now marks page
+        → AllSameBut D.Disk image.old shape.now marks base
+        → AllSameBut D.Disk image.new shape.now marks base }
+    ensures seen { (marks : List Mark) (base : List ℕ) → Sets shape.now marks page
+        → SameButSet shape.now marks base (D.Disk.seen image.old)
+        → SameButSet shape.now marks base (D.Disk.seen image.new) }
+    ensures own { OnOk result (page_in_file shape.now (D.Disk.seen image.new) page
+        ≡ page_by (byte_of PageTag.Whole) bytes.now) }
+    ensures usable { IsTrue (D.Disk.is_usable image.new) }
+{
+    shape.known();
+    put_states(image, shape, page, &[PageTag::Torn.byte()])?;
+    put_page(image, shape, page, bytes)?;
+    put_states(image, shape, page, &[PageTag::Whole.byte()])
+}
+
+/// Writes a page of this state. The bytes matter if it is Whole, and otherwise the file's stay.
+fn put_cell<D: Disk>(
+    image: &mut D,
+    shape: &Shape,
+    page: u32,
+    tag: PageTag,
+    bytes: &[u8],
+) -> io::Result<()>
+    requires usable { IsTrue (D.Disk.is_usable image.old) }
+    requires exists { page < spec.page_count shape.now }
+    requires full { length bytes.now ≡ shape.now.page_bytes }
+    ensures crash { (marks : List Mark) (base : List ℕ) → Sets shape.now marks page
+        → AllSameBut D.Disk image.old shape.now marks base
+        → AllSameBut D.Disk image.new shape.now marks base }
+    ensures seen { (marks : List Mark) (base : List ℕ) → Sets shape.now marks page
+        → SameButSet shape.now marks base (D.Disk.seen image.old)
+        → SameButSet shape.now marks base (D.Disk.seen image.new) }
+    ensures own { OnOk result (page_in_file shape.now (D.Disk.seen image.new) page
+        ≡ page_by (byte_of tag) bytes.now) }
+    ensures usable { IsTrue (D.Disk.is_usable image.new) }
+{
+    match tag {
+        PageTag::Whole => put_whole(image, shape, page, bytes),
+        PageTag::Erased => put_states(image, shape, page, &[PageTag::Erased.byte()]),
+        PageTag::Torn => put_states(image, shape, page, &[PageTag::Torn.byte()]),
+    }
+}
+
+/// The pages in memory, and which of them the image may lack.
+pub trait Pages {
+    ghost shape_of: { Self → spec.Shape };
+
+    ghost page_of: { Self → ℕ → Page };
+
+    ghost is_new: { Self → ℕ → Bool };
+
+    /// Whether the image may lack this page.
+    fn differs(&self, page: u32) -> bool
+        requires { page < spec.page_count (shape_of self.now) }
+        ensures { result ≡ is_new self.now page };
+
+    /// The state of a page. If it is Whole, these are its bytes.
+    fn copy_to(&self, page: u32, bytes: &mut [u8]) -> PageTag
+        requires exists { page < spec.page_count (shape_of self.now) }
+        requires full { length bytes.old ≡ (shape_of self.now).page_bytes }
+        ensures page { page_of self.now page ≡ page_by (byte_of result) bytes.new };
+}
+
+/// Writes the pages that the image may lack.
+pub fn checkpoint<D: Disk, P: Pages>(
+    image: &mut D,
+    shape: &Shape,
+    pages: &P,
+    buffer: &mut [u8],
+) -> io::Result<()>
+    requires usable { IsTrue (D.Disk.is_usable image.old) }
+    requires shape { P.shape_of pages.now ≡ shape.now }
+    requires buffer { length buffer.old ≡ shape.now.page_bytes }
+    // If steps set these pages, the image differs as before at most in pages that steps set.
+    ensures crash { (marks : List Mark) (base : List ℕ)
+        → ((k : ℕ) → P.is_new pages.now k ≡ true → Sets shape.now marks k)
+        → AllSameBut D.Disk image.old shape.now marks base
+        → AllSameBut D.Disk image.new shape.now marks base }
+    // If it had the others, it has all.
+    ensures written { OnOk result (file_size shape.now ≤ length (D.Disk.seen image.old)
+        → ((k : ℕ) → k < spec.page_count shape.now → P.is_new pages.now k ≡ false
+        → page_in_file shape.now (D.Disk.seen image.old) k ≡ P.page_of pages.now k)
+        → (k : ℕ) → k < spec.page_count shape.now
+        → page_in_file shape.now (D.Disk.seen image.new) k ≡ P.page_of pages.now k) }
+    ensures usable { IsTrue (D.Disk.is_usable image.new) }
+{
+    for page in 0..shape.page_count() {
+        if pages.differs(page) {
+            let tag = pages.copy_to(page, buffer);
+            put_cell(image, shape, page, tag, buffer)?;
+        }
+    }
+    Ok(())
+}
+
+/// Ends a checkpoint: once the image is synced, the log is emptied, and begins with the record of
+/// the image as it is now.
+pub fn finish<D: Disk>(
+    log: &mut D,
+    image: &mut D,
+    shape: &Shape,
+    first: &[u8],
+    blank: &[u8],
+) -> io::Result<()>
+    requires log_usable { IsTrue (D.Disk.is_usable log.old) }
+    requires image_usable { IsTrue (D.Disk.is_usable image.old) }
+    requires sealed { IsSealed first.now }
+    requires room { FIRST_BATCH + length first.now + length blank.now < 2 ^ 63 }
+    requires blank { (i : ℕ) → i < length blank.now → slice_index blank.now i ≡ 0 }
+    requires long { 0 < length blank.now }
+    // Whatever a crash leaves of both files, they are read as the pages after the steps of the log,
+    // if the checkpoint wrote these pages.
+    ensures crash { IsTrue (D.Disk.is_clean log.new) → (base : List ℕ) (marks : List Mark)
+        → LogStands D.Disk log.old shape.now base marks
+        → AllSameBut D.Disk image.old shape.now marks base
+        → ((k : ℕ) → k < spec.page_count shape.now
+        → page_in_file shape.now (D.Disk.seen image.old) k
+        ≡ page_at (flash_after shape.now marks base) k)
+        → BelongTo shape.now (drop BATCH_HEAD first.now ∷ []) [] (D.Disk.seen image.old)
+        → BothRead D.Disk log.new image.new shape.now (flash_after shape.now marks base) }
+    // The image alone holds them then, and the log is ready for more steps.
+    ensures done { OnOk result (IsTrue (D.Disk.is_clean log.new)
+        → BelongTo shape.now (drop BATCH_HEAD first.now ∷ []) [] (D.Disk.seen image.old)
+        → LogSays D.Disk log.new shape.now (D.Disk.seen image.old) []
+        (FIRST_BATCH + length first.now) (FIRST_BATCH + length first.now + length blank.now)
+        × Only (D.Disk.seen image.old) (D.Disk.may_leave image.new)) }
+    ensures seen { D.Disk.seen image.new ≡ D.Disk.seen image.old }
+    ensures usable { OnOk result
+        (IsTrue (D.Disk.is_usable log.new) × IsTrue (D.Disk.is_usable image.new)) }
+{
+    let _ = shape;
+    image.sync()?; // before the log has no batch any more
+    reset(log, first, blank)
+}
+
+/// The same at the end of a run: the log is shut, so that the image alone is the drive, and the log
+/// may be removed.
+pub fn close<D: Disk>(log: &mut D, image: &mut D, shape: &Shape) -> io::Result<()>
+    requires log_usable { IsTrue (D.Disk.is_usable log.old) }
+    requires image_usable { IsTrue (D.Disk.is_usable image.old) }
+    ensures crash { IsTrue (D.Disk.is_clean log.new) → (base : List ℕ) (marks : List Mark)
+        → LogStands D.Disk log.old shape.now base marks
+        → AllSameBut D.Disk image.old shape.now marks base
+        → ((k : ℕ) → k < spec.page_count shape.now
+        → page_in_file shape.now (D.Disk.seen image.old) k
+        ≡ page_at (flash_after shape.now marks base) k)
+        → BothRead D.Disk log.new image.new shape.now (flash_after shape.now marks base) }
+    ensures done { OnOk result (IsTrue (D.Disk.is_clean log.new)
+        → LogStands D.Disk log.new shape.now (D.Disk.seen image.old) []
+        × Only (D.Disk.seen image.old) (D.Disk.may_leave image.new)) }
+{
+    let _ = shape;
+    image.sync()?;
+    shut(log)
+}
+
+/// A whole checkpoint: the image gets the pages that it may lack, and then the log is emptied. The
+/// log begins with the record of the pages in memory.
+pub fn settle<D: Disk, P: Pages>(
+    log: &mut D,
+    image: &mut D,
+    shape: &Shape,
+    pages: &P,
+    buffer: &mut [u8],
+    first: &[u8],
+    blank: &[u8],
+) -> io::Result<()>
+    requires log_usable { IsTrue (D.Disk.is_usable log.old) }
+    requires image_usable { IsTrue (D.Disk.is_usable image.old) }
+    requires shape { P.shape_of pages.now ≡ shape.now }
+    requires buffer { length buffer.old ≡ shape.now.page_bytes }
+    requires sealed { IsSealed first.now }
+    requires room { FIRST_BATCH + length first.now + length blank.now < 2 ^ 63 }
+    requires blank { (i : ℕ) → i < length blank.now → slice_index blank.now i ≡ 0 }
+    requires long { 0 < length blank.now }
+    // Whatever a crash leaves of both files, they are read as the pages in memory.
+    ensures crash { IsTrue (D.Disk.is_clean log.new) → (base : List ℕ) (marks : List Mark)
+        → MayCheckpoint D.Disk log.old image.old shape.now base marks
+        (P.is_new pages.now) (P.page_of pages.now) (drop BATCH_HEAD first.now)
+        → BothRead D.Disk log.new image.new shape.now (flash_after shape.now marks base) }
+    ensures done { OnOk result (IsTrue (D.Disk.is_clean log.new)
+        → (base : List ℕ) (marks : List Mark)
+        → MayCheckpoint D.Disk log.old image.old shape.now base marks
+        (P.is_new pages.now) (P.page_of pages.now) (drop BATCH_HEAD first.now)
+        → LogSays D.Disk log.new shape.now (D.Disk.seen image.new) []
+        (FIRST_BATCH + length first.now) (FIRST_BATCH + length first.now + length blank.now)
+        × Only (D.Disk.seen image.new) (D.Disk.may_leave image.new)) }
+    ensures usable { OnOk result
+        (IsTrue (D.Disk.is_usable log.new) × IsTrue (D.Disk.is_usable image.new)) }
+{
+    checkpoint(image, shape, pages, buffer)?;
+    finish(log, image, shape, first, blank)
+}
