@@ -198,6 +198,7 @@ pair_fault() { # STATUS IMAGE IMAGE WORDS..: prints nothing if it has no more to
             pair_words_fault "$@"
             ;;
         6)
+            # shellcheck disable=SC3013  # dash, bash and BusyBox have it
             if [ "$2" -ef "$3" ]; then echo "both images are one file: $2 and $3" && return; fi
             fault=$(seen 6 "$2" mirror || open_fault "$2" list)
             [ -n "$fault" ] || fault=$(seen 6 "$3" mirror || open_fault "$3" list)
@@ -252,7 +253,7 @@ pair_shape_fault() { # IMAGE IMAGE
 
 # The second drive of a pair decides nothing, so a new first one beside it would empty it.
 first_lost() { # IMAGE IMAGE FAULT WORDS: the fault of the first, and how to go on with the second if it opens
-    if [ -z "$(keys_of "$program" "$2")" ]; then
+    if [ -z "$(keys_of "$(program_of pink)" "$2")" ]; then
         echo "$3"
         return
     fi
