@@ -1,7 +1,11 @@
 #!/bin/sh
-# Checks what needs no proof, in half a minute: documents against the sources, figures that may not rise, the layout of the sources,
-# the scripts, and, if the program is built, the client for Python. Each fault is a line. The gate is .ci/run.
+# Checks what needs no proof: documents against the sources, figures that may not rise, the layout of the sources, the scripts, and, if
+# the program is built, the clients. Each fault is a line.
+#
+#   ./check.sh           before a commit, in a minute or two; the clients are passed over if the program is not built
+#   ./check.sh --gate    as the gate runs it, after rt ci: the program has to be there; the layout, which rt ci looks at, is left out
 set -u
+gate=${1:-}
 
 top=$(CDPATH='' cd -- "$(dirname -- "$0")" && pwd) || exit 1
 cd "$top" || exit 1
@@ -14,7 +18,7 @@ check() { # what, command ..
 }
 
 scripts() {
-    for script in pink pinkdump build.sh demo.sh docs/*.sh bench/*.sh; do sh -n "$script" || return 1; done
+    for script in check.sh build.sh demo.sh pink pinkctl pinkdump launch/*.sh docs/*.sh bench/*.sh; do sh -n "$script" || return 1; done
     python3 -m compileall -q docs bench clients
 }
 
@@ -31,13 +35,36 @@ layout() {
     return $result
 }
 
-client() {
-    (cd clients/python && python3 test_pinkdrive.py 2>&1 | tail -n 1)
+# Runs a test of the clients, and prints the end of what it wrote if it failed.
+quiet() { # command ..
+    written=$(mktemp) || return 1
+    "$@" >"$written" 2>&1
+    result=$?
+    [ "$result" -eq 0 ] || tail -n 30 "$written" >&2
+    rm -f "$written"
+    return "$result"
+}
+
+python_tests() { (cd clients/python && quiet python3 "$1"); }
+
+c_tests() { quiet make -s -C clients/c test; }
+
+clients() {
+    for test in test_pinkdrive test_pinkctl test_pinkmirror test_serve; do check "$test" python_tests "$test.py"; done
+    if [ -d clients/c ]; then
+        if command -v cc >/dev/null; then check "client in C" c_tests; else echo "client in C: skipped, there is no cc"; fi
+    fi
 }
 
 check documents sh docs/check.sh
 check figures python3 docs/figures.py --check
 check scripts scripts
-if command -v rt >/dev/null; then check layout layout; fi
-if [ -x crates/pink/out/pink ]; then check client client; else echo "client: not tried, the program is not built"; fi
+if [ "$gate" != --gate ] && command -v rt >/dev/null; then check layout layout; fi
+if [ -x crates/pink/out/pink ]; then
+    clients
+elif [ "$gate" = --gate ]; then
+    check "the program" test -x crates/pink/out/pink
+else
+    echo "clients: not tried, the program is not built"
+fi
 exit $status

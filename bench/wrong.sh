@@ -5,6 +5,8 @@
 #
 #   bench/wrong.sh [CRATE..]         all crates of bench/wrong-bodies by default
 #   bench/wrong.sh --since COMMIT    those that changed after this commit, or whose wrong bodies did
+#
+# docs/wrong_bodies.py prints what each of them does.
 set -eu
 
 top=$(CDPATH='' cd -- "$(dirname -- "$0")/.." && pwd)

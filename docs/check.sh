@@ -1,17 +1,17 @@
 #!/bin/sh
-# Checks the documents beside the sources, in a second or two. It is run by hand, before a landing. Each fault is a line.
+# Checks the documents beside the sources, in a second or two; the gate runs it too. Each fault is a line.
 #
-# The index of lemma files, the lists of definitions and the map of the crates are those that docs/lemmas.sh, docs/definitions.py and
-# docs/crates.py write; README keeps to its size; README and TESTS have the right counts; every link leads to a file; every crate,
-# every path of a function, every file of definitions, every clause of GUARANTEES and every wrong body that a document names exists;
-# every wrong body is named; the crates above each one that WORKING counts are those of crates.txt.
+# Each file of lemmas says what it is about; the table of definitions, the map of the crates and the table of wrong bodies are those that
+# docs/definitions.py, docs/crates.py and docs/wrong_bodies.py write, and each list of definitions is complete; every wrong body says
+# what is wrong; README keeps to its size; README and TESTS have the right counts;
+# every link leads to a file; every crate, every path of a function, every type with a method, every file of definitions, every clause
+# of GUARANTEES and every wrong body that a document names exists.
 set -u
 
 top=$(CDPATH='' cd -- "$(dirname -- "$0")/.." && pwd) || exit 1
 cd "$top" || exit 1
 faults=$(mktemp) || exit 1
-named=$(mktemp) || exit 1
-trap 'rm -f "$faults" "$named"' EXIT
+trap 'rm -f "$faults"' EXIT
 
 fault() { echo "$*" >>"$faults"; }
 
@@ -58,15 +58,16 @@ leads() { # crate, rest of the path
     esac
 }
 
-docs/lemmas.sh --check >/dev/null || fault "docs/PROOFS.md: the index is not what docs/lemmas.sh prints"
+docs/lemmas.sh --check >>"$faults"
 docs/definitions.py --check 2>>"$faults"
 docs/crates.py --check 2>>"$faults"
+docs/wrong_bodies.py --check 2>>"$faults"
 
 [ "$(wc -l <README.md)" -le 100 ] || fault "README.md: more than 100 lines"
 LC_ALL=C.UTF-8 awk '{ gsub(/[\200-\277]/, "") } length($0) > 100 { print "README.md:" FNR ": wider than 100 columns" }' README.md >>"$faults"
 
 # Numbers that README and TESTS repeat: the lines of the definitions, the wrong bodies, the tests of the gate.
-lines=$(sed -n 's/^\([0-9]*\) lines in .*/\1/p' docs/DEFINITIONS.md | head -n 1)
+lines=$(sed -n 's/^| 1 | .* | \([0-9]*\) | [0-9]* |$/\1/p' docs/DEFINITIONS.md)
 grep -q " $lines lines for the claim" README.md || fault "README.md: the claim has $lines lines of definitions"
 edits=$(find crates -path '*/must-fail/*.edit' | wc -l)
 for document in README.md docs/TESTS.md; do
@@ -79,6 +80,12 @@ sed -n 's/^| tests .* | \([0-9]*\) | `\(pk_test_[a-z_]*\)`\(, `\([a-z]*\)`\)\{0,
     found=$(cat "crates/$crate/src/$module"/*.rt | grep -c '^#\[test\]')
     [ "$found" -eq "$count" ] || fault "docs/TESTS.md: $crate $module has $found tests"
 done
+
+# Whether the sources have a type or trait of this name with a function of that name.
+has_method() { # type, function
+    # shellcheck disable=SC2046  # a name of a source has no blank
+    grep -qwE "fn $2" $(grep -rlwE "(impl|trait|struct|enum)(<[^>]*>)? (.* for )?$1" crates/*/src) /dev/null
+}
 
 for document in README.md docs/*.md clients/python/README.md; do
     folder=$(dirname "$document")
@@ -93,6 +100,11 @@ for document in README.md docs/*.md clients/python/README.md; do
     quoted "$document" | grep -oE '^pk_[a-z_]+(::[A-Za-z_]+)+' | sort -u | while IFS= read -r name; do
         crate=${name%%::*}
         { has "$crate" "${name##*::}" && leads "$crate" "${name#*::}"; } || fault "$document: no $name"
+    done
+    # Type::function
+    quoted "$document" | grep -oE '^[A-Z][A-Za-z]+::[a-z_]+' | sort -u | while IFS= read -r name; do
+        case $name in Vec::* | String::* | Option::* | Result::* | Box::* | File::* | OpenOptions::* | BufWriter::* | SmallVec::*) continue ;; esac
+        has_method "${name%%::*}" "${name##*::}" || fault "$document: no $name"
     done
     quoted "$document" | grep -oE '^pk_[a-z_]+/specs/[A-Za-z]+' | sort -u | while IFS= read -r name; do
         [ -f "crates/$name.antt" ] || fault "$document: no definitions $name"
@@ -115,7 +127,6 @@ awk '
             case $kind in
                 '*Refused*:')
                     refused "$crate" "$name" || fault "docs/GUARANTEES.md: no wrong body $name of $crate"
-                    echo "$crate $name" >>"$named"
                     ;;
                 *) has "$crate" "$name" || has pk_drive "$name" || has pk_call "$name" || fault "docs/GUARANTEES.md: no clause $name of $crate" ;;
             esac
@@ -130,45 +141,17 @@ sed -n 's/^| .* | \(`.*\|the test.*\) |$/\1/p' docs/WRONG-BODIES.md | while IFS=
         case $name in
             pk_*) crate=$name ;;
             *)
-                echo "$crate $name" >>"$named"
-                refused "$crate" "$name" || grep -rqw "fn $name" crates/pk_test_program/src \
+                refused "$crate" "$name" || grep -rqw "fn $name" crates/pk_test_*/src \
                     || fault "docs/WRONG-BODIES.md: neither a wrong body nor a test $name"
                 ;;
         esac
     done
 done
 
-for edit in crates/*/must-fail/*.edit bench/wrong-bodies/*/*.edit; do
-    crate=${edit#crates/}
-    crate=${crate#bench/wrong-bodies/}
-    crate=${crate%%/*}
-    name=$(basename "$edit" .edit)
-    grep -qx "$crate $name" "$named" || fault "$crate: neither docs/WRONG-BODIES.md nor docs/GUARANTEES.md names its wrong body $name"
-done
-
-# The crates above one, by crates.txt, in which each crate comes after those it needs.
-above() { # crate
-    awk -v top="$1" '
-        /^[a-z]/ {
-            name = $1; sub(/:.*/, "", name)
-            for (i = 2; i <= NF; i++) if ($i == top || $i in over) { over[name]; break }
-        }
-        END { for (name in over) print name }' crates.txt
-}
-
-# In WORKING a line of a crate begins with the count of the crates above it, and names all of them or none.
-sed -n 's/^| \(pk_[a-z_]*\) | \([0-9]*\)\(.*\) |$/\1 \2 \3/p' docs/WORKING.md | while read -r crate count named_crates; do
-    all=$(above "$crate" | sort)
-    [ "$(echo "$all" | grep -c .)" -eq "$count" ] || fault "docs/WORKING.md: $crate has $(echo "$all" | grep -c .) crates above it"
-    case $named_crates in
-        ": "*,*) [ "$(echo "${named_crates#: }" | tr -d ' ' | tr , '\n' | sort)" = "$all" ] || fault "docs/WORKING.md: not the crates above $crate" ;;
-    esac
-done
-
 for crate in $(sed -n 's/^\(pk_[a-z_]*\):.*/\1/p' crates.txt); do
     case $crate in
         pk_test_*) ;;
-        *) grep -qw "$crate" docs/CRATES.md || fault "docs/CRATES.md: nothing of $crate" ;;
+        *) grep -qw "$crate" docs/CRATES.md docs/ARCHITECTURE.md 2>/dev/null || fault "docs: the map of the crates has nothing of $crate" ;;
     esac
 done
 

@@ -1,11 +1,10 @@
 #!/usr/bin/env python3
-"""Writes the map of the crates for docs/CRATES.md: the groups and the order of crates.txt, with the header of each crate's root file.
+"""Writes the map of the crates: the groups and the order of crates.txt, with the first sentence of the header of each crate's root file.
 
   docs/crates.py            prints the map
-  docs/crates.py --write    puts it into docs/CRATES.md
-  docs/crates.py --check    fails if docs/CRATES.md has another one
-
-A crate's dependencies are printed without those that another one of them already needs.
+  docs/crates.py --write    puts it into the page that has the line <!-- map -->, docs/CRATES.md or docs/ARCHITECTURE.md
+  docs/crates.py --check    fails if that page has another one
+  docs/crates.py --above    prints for each crate how many stand above it, which are proved again after a change of it, and their names
 """
 from __future__ import annotations
 
@@ -16,7 +15,7 @@ import sys
 from dataclasses import dataclass
 
 TOP = pathlib.Path(__file__).resolve().parent.parent
-PAGE = TOP / "docs" / "CRATES.md"
+PAGES = [TOP / "docs" / "CRATES.md", TOP / "docs" / "ARCHITECTURE.md"]
 BEGIN, END = "<!-- map -->", "<!-- end of map -->"
 
 
@@ -25,15 +24,16 @@ class Crate:
     name: str
     needs: list[str]
 
-    def header(self) -> str:
-        """The lines //! at the head of the crate's root file, as one text a paragraph."""
+    def promise(self) -> str:
+        """The first sentence of the comment at the head of the crate's root file."""
         root = next(p for f in ("lib", "main") if (p := TOP / "crates" / self.name / "src" / f"{f}.rt").exists())
         lines = []
         for line in root.read_text(encoding="utf-8").split("\n"):
             if not line.startswith("//!"):
                 break
             lines.append(line[3:].strip())
-        return re.sub(r"\n\n+", " ", "\n".join(lines)).replace("\n", " ").strip()
+        text = re.sub(r"\s+", " ", " ".join(lines)).strip()
+        return re.split(r"(?<=[.:]) (?=[A-Z`])", text)[0].rstrip(":")
 
 
 @dataclass
@@ -62,55 +62,55 @@ def groups() -> list[Group]:
     return [group for group in found if group.crates]
 
 
-def all_needs(crates: dict[str, Crate], name: str) -> set[str]:
-    """The crates that this one needs, directly or through others."""
-    needed: set[str] = set()
-    for below in crates[name].needs if name in crates else []:
-        needed |= {below} | all_needs(crates, below)
-    return needed
-
-
-def direct_needs(crates: dict[str, Crate], name: str) -> list[str]:
-    """The dependencies of a crate that none of its other dependencies needs."""
-    needs = crates[name].needs
-    through = {n for below in needs for n in all_needs(crates, below)}
-    return [n for n in needs if n not in through]
-
-
 def text_of_map() -> str:
-    found = groups()
-    crates = {crate.name: crate for group in found for crate in group.crates}
     out = []
-    for group in found:
-        title, _, rest = group.title.partition(":")
-        out.append(f"## {title.rstrip('.')}\n")
-        if rest:
-            sentence = rest.strip()
-            out.append(f"{sentence[0].upper()}{sentence[1:]}\n")
-        for crate in group.crates:
-            needs = ", ".join(f"`{n}`" for n in direct_needs(crates, crate.name))
-            out.append(f"- **`{crate.name}`** {crate.header()}" + (f" *Needs* {needs}." if needs else ""))
+    for group in groups():
+        title, _, _ = group.title.partition(":")
+        out.append(f"**{title.rstrip('.')}**\n")
+        out += [f"- `{crate.name}`: {crate.promise()}" for crate in group.crates]
         out.append("")
     return "\n".join(out)
+
+
+def text_of_above() -> str:
+    crates = [crate for group in groups() for crate in group.crates]
+    above: dict[str, set[str]] = {crate.name: set() for crate in crates}
+    for crate in crates:  # each comes after those it needs
+        for name, over in above.items():
+            if name in crate.needs or over & set(crate.needs):
+                over.add(crate.name)
+    return "\n".join(f"{name} {len(over)}: {' '.join(c.name for c in crates if c.name in over)}" for name, over in above.items())
+
+
+def page_of_map() -> pathlib.Path:
+    for page in PAGES:
+        if page.exists() and BEGIN in page.read_text(encoding="utf-8"):
+            return page
+    raise SystemExit(f"docs/crates.py: no page has the line {BEGIN}")
 
 
 def main() -> int:
     parser = argparse.ArgumentParser(description=__doc__, formatter_class=argparse.RawDescriptionHelpFormatter)
     choice = parser.add_mutually_exclusive_group()
-    choice.add_argument("--write", action="store_true", help="put the map into docs/CRATES.md")
-    choice.add_argument("--check", action="store_true", help="fail if docs/CRATES.md has another map")
+    choice.add_argument("--write", action="store_true", help="put the map into its page")
+    choice.add_argument("--check", action="store_true", help="fail if its page has another map")
+    choice.add_argument("--above", action="store_true", help="print the crates above each one")
     args = parser.parse_args()
+    if args.above:
+        print(text_of_above())
+        return 0
     text = text_of_map()
     if not (args.write or args.check):
         print(text)
         return 0
-    page = PAGE.read_text(encoding="utf-8")
+    place = page_of_map()
+    page = place.read_text(encoding="utf-8")
     before, _, rest = page.partition(BEGIN)
     new = f"{before}{BEGIN}\n\n{text}\n{END}{rest.partition(END)[2]}"
     if args.write:
-        PAGE.write_text(new, encoding="utf-8")
+        place.write_text(new, encoding="utf-8")
     elif new != page:
-        print("docs/CRATES.md: its map is not the one that docs/crates.py prints", file=sys.stderr)
+        print(f"{place.relative_to(TOP)}: its map is not the one that docs/crates.py --write makes", file=sys.stderr)
         return 1
     return 0
 

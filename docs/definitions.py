@@ -1,12 +1,12 @@
 #!/usr/bin/env python3
-"""Lists the definitions that a contract names, directly or through other definitions, as tables for docs/DEFINITIONS.md.
+"""Lists the definitions that a claim names, directly or through other definitions, in an order in which they can be read.
 
-  docs/definitions.py            prints the lists
-  docs/definitions.py --write    puts them into docs/DEFINITIONS.md
-  docs/definitions.py --check    fails if docs/DEFINITIONS.md has other lists
+  docs/definitions.py [CLAIM..]  prints the lists of these claims, of all by default; each list leaves out what the lists before it have
+  docs/definitions.py --write    puts the number of lines and files of each claim into docs/DEFINITIONS.md
+  docs/definitions.py --check    fails if docs/DEFINITIONS.md has other numbers, or a list lacks a definition that a listed text names
 
-A definition is an item of a file crates/*/specs/*.antt with the comment above it. A name in its text is followed through the
-imports of its file. Types and constants of the code (imported from `declared`) are counted, not followed.
+A claim is given by its number. A definition is an item of a file crates/*/specs/*.antt with the comment above it. A name in its text
+is followed through the imports of its file. Types and constants of the code (imported from `declared`) are counted, not followed.
 """
 from __future__ import annotations
 
@@ -22,9 +22,10 @@ PAGE = TOP / "docs" / "DEFINITIONS.md"
 BEGIN, END = "<!-- lists -->", "<!-- end of lists -->"
 
 IMPORT = re.compile(r"^(?:ghost |pub )?use Rattle\.([\w.]+?)(?:\.\{(.*)\})?(?: as (\w+))?;?$")
-HEAD = re.compile(r"^(?:  )*(?:abbrev|record|data|unfoldable|infix\w*|pub record|pub data|pub abbrev|pub unfoldable)\b")
+HEAD = re.compile(r"^(?:  )*(?:abbrev|record(?! \{)|data|unfoldable|infix\w*|pub record|pub data|pub abbrev|pub unfoldable)\b")
 TYPED = re.compile(r"^pub [\w']+ :")
 TOKEN = re.compile(r"[^\s(){}\[\],;]+")
+BIND = "◌>>=◌"  # a text in `do` form, with a line `name ← value`, uses it without naming it
 
 Name = tuple[str, str]  # file as crate/specs/File, and the item's name
 
@@ -100,7 +101,8 @@ class Definitions:
     def named(self, text: str, imports: Imports, file: str | None = None) -> set[Name]:
         """The definitions that this text names."""
         found = set()
-        for token in TOKEN.findall(re.sub(r"(?m)(--|//).*", "", text)):
+        text = re.sub(r"(?m)(--|//).*", "", text)
+        for token in TOKEN.findall(text + (f" {BIND}" if " ← " in text else "")):
             first, _, rest = token.partition(".")
             if first in imports.whole:
                 found.add((imports.whole[first], rest.split(".")[0]))
@@ -122,16 +124,23 @@ class Definitions:
             todo.extend(self.named(item.text, self.imports[item.file], item.file))
         return seen
 
-    def named_by_contract(self, source: pathlib.Path, begin: str | None = None) -> set[Name]:
-        """What the clauses of a source file name; from the line that begins so, if it is given, to that function's body."""
+    def named_by_contract(self, source: pathlib.Path, functions: Iterable[str] = ()) -> set[Name]:
+        """What the contracts of these functions of a source file name; of all that stands in the file if none is given."""
         text = source.read_text(encoding="utf-8")
         imports = Imports()
         for line in text.split("\n"):
             imports.read(line)
-        if begin:
-            text = text[text.index(begin):].split("\n{\n")[0]
-        body = "\n".join(line for line in text.split("\n") if "use Rattle." not in line)
+        parts = [contract(text, name) for name in functions] or [text]
+        body = "\n".join(line for part in parts for line in part.split("\n") if "use Rattle." not in line)
         return self.named(body, imports)
+
+
+def contract(text: str, function: str) -> str:
+    """The head and the clauses of a function: from its name to the line that opens its body."""
+    match = re.search(rf"(?m)^( *)(?:pub )?fn {function}\b(?:.|\n)*?\n\1\{{$", text)
+    if not match:
+        raise SystemExit(f"docs/definitions.py: no function {function}")
+    return match.group(0)
 
 
 def crate_order() -> dict[str, int]:
@@ -158,8 +167,8 @@ class Lists:
             self.places[file] = 1 + max((self.place(f) for f in below if f in self.definitions.lines), default=0)
         return self.places[file]
 
-    def table(self, names: set[Name]) -> str:
-        """A row for each file of which a line is new, in reading order."""
+    def lines_of(self, names: set[Name]) -> dict[str, set[int]]:
+        """The lines of each file that these definitions have and no earlier list had."""
         lines: dict[str, set[int]] = {}
         for name in names - self.told:
             item = self.definitions.items[name]
@@ -168,55 +177,133 @@ class Lists:
             item = self.definitions.items[name]
             if item.file in lines:
                 lines[item.file] -= set(range(item.first, item.last))
-        rows, total = [], 0
+        return lines
+
+    def rows(self, names: set[Name]) -> list[tuple[str, int, int, str]]:
+        """For each file of which a line is new, in reading order: its name, the new lines, all its lines, what it is about."""
+        lines = self.lines_of(names)
+        found = []
         for file in sorted(lines, key=lambda f: (self.order[f.split("/")[0]], self.place(f), f)):
             source = self.definitions.lines[file]
             wanted = sum(1 for i in lines[file] if source[i].strip())
             if wanted:
-                total += wanted
-                rows.append(f"| `{file}` | {wanted} of {len(source) - 1} | {source[0].lstrip('- ')} |")
+                found.append((file, wanted, len(source) - 1, source[0].lstrip("- ")))
         self.told |= names
-        head = f"{total} lines in {len(rows)} files.\n\n| file | lines | what it is |\n|---|---|---|\n"
-        return head + "\n".join(rows) + "\n"
+        return found
 
 
-def lists() -> str:
-    definitions = Definitions(TOP / "crates")
-    pages = Lists(definitions)
+@dataclass
+class Claim:
+    """A list: what it is of, the definitions that it begins with, and those that a later list has."""
+
+    title: str
+    names: set[Name]
+    leave: set[Name] = field(default_factory=set)
+
+
+def claims(definitions: Definitions) -> list[Claim]:
+    crates = TOP / "crates"
     sessions, tasks = "pk_top/specs/Sessions", "pk_wordrun/specs/Tasks"
     claim = {(sessions, "KeptThroughRuns")}
     clauses = {("pk_top/specs/Serves", "ServeRun"), ("pk_top/specs/Asks", "AskRun"), ("pk_top/specs/Resting", "Rests")}
     words = {(tasks, "Task"), (tasks, "KeptTask")}
-    run = definitions.named_by_contract(TOP / "crates/pk_top/src/running.rt", "pub fn run<")
-    drive = definitions.named_by_contract(TOP / "crates/pk_drive/src/engine.rt")
-    parts = [
-        ("1. The claim, for runs of `serve`", pages.table(definitions.closure(claim, clauses | words))),
-        ("2. What the words `put` to `gen` add to the claim", pages.table(definitions.closure(claim, clauses))),
-        ("3. What the contract of `run` names besides", pages.table(definitions.closure(run))),
-        ("4. What the contract of a drive names besides", pages.table(definitions.closure(drive))),
+
+    def of(source: str, *functions: str) -> set[Name]:
+        return definitions.named_by_contract(crates / source, functions)
+
+    ports = [("storing", "store"), ("deleting", "delete"), ("resync", "resync"), ("retrieving", "retrieve"), ("listing", "list_page")]
+    spared = [("nand", ("load", "make", "read", "program", "erase")), ("board", ("fetch", "post")), ("remap", ("new", "into_inner", "spares_left")),
+              ("steps", ("step",))]
+    return [
+        Claim("sessions of `serve`, each cut anywhere", claim, clauses | words),
+        Claim("sessions of all words", claim, clauses),
+        Claim("a run: `pk_top::run`", of("pk_top/src/running.rt", "run")),
+        Claim("a drive: `pk_drive::Engine`", of("pk_drive/src/engine.rt")),
+        Claim("a run over a mirrored pair: `pk_top::run_pair`", of("pk_top/src/pairing.rt", "run_pair")),
+        Claim("a pair over two ports: `pk_mirror::Mirror`", set().union(*(of(f"pk_mirror/src/{file}.rt", name) for file, name in ports))),
+        Claim("a run over spare blocks: `pk_top::run_spared`", of("pk_top/src/spared.rt", "run_spared")),
+        Claim("a flash with spare blocks: `pk_remap::Remap`", set().union(*(of(f"pk_remap/src/{file}.rt", *names) for file, names in spared))),
     ]
-    return "\n".join(f"## {title}\n\n{table}" for title, table in parts)
+
+
+def listed(definitions: Definitions) -> list[tuple[str, list[tuple[str, int, int, str]]]]:
+    pages = Lists(definitions)
+    return [(claim.title, pages.rows(definitions.closure(claim.names, claim.leave))) for claim in claims(definitions)]
+
+
+def table(definitions: Definitions) -> str:
+    rows = [f"| {number} | {title} | {sum(row[1] for row in found)} | {len(found)} |"
+            for number, (title, found) in enumerate(listed(definitions), 1)]
+    return "| list | of | lines | files |\n|---|---|---|---|\n" + "\n".join(rows) + "\n"
+
+
+def printed(definitions: Definitions, wanted: list[int]) -> str:
+    text = ""
+    for number, (title, found) in enumerate(listed(definitions), 1):
+        if not wanted or number in wanted:
+            text += f"{number}. {title}: {sum(row[1] for row in found)} lines in {len(found)} files\n\n"
+            text += "".join(f"  {file:<36} {lines:>4} of {of:<4} {about}\n" for file, lines, of, about in found) + "\n"
+    return text
+
+
+def blocks(lines: list[str]) -> list[range]:
+    """The runs of lines without a blank one."""
+    found, start = [], 0
+    for i in range(len(lines) + 1):
+        if i == len(lines) or not lines[i].strip():
+            if i > start:
+                found.append(range(start, i))
+            start = i + 1
+    return found
+
+
+def holes(definitions: Definitions) -> list[str]:
+    """Where the lists lack something: a block of text of which only a part is listed, and a name in such a block that is not listed.
+
+    Blocks are read without the rules by which definitions are told apart, so that a fault in these shows here.
+    """
+    names = set().union(*(definitions.closure(claim.names) for claim in claims(definitions)))
+    covered: dict[str, set[int]] = {}
+    for name in names:
+        item = definitions.items[name]
+        covered.setdefault(item.file, set()).update(range(item.first, item.last))
+    faults = []
+    for file, have in sorted(covered.items()):
+        lines = definitions.lines[file]
+        for block in blocks(lines):
+            text = "\n".join(lines[i] for i in block if i in have)
+            if not text:
+                continue
+            rest = [i + 1 for i in block if i not in have and not lines[i].lstrip().startswith(("--", "module", "use ", "infix"))]
+            if rest and lines[rest[0] - 1][0] == " ":
+                faults.append(f"crates/{file}.antt:{rest[0]}: goes on a definition that is listed, and is not listed")
+            for crate_file, item in sorted(definitions.named(text, definitions.imports[file], file) - names):
+                faults.append(f"crates/{file}.antt: names {item} of {crate_file}, which is not listed")
+    return faults
 
 
 def main() -> int:
     parser = argparse.ArgumentParser(description=__doc__, formatter_class=argparse.RawDescriptionHelpFormatter)
+    parser.add_argument("claim", nargs="*", type=int, help="the number of a list")
     choice = parser.add_mutually_exclusive_group()
-    choice.add_argument("--write", action="store_true", help="put the lists into docs/DEFINITIONS.md")
-    choice.add_argument("--check", action="store_true", help="fail if docs/DEFINITIONS.md has other lists")
+    choice.add_argument("--write", action="store_true", help="put the numbers into docs/DEFINITIONS.md")
+    choice.add_argument("--check", action="store_true", help="fail if docs/DEFINITIONS.md has other numbers, or a list is not complete")
     args = parser.parse_args()
-    text = lists()
+    definitions = Definitions(TOP / "crates")
     if not (args.write or args.check):
-        print(text, end="")
+        print(printed(definitions, args.claim), end="")
         return 0
     page = PAGE.read_text(encoding="utf-8")
     before, _, rest = page.partition(BEGIN)
-    new = f"{before}{BEGIN}\n\n{text}\n{END}{rest.partition(END)[2]}"
+    new = f"{before}{BEGIN}\n\n{table(definitions)}\n{END}{rest.partition(END)[2]}"
     if args.write:
         PAGE.write_text(new, encoding="utf-8")
-    elif new != page:
-        print("docs/DEFINITIONS.md: its lists are not those that docs/definitions.py prints", file=sys.stderr)
-        return 1
-    return 0
+        return 0
+    faults = holes(definitions)
+    if new != page:
+        faults.append("docs/DEFINITIONS.md: its table is not the one that docs/definitions.py --write makes")
+    print("\n".join(faults), end="\n" if faults else "", file=sys.stderr)
+    return 1 if faults else 0
 
 
 if __name__ == "__main__":

@@ -1,37 +1,29 @@
 #!/bin/sh
-# Prints the index of lemma files for docs/PROOFS.md: each file of crates/*/proofs with its first line.
+# Prints the index of lemma files: each file of crates/*/proofs with its first line, which says what the file is about.
 #
-#   docs/lemmas.sh            prints the index
-#   docs/lemmas.sh --write    writes it into docs/PROOFS.md
-#   docs/lemmas.sh --check    fails if docs/PROOFS.md has another one
+#   docs/lemmas.sh [CRATE..]    prints the index, of all crates by default
+#   docs/lemmas.sh --check      prints the files whose first line is no comment, and fails if there are any
 set -eu
 
 top=$(CDPATH='' cd -- "$(dirname -- "$0")/.." && pwd)
+cd "$top/crates"
 
-index() {
-    for crate in "$top"/crates/*/; do
-        name=$(basename "$crate")
-        ls "$crate"proofs/*.antt >/dev/null 2>&1 || continue
-        printf '\n### %s\n\n' "$name"
-        for file in "$crate"proofs/*.antt; do
-            lemma=$(basename "$file" .antt)
-            [ "$lemma" = Lib ] && continue
-            sed -n '1s/^-- *\(.*\)$/- `'"$lemma"'`: \1/p' "$file"
-        done
-    done
-}
-
-if [ "${1:-}" = --write ]; then
-    head=$(sed '/^<!-- index -->$/q' "$top/docs/PROOFS.md")
-    { printf '%s\n' "$head"; index; } >"$top/docs/PROOFS.md.new"
-    mv "$top/docs/PROOFS.md.new" "$top/docs/PROOFS.md"
-    exit
-fi
 if [ "${1:-}" = --check ]; then
-    kept=$(mktemp)
-    trap 'rm -f "$kept"' EXIT
-    sed '1,/^<!-- index -->$/d' "$top/docs/PROOFS.md" >"$kept"
-    index | diff -u "$kept" -
+    # shellcheck disable=SC2046  # a name of a source has no blank
+    silent=$(for file in $(ls ./*/proofs/*.antt); do
+        case $file in */Lib.antt) continue ;; esac
+        head -n 1 "$file" | grep -q '^-- ' || echo "crates/${file#./}: its first line does not say what it is about"
+    done)
+    [ -z "$silent" ] || { echo "$silent"; exit 1; }
     exit
 fi
-index
+
+[ $# -gt 0 ] || set -- $(ls)
+for crate; do
+    ls "$crate"/proofs/*.antt >/dev/null 2>&1 || continue
+    printf '\n%s\n' "$crate"
+    for file in "$crate"/proofs/*.antt; do
+        lemma=$(basename "$file" .antt)
+        [ "$lemma" = Lib ] || sed -n '1s/^-- *\(.*\)$/  '"$lemma"': \1/p' "$file"
+    done
+done

@@ -361,7 +361,7 @@ module _ (image : Image) (missing : image ≡ Missing) (work : InMemory) (log : 
 
 -- ---- causes of a make
 
-ok_or_err : {X E Y : Type 0} (r : Result X E) → IsOk r → IsErr r → Y
+pub ok_or_err : {X E Y : Type 0} (r : Result X E) → IsOk r → IsErr r → Y
 ok_or_err (Ok x) ok err = let no : false ≡ true = err in cc
 ok_or_err (Err e) ok err = let no : false ≡ true = ok in cc
 

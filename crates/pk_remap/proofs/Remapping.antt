@@ -403,6 +403,10 @@ log_sized image image' shape shape' log log' has_open has_open' same sized has =
 pub reading_then : (a b c : BoardState) → OnlyReading a b → OnlyReading b c → OnlyReading a c
 reading_then a b c one two = let T : BoardState → Type 0 = λ s. c ≡ record s { reads = c.reads; flash_faults = c.flash_faults; read_faults = c.read_faults; failed_at = c.failed_at } in subst T one two
 
+-- no call
+pub reading_none : (old new : BoardState) → new ≡ old → OnlyReading old new
+reading_none old new is = let T : BoardState → Type 0 = λ s. OnlyReading old s in subst T (sym is) refl
+
 pub reading_reads : (k : ℕ) (old new : BoardState) → new ≡ after_reads k old → OnlyReading old new
 reading_reads k old new is = let T : BoardState → Type 0 = λ s. OnlyReading old s in subst T (sym is) refl
 

@@ -1,8 +1,9 @@
 -- What a flash with spare blocks does by calls of its inner flash, and why it refuses a call.
-use Rattle.std.specs.Prelude.{◌≡◌, ◌⊎◌, ℕ, ◌+◌, ◌-◌, ◌*◌, ◌<◌, ◌≤◌, length, Option, Some, None, Result, Ok, Err, IsOk, IsErr, OnOk, OnErr, ⊤}
+use Rattle.std.specs.Prelude.{◌≡◌, ◌⊎◌, ℕ, ◌+◌, ◌-◌, ◌*◌, ◌<◌, ◌≤◌, List, length, Option, Some, None, Result, Ok, Err, IsOk, IsErr, OnOk, OnErr, ⊤}
 use Rattle.pk_base.{specs.Shape.Shape, specs.Shape.checked, specs.Page.page_at, specs.Page.torn, specs.Mark.Mark, specs.Mark.after}
 use Rattle.pk_nand.{specs.BoardState.BoardState, specs.Calls.Rose, specs.Calls.last_count, specs.Effects.OnlyFlash, specs.declared.types.LoadFault.LoadFault, specs.declared.types.NandFault.NandFault}
 use Rattle.pk_nand.specs.declared.types.LoadFault.TheVariants.{Fault, BadImage, Memory}
+use Rattle.pk_nand.{specs.Operations.after_post, specs.Operations.PostFailed, specs.declared.types.HostFault.HostFault}
 use Rattle.pk_remap.{specs.declared.relocation.Relocation.Relocation as InMemory, specs.declared.mark_log.MarkLog.MarkLog, specs.Logged.HasLogRoom, specs.Table.SpareTable, specs.Stepping.IsTableBlock}
 use Rattle.pk_remap.{specs.Newest.newest_table, specs.Newest.IsNewest, specs.Places.inner_shape, specs.Places.placed_page, specs.Through.through, specs.Through.MayShow, specs.Serving.PassesCalls}
 use Rattle.pk_remap.{specs.Relocating.block_of, specs.Relocating.copies_of, specs.Remapped.outer_pages, specs.Remapped.without_spares}
@@ -63,6 +64,11 @@ pub data StopCause (shape : Shape) (spares : ℕ) (mark : Mark) (old : BoardStat
 pub record IsRefused (log : MarkLog) (len : ℕ) (old new : BoardState) : Type 0 where
   pub no_room : HasLogRoom log len → ⊥
   pub same : new ≡ old
+
+-- A post: the inner board did it, or it failed there; or the room of the log would be passed, and nothing was done.
+abbrev pub PostsInner : MarkLog → List ℕ → BoardState → Result Unit HostFault → BoardState → Type 0
+PostsInner log bytes old (Ok u) new = new ≡ after_post old bytes
+PostsInner log bytes old (Err fault) new = IsRefused log (length bytes) old new ⊎ PostFailed old new bytes
 
 -- A call of the outer flash, made by calls of the inner flash: at each cut of them the outer flash is what the call may leave.
 pub record MarkMade (work : InMemory) (mark : Mark) (old : BoardState) (result : Result Unit NandFault) (work' : InMemory) (new : BoardState) : Type 0 where

@@ -1,9 +1,9 @@
 -- The first table of a flash that was just made.
-use Rattle.std.specs.Prelude.{◌≡◌, ℕ, List, [], Some, Result, Ok, Err, replicate}
-use Rattle.pk_base.{specs.Shape.Shape, specs.Shape.page_count, specs.Page.erased, specs.Page.IsPage}
+use Rattle.std.specs.Prelude.{◌≡◌, ◌⊎◌, ℕ, List, [], Some, None, Result, Ok, Err, replicate}
+use Rattle.pk_base.{specs.Shape.Shape, specs.Shape.page_count, specs.Page.Flash, specs.Page.erased, specs.Page.IsPage}
 use Rattle.pk_nand.{specs.BoardState.BoardState, specs.Calls.Rose, specs.Calls.after_program, specs.Effects.OnlyFlash, specs.declared.types.NandFault.NandFault}
 use Rattle.pk_remap.{specs.declared.relocation.Relocation.Relocation as InMemory, specs.Table.SpareTable, specs.Table.table_bytes, specs.Newest.first_table_page, specs.Places.inner_shape}
-use Rattle.pk_remap.{specs.Remapped.outer_pages, specs.Running.HasPageBuffers, specs.Running.IsAtRest}
+use Rattle.pk_remap.{specs.Remapped.outer_pages, specs.Running.HasPageBuffers, specs.Running.IsAtRest, specs.Through.through, specs.Serving.PassesCalls}
 
 -- by it no spare is used
 abbrev pub first_table : SpareTable
@@ -23,6 +23,10 @@ pub record IsHalfMade (r : InMemory) (made half : BoardState) : Type 0 where
   pub full : IsPage r.shape (first_table_bytes r)
   pub board : half ≡ after_program made (first_table_page r.shape r.spares) (first_table_bytes r)
 
+-- there is no table, or the outer flash has all pages Erased
+abbrev pub IsNoneOrErased : Shape → ℕ → Flash → Type 0
+IsNoneOrErased shape spares flash = (through shape spares flash ≡ None) ⊎ (through shape spares flash ≡ Some (replicate (page_count shape) erased))
+
 -- the first table was written: the outer flash has all pages Erased
 pub record FirstTableWritten (r : InMemory) (old : BoardState) (r' : InMemory) (new : BoardState) : Type 0 where
   pub rests : IsAtRest r' new
@@ -32,6 +36,7 @@ pub record FirstTableWritten (r : InMemory) (old : BoardState) (r' : InMemory) (
   pub unused : r'.used ≡ 0
   pub shown : outer_pages r.shape r.spares new.pages ≡ replicate (page_count r.shape) erased
   pub rest : OnlyFlash old new
+  pub cuts : PassesCalls (IsNoneOrErased r.shape r.spares) old new
 
 -- one of its programs failed
 pub record FirstTableFailed (r : InMemory) (old : BoardState) (r' : InMemory) (new : BoardState) : Type 0 where
@@ -41,6 +46,7 @@ pub record FirstTableFailed (r : InMemory) (old : BoardState) (r' : InMemory) (n
   pub none : r'.taken ≡ 0
   pub room : HasPageBuffers r'
   pub rest : OnlyFlash old new
+  pub cuts : PassesCalls (IsNoneOrErased r.shape r.spares) old new
 
 abbrev pub FirstTableOutcome : InMemory → BoardState → Result Unit NandFault → InMemory → BoardState → Type 0
 FirstTableOutcome r old (Ok u) r' new = FirstTableWritten r old r' new

@@ -4,7 +4,7 @@ ghost use Rattle.pk_base.specs.Mark.{post};
 ghost use Rattle.pk_nand.specs.Calls.{Rose, counted, longer};
 ghost use Rattle.pk_nand.specs.Operations.{Fetched, FetchFailed, after_post, PostFailed, SentFront};
 ghost use Rattle.pk_remap.specs.Logged.{told, HasLogRoom};
-ghost use Rattle.pk_remap.specs.Causes.{IsRefused};
+ghost use Rattle.pk_remap.specs.Causes.{IsRefused, PostsInner};
 
 use crate::remap::Remap;
 use pk_nand::{Board, HostFault, Nand, raise};
@@ -22,6 +22,12 @@ impl<B: Board> Board for Remap<B> {
             (B.state self.new.inner).in_faults) }
         ensures image { self.new.image ≡ self.old.image }
         ensures work { self.new.work ≡ self.old.work }
+
+        // The inner board did the same, and nothing else.
+        ensures inner_ok { IfOk result (λ n. Fetched (B.state self.old.inner)
+            (B.state self.new.inner) n into.new) }
+        ensures inner_err { OnErr result (FetchFailed (B.state self.old.inner)
+            (B.state self.new.inner)) }
     {
         match self.inner.fetch(into) {
             Ok(count) => Ok(count),
@@ -46,6 +52,10 @@ impl<B: Board> Board for Remap<B> {
             ⊎ Rose (B.state self.old.inner).out_faults (B.state self.new.inner).out_faults) }
         ensures image { self.new.image ≡ self.old.image }
         ensures work { self.new.work ≡ self.old.work }
+
+        // The inner board did the same, and nothing else; or no call was made of it.
+        ensures inner { PostsInner self.old.log bytes.now (B.state self.old.inner) result
+            (B.state self.new.inner) }
     {
         if self.log.has_room(bytes.len()) {
             match self.inner.post(bytes) {

@@ -1,14 +1,18 @@
 //! How a flash with spare blocks opens its image, and makes one.
-ghost use Rattle.std.specs.Prelude.{◌≡◌, None, IsOk};
+ghost use Rattle.std.specs.Prelude.{◌≡◌, ◌*◌, None, IsOk};
 ghost use Rattle.pk_base.specs.Shape.{checked};
 ghost use Rattle.pk_nand.specs.Calls.{IsReady};
+ghost use Rattle.pk_nand.specs.Effects.{OnlyReading};
 ghost use Rattle.pk_remap.specs.declared.image.Image.TheVariants.{Unknown, Missing};
 ghost use Rattle.pk_remap.specs.Places.{inner_shape as inner_shape_of};
 ghost use Rattle.pk_remap.specs.Running.{IsAtRest};
 ghost use Rattle.pk_remap.specs.Remapped.{spares_left as spares_left_of};
 ghost use Rattle.pk_remap.specs.Causes.{LoadCause, MakeCause};
+ghost use Rattle.pk_remap.specs.Loading.{LoadsInner, MakesInner};
+ghost use Rattle.pk_remap.specs.MostCalls.{AtMostCalls};
+ghost use Rattle.pk_remap.specs.Serving.{PassesCalls};
 ghost use Rattle.pk_remap.specs.Answers.{LoadAnswers, MakeAnswers};
-ghost use Rattle.pk_remap.specs.FirstTable.{IsMade};
+ghost use Rattle.pk_remap.specs.FirstTable.{IsMade, IsNoneOrErased};
 ghost use Rattle.pk_remap.specs.Logged.{told};
 
 use crate::image::Image;
@@ -31,6 +35,8 @@ impl<N: Nand> Remap<N> {
             (⟦<Remap<N> as Nand>⟧.state self.new) }
         ensures cause { LoadCause self.old.work.spares (N.state self.old.inner) result
             (spares_left_of self.new.image self.new.work) (N.state self.new.inner) }
+        ensures reads { LoadsInner (N.state self.old.inner) result (N.state self.new.inner) }
+        ensures spares { self.new.work.spares ≡ self.old.work.spares }
     {
         match self.inner.load(alloc) {
             Ok(Some(found)) => self.open_image(alloc, &found),
@@ -55,6 +61,10 @@ impl<N: Nand> Remap<N> {
             (⟦<Remap<N> as Nand>⟧.state self.new) }
         ensures cause { LoadCause self.old.work.spares (N.state self.old.inner) result
             (spares_left_of self.new.image self.new.work) (N.state self.new.inner) }
+        ensures reads { OnlyReading (N.state self.old.inner) (N.state self.new.inner) }
+        ensures calls { AtMostCalls (2 * found.now.block_pages) (N.state self.old.inner)
+            (N.state self.new.inner) }
+        ensures spares { self.new.work.spares ≡ self.old.work.spares }
     {
         match outer_shape(found, self.work.spares) {
             Ok(shape) => {
@@ -77,6 +87,10 @@ impl<N: Nand> Remap<N> {
             (⟦<Remap<N> as Nand>⟧.state self.new) }
         ensures cause { LoadCause self.old.work.spares (N.state self.old.inner) result
             (spares_left_of self.new.image self.new.work) (N.state self.new.inner) }
+        ensures reads { OnlyReading (N.state self.old.inner) (N.state self.new.inner) }
+        ensures calls { AtMostCalls (2 * self.old.work.shape.block_pages) (N.state self.old.inner)
+            (N.state self.new.inner) }
+        ensures spares { self.new.work.spares ≡ self.old.work.spares }
     {
         match self.work.find(&mut self.inner) {
             Ok(true) => self.open_log(alloc),
@@ -95,6 +109,9 @@ impl<N: Nand> Remap<N> {
             (⟦<Remap<N> as Nand>⟧.state self.new) }
         ensures cause { LoadCause self.old.work.spares (N.state self.old.inner) result
             (spares_left_of self.new.image self.new.work) (N.state self.new.inner) }
+        ensures reads { OnlyReading (N.state self.old.inner) (N.state self.new.inner) }
+        ensures inner { self.new.inner ≡ self.old.inner }
+        ensures spares { self.new.work.spares ≡ self.old.work.spares }
     {
         let size = self.work.shape.page_bytes() as usize;
         match MarkLog::with_room(alloc, self.log.room, size) {
@@ -121,6 +138,9 @@ impl<N: Nand> Remap<N> {
             (⟦<Remap<N> as Nand>⟧.state self.new) }
         ensures cause { MakeCause self.old.work.spares shape (N.state self.old.inner) result
             (spares_left_of self.new.image self.new.work) (N.state self.new.inner) }
+        ensures cuts { MakesInner self.old.work.spares shape (N.state self.old.inner)
+            (N.state self.new.inner) }
+        ensures spares { self.new.work.spares ≡ self.old.work.spares }
     {
         let size = shape.page_bytes() as usize;
         match MarkLog::with_room(alloc, self.log.room, size) {
@@ -146,6 +166,9 @@ impl<N: Nand> Remap<N> {
             (⟦<Remap<N> as Nand>⟧.state self.new) }
         ensures cause { MakeCause self.old.work.spares shape (N.state self.old.inner) result
             (spares_left_of self.new.image self.new.work) (N.state self.new.inner) }
+        ensures cuts { MakesInner self.old.work.spares shape (N.state self.old.inner)
+            (N.state self.new.inner) }
+        ensures spares { self.new.work.spares ≡ self.old.work.spares }
     {
         self.image = Image::Unknown;
         match self.inner.make(alloc, inner) {
@@ -165,6 +188,9 @@ impl<N: Nand> Remap<N> {
             (⟦<Remap<N> as Nand>⟧.state self.new) }
         ensures cause { MakeCause self.old.work.spares shape (N.state self.old.inner) result
             (spares_left_of self.new.image self.new.work) (N.state self.new.inner) }
+        ensures cuts { PassesCalls (IsNoneOrErased shape self.old.work.spares)
+            (N.state self.old.inner) (N.state self.new.inner) }
+        ensures spares { self.new.work.spares ≡ self.old.work.spares }
     {
         shape.known();
         self.work.fit(shape);

@@ -1,6 +1,7 @@
 //! What calls of the inner flash leave of the outer flash, call by call.
 ghost use Rattle.pk_remap.specs.Stepping.{ErasesSpare, FailsToEraseSpare, ReadsSource, WritesInOrder, WritesSpare, FailsToWriteSpare, Fills, ErasesTable, FailsToEraseTable, WritesFirst, FailsToWriteFirst, WritesSecond, FailsToWriteSecond};
 ghost use Rattle.pk_remap.specs.Beginning.{CallsBelow, DoneBelow, FailsBelow};
+ghost use Rattle.pk_remap.specs.CallsInTurn.{CutsShowCuts};
 
 /// A call of the outer flash is the same call of the inner flash, on the inner block that has its block: done, cut or failed.
 pub fn calls()
@@ -28,4 +29,10 @@ pub fn in_tables()
     ensures fails_first { FailsToWriteFirst }
     ensures second { WritesSecond }
     ensures fails_second { FailsToWriteSecond }
+{}
+
+/// Programs, erases, reads, loads, fetches and posts of the outer flash one after another, each as its clauses say it: at each cut of the
+/// inner calls the inner flash shows a cut of the outer trail.
+pub fn in_turn()
+    ensures { CutsShowCuts }
 {}

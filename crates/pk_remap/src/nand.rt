@@ -1,11 +1,12 @@
 //! A flash with spare blocks is a flash. Its causes: what of the inner flash, and of the log's room, makes a call fail.
-ghost use Rattle.std.specs.Prelude.{◌≡◌, ◌≢◌, ◌≤◌, ◌<◌, ◌⊎◌, ℕ, length, true, false, IsSome, IfOk, OnOk, OnErr, Ok, Err, Some};
+ghost use Rattle.std.specs.Prelude.{◌≡◌, ◌≢◌, ◌≤◌, ◌<◌, ◌+◌, ◌⊎◌, ◌∷◌, [], ℕ, length, true, false, IsSome, IfOk, OnOk, OnErr, Ok, Err, Some};
 ghost use Rattle.pk_base.specs.Shape as spec;
 ghost use Rattle.pk_base.specs.Page.{page_at};
 ghost use Rattle.pk_base.specs.Mark.{program, erase};
 ghost use Rattle.pk_nand.specs.BoardState.{shape_of};
 ghost use Rattle.pk_nand.specs.Seen.{answer};
-ghost use Rattle.pk_nand.specs.Calls.{Rose, IsReady, after_program, ProgramFailed, Loaded, LoadFailed, Made, MakeFailed};
+ghost use Rattle.pk_nand.specs.Calls.{Rose, IsReady, longer, after_program, ProgramFailed, Loaded, LoadFailed, Made, MakeFailed};
+ghost use Rattle.pk_nand.specs.Effects.{OnlyReading};
 ghost use Rattle.pk_nand.specs.Operations.{filled, InOrder, after_read, after_erase, EraseFailed, ReadFailed};
 ghost use Rattle.pk_nand.specs.declared.types.LoadFault.{LoadFault};
 ghost use Rattle.pk_remap.specs.Through.{MayShow};
@@ -13,6 +14,8 @@ ghost use Rattle.pk_remap.specs.Serving.{PassesCalls};
 ghost use Rattle.pk_remap.specs.Logged.{HasLogRoom};
 ghost use Rattle.pk_remap.specs.Remapped.{remap_board, is_open as is_open_image, spares_left as spares_left_of};
 ghost use Rattle.pk_remap.specs.Causes.{LoadCause, MakeCause, StopCause, SparesFallBy, IsRefused};
+ghost use Rattle.pk_remap.specs.Loading.{LoadsInner, HoldsOuter, OpensOuter, MakesInner};
+ghost use Rattle.pk_remap.specs.MostCalls.{AtMostCalls, find_calls, CallsUnlessMoved, relocation_calls};
 
 use crate::image::Image;
 use crate::remap::Remap;
@@ -39,12 +42,19 @@ impl<N: Nand> Nand for Remap<N> {
         ensures held { IsSome (⟦<Remap<N> as Nand>⟧.state self.old).shape → (at : ℕ)
             → result ≢ Err (LoadFault.BadImage at) }
 
-        // If the shape was known it is the answer, and else the inner flash decides.
+        // If the shape was known it is the answer, and else the inner flash decides: it is loaded, and then only read.
         ensures known { is_open_image self.old.image ≡ true
             → (result ≡ Ok (Some self.old.work.shape)) × (self.new.inner ≡ self.old.inner) }
         ensures cause { is_open_image self.old.image ≡ false → LoadCause self.old.work.spares
             (N.state self.old.inner) result (spares_left_of self.new.image self.new.work)
             (N.state self.new.inner) }
+        ensures reads { is_open_image self.old.image ≡ false
+            → LoadsInner (N.state self.old.inner) result (N.state self.new.inner) }
+        ensures opens { is_open_image self.old.image ≡ false → (shape : spec.Shape)
+            → HoldsOuter self.old.work.spares shape (N.state self.old.inner)
+            → OpensOuter self.old.work.spares shape (N.state self.old.inner)
+            (⟦<Remap<N> as Nand>⟧.state self.old) result (⟦<Remap<N> as Nand>⟧.state self.new) }
+        ensures spares { self.new.work.spares ≡ self.old.work.spares }
         ensures left { spares_left_of self.old.image self.old.work
             ≤ spares_left_of self.new.image self.new.work }
     {
@@ -71,9 +81,12 @@ impl<N: Nand> Nand for Remap<N> {
             → IsReady (⟦<Remap<N> as Nand>⟧.state self.new) own }
         ensures bad { (at : ℕ) → result ≢ Err (LoadFault.BadImage at) }
 
-        // What of the inner flash makes it fail.
+        // What of the inner flash makes it fail, and what its cuts leave.
         ensures cause { MakeCause self.old.work.spares shape (N.state self.old.inner) result
             (spares_left_of self.new.image self.new.work) (N.state self.new.inner) }
+        ensures cuts { MakesInner self.old.work.spares shape (N.state self.old.inner)
+            (N.state self.new.inner) }
+        ensures spares { self.new.work.spares ≡ self.old.work.spares }
     {
         match inner_shape(&shape, self.work.spares) {
             Ok(inner) => self.make_inner(alloc, shape, inner),
@@ -93,9 +106,13 @@ impl<N: Nand> Nand for Remap<N> {
         ensures ok { OnOk result (⟦<Remap<N> as Nand>⟧.state self.new ≡ after_read (⟦<Remap<N> as Nand>⟧.state self.old)) }
         ensures err { OnErr result (ReadFailed (⟦<Remap<N> as Nand>⟧.state self.old) (⟦<Remap<N> as Nand>⟧.state self.new) page) }
 
-        // What of the inner flash makes it fail; no spare is taken.
+        // What of the inner flash makes it fail; that is only read, and no spare is taken.
         ensures cause { OnErr result (Rose (N.state self.old.inner).read_faults
             (N.state self.new.inner).read_faults) }
+        ensures only_reads { OnlyReading (N.state self.old.inner) (N.state self.new.inner) }
+        ensures calls { AtMostCalls (find_calls self.old.image self.old.work.shape + 1)
+            (N.state self.old.inner) (N.state self.new.inner) }
+        ensures spares { self.new.work.spares ≡ self.old.work.spares }
         ensures left { spares_left_of self.new.image self.new.work
             ≡ spares_left_of self.old.image self.old.work }
     {
@@ -124,6 +141,14 @@ impl<N: Nand> Nand for Remap<N> {
         // At each cut of the calls of the inner flash the outer flash is what this call may leave.
         ensures passes { PassesCalls (MayShow self.old.work.shape self.old.work.spares
             (⟦<Remap<N> as Nand>⟧.state self.old).pages (program page bytes.now)) (N.state self.old.inner) (N.state self.new.inner) }
+        ensures calls { CallsUnlessMoved (find_calls self.old.image self.old.work.shape + 2)
+            (relocation_calls self.old.work.shape (spares_left_of self.old.image self.old.work))
+            (N.state self.old.inner) (N.state self.new.inner) }
+        ensures spares { self.new.work.spares ≡ self.old.work.spares }
+
+        ensures noted { OnErr result (IsRefused self.old.log (length bytes.now) (N.state self.old.inner)
+            (N.state self.new.inner) ⊎ (⟦<Remap<N> as Nand>⟧.state self.new).trail
+            ≡ longer (⟦<Remap<N> as Nand>⟧.state self.old).trail (program page bytes.now ∷ [])) }
 
         // What of the inner flash, or of the log's room, makes it fail; and how many spares are left.
         ensures fits { OnOk result (HasLogRoom self.old.log (length bytes.now)) }
@@ -157,6 +182,14 @@ impl<N: Nand> Nand for Remap<N> {
         // At each cut of the calls of the inner flash the outer flash is what this call may leave.
         ensures passes { PassesCalls (MayShow self.old.work.shape self.old.work.spares
             (⟦<Remap<N> as Nand>⟧.state self.old).pages (erase block)) (N.state self.old.inner) (N.state self.new.inner) }
+        ensures calls { CallsUnlessMoved (find_calls self.old.image self.old.work.shape + 1)
+            (relocation_calls self.old.work.shape (spares_left_of self.old.image self.old.work))
+            (N.state self.old.inner) (N.state self.new.inner) }
+        ensures spares { self.new.work.spares ≡ self.old.work.spares }
+
+        ensures noted { OnErr result (IsRefused self.old.log 0 (N.state self.old.inner)
+            (N.state self.new.inner) ⊎ (⟦<Remap<N> as Nand>⟧.state self.new).trail
+            ≡ longer (⟦<Remap<N> as Nand>⟧.state self.old).trail (erase block ∷ [])) }
 
         // What of the inner flash, or of the log's room, makes it fail; and how many spares are left.
         ensures fits { OnOk result (HasLogRoom self.old.log 0) }

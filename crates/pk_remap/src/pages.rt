@@ -1,5 +1,5 @@
 //! What a flash with spare blocks does with its pages, by calls of its inner flash.
-ghost use Rattle.std.specs.Prelude.{◌≡◌, ◌<◌, ◌/◌, length, true, IfOk, OnOk, OnErr};
+ghost use Rattle.std.specs.Prelude.{◌≡◌, ◌+◌, ◌-◌, ◌<◌, ◌/◌, length, true, IfOk, OnOk, OnErr};
 ghost use Rattle.pk_base.specs.Shape.{page_count};
 ghost use Rattle.pk_base.specs.Page.{page_at, IsPage};
 ghost use Rattle.pk_base.specs.Mark.{program, erase};
@@ -12,6 +12,7 @@ ghost use Rattle.pk_remap.specs.Serving.{outer_of, OuterOutcome};
 ghost use Rattle.pk_remap.specs.Counting.{OuterCounts};
 ghost use Rattle.pk_remap.specs.Remapped.{is_open as is_open_image, outer_pages, SameTaken};
 ghost use Rattle.pk_remap.specs.Causes.{MarkMade};
+ghost use Rattle.pk_remap.specs.MostCalls.{AtMostCalls, find_calls, CallsUnlessMoved, relocation_calls};
 
 use crate::image::Image;
 use crate::remap::Remap;
@@ -39,6 +40,8 @@ impl<N: Nand> Remap<N> {
         ensures err { OnErr result (Rose (N.state self.old.inner).read_faults
             (N.state self.new.inner).read_faults) }
         ensures reads { OnlyReading (N.state self.old.inner) (N.state self.new.inner) }
+        ensures calls { AtMostCalls (find_calls self.old.image self.old.work.shape + 1)
+            (N.state self.old.inner) (N.state self.new.inner) }
         ensures opened { is_open_image self.new.image ≡ true }
         ensures same { SameTaken self.old.work self.new.work }
         ensures log { self.new.log ≡ self.old.log }
@@ -59,6 +62,9 @@ impl<N: Nand> Remap<N> {
             self.old.work.spares (N.state self.old.inner).pages) page }
         ensures made { MarkMade self.old.work (program page bytes.now) (N.state self.old.inner)
             result self.new.work (N.state self.new.inner) }
+        ensures calls { CallsUnlessMoved (find_calls self.old.image self.old.work.shape + 2)
+            (relocation_calls self.old.work.shape (self.old.work.spares - self.old.work.taken))
+            (N.state self.old.inner) (N.state self.new.inner) }
         ensures opened { is_open_image self.new.image ≡ true }
         ensures log { self.new.log ≡ self.old.log }
         ensures counts { self.new.counts ≡ self.old.counts }
@@ -80,6 +86,9 @@ impl<N: Nand> Remap<N> {
             self.new.work (N.state self.new.inner) }
         ensures taken { OuterCounts self.old.work (N.state self.old.inner) result self.new.work
             (N.state self.new.inner) }
+        ensures calls { CallsUnlessMoved 2 (relocation_calls self.old.work.shape
+            (self.old.work.spares - self.old.work.taken)) (N.state self.old.inner)
+            (N.state self.new.inner) }
         ensures opened { is_open_image self.new.image ≡ true }
         ensures log { self.new.log ≡ self.old.log }
         ensures counts { self.new.counts ≡ self.old.counts }
@@ -100,6 +109,9 @@ impl<N: Nand> Remap<N> {
         requires inside { block < self.old.work.shape.blocks }
         ensures made { MarkMade self.old.work (erase block) (N.state self.old.inner) result
             self.new.work (N.state self.new.inner) }
+        ensures calls { CallsUnlessMoved (find_calls self.old.image self.old.work.shape + 1)
+            (relocation_calls self.old.work.shape (self.old.work.spares - self.old.work.taken))
+            (N.state self.old.inner) (N.state self.new.inner) }
         ensures opened { is_open_image self.new.image ≡ true }
         ensures log { self.new.log ≡ self.old.log }
         ensures counts { self.new.counts ≡ self.old.counts }
@@ -117,6 +129,9 @@ impl<N: Nand> Remap<N> {
         ensures outcome { OuterOutcome self.old.work (erase block) (N.state self.old.inner) result
             self.new.work (N.state self.new.inner) }
         ensures taken { OuterCounts self.old.work (N.state self.old.inner) result self.new.work
+            (N.state self.new.inner) }
+        ensures calls { CallsUnlessMoved 1 (relocation_calls self.old.work.shape
+            (self.old.work.spares - self.old.work.taken)) (N.state self.old.inner)
             (N.state self.new.inner) }
         ensures opened { is_open_image self.new.image ≡ true }
         ensures log { self.new.log ≡ self.old.log }

@@ -1,7 +1,8 @@
 //! A flash with spare blocks over another flash.
-ghost use Rattle.std.specs.Prelude.{◌≡◌, ◌≤◌, true, false, IfOk};
+ghost use Rattle.std.specs.Prelude.{◌≡◌, ◌≤◌, ◌*◌, true, false, IfOk};
 ghost use Rattle.pk_remap.specs.declared.layout.TheConstants.{MOST_SPARES};
 ghost use Rattle.pk_remap.specs.Remapped.{RemapHolds, HasLog, is_open as is_open_image, is_sure as is_sure_image, spares_left as spares_left_of, remap_board, fresh_remap, with_refusal, FindsTable};
+ghost use Rattle.pk_remap.specs.MostCalls.{AtMostCalls, find_calls};
 
 use crate::counts::BoardCounts;
 use crate::image::Image;
@@ -121,6 +122,8 @@ impl<N: Nand> Remap<N> {
         requires { is_open_image self.old.image ≡ true }
         ensures found { FindsTable self.old.work (N.state self.old.inner) result self.new.image
             self.new.work (N.state self.new.inner) }
+        ensures calls { AtMostCalls (find_calls self.old.image self.old.work.shape)
+            (N.state self.old.inner) (N.state self.new.inner) }
         ensures log { self.new.log ≡ self.old.log }
         ensures counts { self.new.counts ≡ self.old.counts }
     {
@@ -137,6 +140,8 @@ impl<N: Nand> Remap<N> {
         requires unsure { is_sure_image self.old.image ≡ false }
         ensures found { FindsTable self.old.work (N.state self.old.inner) result self.new.image
             self.new.work (N.state self.new.inner) }
+        ensures calls { AtMostCalls (2 * self.old.work.shape.block_pages)
+            (N.state self.old.inner) (N.state self.new.inner) }
         ensures log { self.new.log ≡ self.old.log }
         ensures counts { self.new.counts ≡ self.old.counts }
     {

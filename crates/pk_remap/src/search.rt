@@ -4,6 +4,7 @@ ghost use Rattle.pk_base.specs.Page.{page_at};
 ghost use Rattle.pk_nand.specs.Calls.{IsReady};
 ghost use Rattle.pk_nand.specs.Counts.{after_reads};
 ghost use Rattle.pk_remap.specs.Counting.{SearchFailed};
+ghost use Rattle.pk_remap.specs.MostCalls.{AtMostCalls};
 ghost use Rattle.pk_remap.specs.Places.{inner_shape};
 ghost use Rattle.pk_remap.specs.Table.{table_of, table_page};
 ghost use Rattle.pk_remap.specs.Newest.{newest_table};
@@ -110,6 +111,8 @@ pub fn newest<N: Nand>(
     ensures ok { OnOk result (N.state inner.new
         ≡ after_reads (2 * shape.now.block_pages) (N.state inner.old)) }
     ensures err { OnErr result (SearchFailed (N.state inner.old) (N.state inner.new)) }
+    ensures calls { AtMostCalls (2 * shape.now.block_pages) (N.state inner.old)
+        (N.state inner.new) }
     ensures len { length serves.new ≡ length serves.old }
 {
     shape.known();

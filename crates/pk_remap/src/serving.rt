@@ -1,6 +1,6 @@
 //! Calls of the outer flash that a relocation serves, from its first step to its last.
 ghost use Rattle.pk_base.specs.Page.{Flash, page_at, IsPage};
-ghost use Rattle.std.specs.Prelude.{◌≡◌, ◌*◌, ◌<◌, ◌≤◌, length, take, max, true, IfOk, OnOk, OnErr};
+ghost use Rattle.std.specs.Prelude.{◌≡◌, ◌-◌, ◌*◌, ◌<◌, ◌≤◌, length, take, max, true, IfOk, OnOk, OnErr};
 ghost use Rattle.pk_base.specs.Mark.{program, erase};
 ghost use Rattle.pk_base.specs.Shape.{page_count};
 ghost use Rattle.pk_nand.specs.Calls.{IsReady};
@@ -12,7 +12,8 @@ ghost use Rattle.pk_nand.specs.Seen.{answer};
 ghost use Rattle.pk_remap.specs.declared.layout.TheConstants.{MOST_SPARES};
 ghost use Rattle.pk_remap.specs.Places.{inner_shape, placed_page};
 ghost use Rattle.pk_remap.specs.Counting.{SearchFailed, UsesOnlyTaken, ServeCounts, OuterCounts};
-ghost use Rattle.pk_remap.specs.Running.{relocation_of, RelocationRuns, IsAtRest};
+ghost use Rattle.pk_remap.specs.Running.{relocation_of, RelocationRuns, IsAtRest, relocation_steps_left};
+ghost use Rattle.pk_remap.specs.MostCalls.{AtMostCalls, CallsUnlessMoved, relocation_calls};
 ghost use Rattle.pk_remap.specs.Serving.{outer_of, HasPartner, PartnerOutcome, CanFind, FindOutcome, found_top, RelocationServes, OuterOutcome};
 
 use crate::phase::Phase;
@@ -34,6 +35,8 @@ impl Relocation {
             → self.new.taken ≡ self.old.taken }
         ensures most { IfOk result (λ found. found ≡ true
             → self.new.taken ≡ max self.old.taken self.new.used) }
+        ensures calls { AtMostCalls (2 * self.old.shape.block_pages) (N.state inner.old)
+            (N.state inner.new) }
     {
         match newest_by(
             inner,
@@ -141,6 +144,8 @@ impl Relocation {
             self.new (N.state inner.new) }
         ensures counts { OuterCounts self.old (N.state inner.old) result self.new
             (N.state inner.new) }
+        ensures calls { CallsUnlessMoved 2 (relocation_calls self.old.shape
+            (self.old.spares - self.old.taken)) (N.state inner.old) (N.state inner.new) }
     {
         match self.keep_partner(inner, page) {
             Ok(()) => self.program_with_partner(inner, page, bytes),
@@ -164,6 +169,8 @@ impl Relocation {
             self.new (N.state inner.new) }
         ensures counts { OuterCounts self.old (N.state inner.old) result self.new
             (N.state inner.new) }
+        ensures calls { CallsUnlessMoved 1 (relocation_calls self.old.shape
+            (self.old.spares - self.old.taken)) (N.state inner.old) (N.state inner.new) }
     {
         let at = self.inner_page(page);
         match inner.program(at, bytes) {
@@ -189,6 +196,8 @@ impl Relocation {
             self.new (N.state inner.new) }
         ensures counts { OuterCounts self.old (N.state inner.old) result self.new
             (N.state inner.new) }
+        ensures calls { CallsUnlessMoved 1 (relocation_calls self.old.shape
+            (self.old.spares - self.old.taken)) (N.state inner.old) (N.state inner.new) }
     {
         self.shape.known();
         let at = place(&self.shape, &self.serves[..self.used], block);
@@ -214,6 +223,8 @@ impl Relocation {
         ensures serves { RelocationServes self.old (N.state inner.old) result self.new
             (N.state inner.new) }
         ensures counts { ServeCounts self.old (N.state inner.old) result self.new
+            (N.state inner.new) }
+        ensures calls { AtMostCalls (relocation_steps_left self.old) (N.state inner.old)
             (N.state inner.new) }
     {
         loop {
@@ -245,6 +256,8 @@ fn newest_by<N: Nand>(
     ensures ok { OnOk result (N.state inner.new
         ≡ after_reads (2 * shape.now.block_pages) (N.state inner.old)) }
     ensures err { OnErr result (SearchFailed (N.state inner.old) (N.state inner.new)) }
+    ensures calls { AtMostCalls (2 * shape.now.block_pages) (N.state inner.old)
+        (N.state inner.new) }
     ensures all { length serves.new ≡ length serves.old }
     ensures len { length buffer.new ≡ length buffer.old }
 {

@@ -1,10 +1,10 @@
 //! The words on an image file: on one that leaves its grammar, and which bytes they leave.
 
-use crate::steps::MAKE_SMALL;
 use pk_file::FileBoard;
 use pk_flash::{Flash, Room};
 use pk_nand::Mark;
 use pk_test_scripts::MAKE_WORKED;
+use pk_test_scripts::steps::MAKE_SMALL;
 use pk_top::{Status, run};
 use std::alloc::{AllocError, Global};
 use std::fs::{File, OpenOptions};

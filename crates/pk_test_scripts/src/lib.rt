@@ -2,8 +2,8 @@
 //! what trials of several crates need.
 //!
 //! Boards go from session to session, scripts are written and their records read, pages are made by
-//! hand. The program is a parameter, so that all this depends on none of its parts; `pk_test_program` and
-//! `pk_test_stress` have the trials.
+//! hand. The program is a parameter, so that all this depends on none of its parts; other crates have
+//! the trials, and `pk_test_program` runs them on the program.
 #![tactic(auto)]
 
 pub mod boards;
@@ -16,6 +16,7 @@ pub mod program;
 pub mod runs;
 pub mod script;
 pub mod space;
+pub mod steps;
 mod tried;
 pub mod ways;
 

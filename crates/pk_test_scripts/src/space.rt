@@ -59,7 +59,8 @@ fn push_again(into: &mut Vec<u8>) -> Result<(), AllocError> {
     push_plain(into, FLUSH, 0)
 }
 
-fn full_script(alloc: Global) -> Result<Vec<u8>, AllocError> {
+/// The script of a drive that becomes full.
+pub fn full_script(alloc: Global) -> Result<Vec<u8>, AllocError> {
     let mut script = Vec::new(alloc);
     push_full(&mut script)?;
     Ok(script)

@@ -1,5 +1,7 @@
 //! What is tried, and what a trial finds wrong.
 
+ghost use Rattle.std.specs.Prelude.{◌≡◌, true, OnOk};
+
 use pk_flash::Flash;
 use std::alloc::Global;
 use std::fmt::{self, Debug, Display, Formatter, Write};
@@ -11,7 +13,9 @@ pub trait Program {
 }
 
 /// A failure if this does not hold.
-pub fn holds<D: Display + Drop>(is_so: bool, what: D) -> Result<(), Fail> {
+pub fn holds<D: Display + Drop>(is_so: bool, what: D) -> Result<(), Fail>
+    ensures so { OnOk result (is_so.now ≡ true) }
+{
     if is_so {
         return Ok(());
     }

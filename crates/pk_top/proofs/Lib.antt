@@ -14,3 +14,4 @@ mod Obeyed
 mod Judging
 mod SparedRuns
 mod Numbers
+mod SparedSessions

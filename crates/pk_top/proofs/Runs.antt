@@ -125,7 +125,7 @@ module _ (shape : Shape) (r : ProgramRun) (is : IsRun shape r) where
   -- ---- any word
 
   -- the map afterwards, and the limits
-  abbrev Left : Option Word → Map → Type 0
+  abbrev pub Left : Option Word → Map → Type 0
   Left word m = (next : Map) × LeavesMap word shape r m next × Holds shape r.left next × (limits_at shape r.left ≡ limits_at shape r.old.pages)
 
   left_resting : (word : Option Word) → ((m : Map) → LeavesMap word shape r m m) → RestsFlash r.old r.new → (m : Map) → Holds shape r.old.pages m → Left word m
@@ -144,7 +144,7 @@ module _ (shape : Shape) (r : ProgramRun) (is : IsRun shape r) where
       (held.0, kept, held.1, task_limits task (opened shape) (meter r.new) shape (terms_at shape r.old.pages WORD_FRAMES) m r.left r.posted kept)
   left_by word of rests m holds = left_resting word (λ m. refl) rests m holds
 
-  left : (m : Map) → Holds shape r.old.pages m → Left (word_of r.words) m
+  pub left : (m : Map) → Holds shape r.old.pages m → Left (word_of r.words) m
   left = left_by (word_of r.words) refl is.rests
 
 kept_through : (shape : Shape) (limits : List ℕ) (start : Flash) (runs : List ProgramRun) (end : Flash) → RunOn shape start runs end → (m : Map) → Holds shape start m

@@ -15,3 +15,5 @@ pub mod Runs
 pub mod Sessions
 pub mod Spared
 pub mod SparedTexts
+pub mod SparedRuns
+pub mod SparedSessions

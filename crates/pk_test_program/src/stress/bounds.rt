@@ -1,7 +1,7 @@
 //! How much work a command makes at most, and how much remains after it, next to the bounds of
 //! both.
 
-use crate::steps::Pink;
+use crate::pink::Pink;
 use pk_base::Shape;
 use std::test::*;
 

@@ -1,6 +1,6 @@
 //! The trials of hard cases, one test for each.
 
-use crate::steps::Pink;
+use crate::pink::Pink;
 use pk_core::{Drive, OpenError};
 use pk_drive::Engine;
 use pk_flash::Flash;

@@ -1,7 +1,8 @@
-use Rattle.std.proofs.Common.{◌≡◌, ◌+◌, ◌*◌, ℕ, suc, sym, ap, subst, ◌∙◌, arith, Option}
+use Rattle.std.proofs.Common.{◌≡◌, ◌+◌, ◌*◌, ◌<◌, ℕ, suc, sym, ap, subst, ◌∙◌, arith, Option}
 use Rattle.pk_base.specs.Page.{Flash, page_at}
 use Rattle.pk_nand.{specs.BoardState.BoardState, specs.Operations.after_read, specs.Counts.after_reads}
 use Rattle.pk_remap.{specs.Table.SpareTable, specs.Newest.table_in, specs.Newest.first_table_page, specs.Searched.table_found, specs.Searched.table_read, proofs.Finding.Found}
+use Rattle.pk_remap.proofs.Bounding.{calls_reads, calls_read_failed}
 use Rattle.pk_remap.proofs.Searching.{read_table, searched-step, searched-all, search_failed}
 use Rattle.pk_remap.proofs.search.newest.Goals as goal
 
@@ -48,3 +49,14 @@ pub returns-in-Err-clause-err : goal.returns-in-Err-clause-err
 returns-in-Err-clause-err g c =
     search_failed c.loop-i.i (c.page_in-first.result + c.loop-i.i) (g.N.Nand.state c.args.inner.now) (g.N.Nand.state c.loop-i.inner)
     (g.N.Nand.state c.read.new.self) c.loop-i.invariant.board c.in-Err.ensures.err
+
+pub returns-clause-calls : goal.returns-clause-calls
+returns-clause-calls g c =
+    let count : c.loop-i.i ≡ 2 * c.args.shape.now.block_pages = omega (arith, c.loop-i-test.false, c.loop-i.auto.i-end, c.block_pages-i-end.ensures.value) in
+    calls_reads c.loop-i.i (2 * c.args.shape.now.block_pages) (g.N.Nand.state c.args.inner.now) (g.N.Nand.state c.loop-i.inner) (omega (arith, count)) c.loop-i.invariant.board
+
+pub returns-in-Err-clause-calls : goal.returns-in-Err-clause-calls
+returns-in-Err-clause-calls g c =
+    let few : c.loop-i.i < 2 * c.args.shape.now.block_pages = omega (arith, c.loop-i-test.true, c.block_pages-i-end.ensures.value) in
+    calls_read_failed c.loop-i.i (2 * c.args.shape.now.block_pages) (c.page_in-first.result + c.loop-i.i) (g.N.Nand.state c.args.inner.now) (g.N.Nand.state c.loop-i.inner)
+    (g.N.Nand.state c.read.new.self) few c.loop-i.invariant.board c.in-Err.ensures.err

@@ -56,6 +56,7 @@ returns-in-Err g c =
     let P : BoardState → Type 0 = λ s. PostFailed (remap_board self.image self.work self.log self.counts old) s bytes in
     let Q : BoardState → Type 0 = λ s. SentFront bytes c.in-Err.fault.given old.posted s.posted (told self.log) (told there.log) in
     let R : BoardState → Type 0 = λ s. Rose old.out_faults s.out_faults in
+    let W : BoardState → Type 0 = λ s. PostFailed old s bytes in
     record {
       ok = tt;
       err = subst P (λ i. remap_board (sym e.image i) (sym e.work i) there.log (sym e.counts i) (g.B.Nand.state (sym e.inner i)))
@@ -63,6 +64,7 @@ returns-in-Err g c =
       given = subst Q (λ i. g.B.Nand.state (sym e.inner i)) (sent_some self.image self.work self.log self.counts old bytes c.in-Err.fault.given there.log new given e.told);
       fits = tt;
       cause = inr (subst R (λ i. g.B.Nand.state (sym e.inner i)) c.in-Err.ensures.err.faults);
+      inner = inr (subst W (λ i. g.B.Nand.state (sym e.inner i)) c.in-Err.ensures.err);
       image = e.image;
       work = e.work;
     }
@@ -79,6 +81,7 @@ returns-else-has_room g c =
       given = sent_none self.image self.work self.log self.counts old c.args.bytes.now;
       fits = tt;
       cause = inl (record { no_room = c.has_room.ensures.no c.if-has_room.false; same = refl });
+      inner = inl (record { no_room = c.has_room.ensures.no c.if-has_room.false; same = refl });
       image = refl;
       work = refl;
     }

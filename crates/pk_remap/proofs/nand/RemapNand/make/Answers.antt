@@ -2,6 +2,7 @@ use Rattle.std.{proofs.Common.refl, proofs.Common.sym, proofs.Common.ap, proofs.
 use Rattle.pk_base.{specs.declared.shape.ShapeError.ShapeError, specs.Shape.Shape}
 use Rattle.pk_nand.{specs.BoardState.BoardState, specs.declared.types.LoadFault.TheVariants.Fault}
 use Rattle.pk_remap.{specs.Places.inner_shape, specs.Remapped.spares_left, specs.Causes.MakeCause, specs.Causes.not_allowed}
+use Rattle.pk_remap.{specs.Loading.no_call_made, specs.declared.relocation.Relocation.Relocation as InMemory}
 use Rattle.pk_remap.{proofs.Remapping.missing_is, proofs.Opening.named_ok, proofs.Opening.missing_refused, proofs.Opening.make_refused_as, proofs.Opening.make_cause_as}
 use Rattle.pk_remap.proofs.nand.RemapNand.make.Goals as goal
 
@@ -26,6 +27,8 @@ returns-in-Ok g c =
       ready = own.ready;
       bad = own.bad;
       cause = c.make_inner.ensures.cause;
+      cuts = c.make_inner.ensures.cuts;
+      spares = c.make_inner.ensures.spares;
     }
 
 pub returns-in-Err : goal.returns-in-Err
@@ -46,4 +49,6 @@ returns-in-Err g c =
       ready = own.ready;
       bad = own.bad;
       cause = make_cause_as self.work.spares c.args.shape inner c.refuse.ensures.fault (ap g.N.Nand.state c.refuse.ensures.inner) (spares_left there.image there.work) cause;
+      cuts = no_call_made (ap g.N.Nand.state c.refuse.ensures.inner);
+      spares = ap (λ (w : InMemory). w.spares) c.refuse.ensures.work;
     }

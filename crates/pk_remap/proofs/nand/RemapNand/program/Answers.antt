@@ -1,10 +1,11 @@
-use Rattle.std.proofs.Common.{◌≡◌, ◌/◌, inl, ℕ, length, refl, sym, ap, subst, ◌∙◌, arith}
+use Rattle.std.proofs.Common.{◌≡◌, ◌/◌, inl, inr, ℕ, length, refl, sym, ap, subst, ◌∙◌, ◌+◌, arith}
 use Rattle.std.specs.Prelude.{OnOk, OnErr}
 use Rattle.pk_base.{specs.Shape.Shape, specs.Page.Flash, specs.Mark.program}
 use Rattle.pk_nand.{specs.BoardState.BoardState, specs.Calls.counted, specs.Calls.ProgramFailed, specs.Operations.InOrder}
 use Rattle.pk_remap.{specs.declared.counts.BoardCounts.BoardCounts, specs.Through.MayShow, specs.Serving.PassesCalls, specs.Remapped.with_stop, specs.Remapped.remap_board, specs.Logged.HasLogRoom}
 use Rattle.pk_remap.proofs.LogLemmas.{if_ok}
-use Rattle.pk_remap.proofs.Remapping.{opens_page, program_answer, program_refused, shape_open, pages_open, page_open, cause_open, fall_open}
+use Rattle.pk_remap.proofs.Remapping.{opens_page, program_answer, program_refused, shape_open, pages_open, left_open, page_open, cause_open, fall_open}
+use Rattle.pk_remap.{specs.MostCalls.find_calls, specs.MostCalls.CallsUnlessMoved, specs.MostCalls.relocation_calls, proofs.Bounding.calls_none, proofs.Bounding.if_err}
 use Rattle.pk_remap.proofs.nand.RemapNand.program.Goals as goal
 
 pub program_noted-requires : goal.program_noted-requires
@@ -31,6 +32,7 @@ returns-then-has_room g c =
     let there = c.program_noted.new.self in
     let new : BoardState = g.N.Nand.state there.inner in
     let made = c.program_noted.ensures.made in
+    let L : ℕ → Type 0 = λ left. CallsUnlessMoved (find_calls self.image self.work.shape + 2) (relocation_calls self.work.shape left) old new in
     let P : ℕ → Type 0 = λ n. OnOk c.program_noted.result (there.counts ≡ record self.counts { programs = n }) in
     let Q : ℕ → Type 0 = λ n. OnErr c.program_noted.result (there.counts ≡ with_stop (c.args.page / self.work.shape.block_pages) (record self.counts { programs = n })) in
     let R : ℕ → Type 0 = λ b. OnErr c.program_noted.result (there.counts ≡ with_stop b (record self.counts { programs = c.raise.new.count })) in
@@ -42,6 +44,9 @@ returns-then-has_room g c =
       ok = own.0;
       err = own.1;
       passes = subst S (sym (pages_open self.image self.work self.log self.counts old has_open)) made.passes;
+      calls = subst L (sym (left_open self.image self.work has_open)) c.program_noted.ensures.calls;
+      spares = made.spares;
+      noted = if_err c.program_noted.result (inr c.program_noted.ensures.told);
       fits = if_ok c.program_noted.result (HasLogRoom self.log (length c.args.bytes.now)) (c.has_room.ensures.yes c.if-has_room.true);
       cause = cause_open there.image self.work there.work (program c.args.page c.args.bytes.now) old new self.log
           (length c.args.bytes.now) c.program_noted.result c.program_noted.ensures.opened made;
@@ -60,6 +65,9 @@ returns-else-has_room g c =
       ok = tt;
       err = subst P (sym is) (program_refused self.image self.work self.log self.counts old has_open c.args.page c.args.bytes.now);
       passes = (0, refl);
+      calls = inl (calls_none _ old old refl);
+      spares = refl;
+      noted = inl (record { no_room = c.has_room.ensures.no c.if-has_room.false; same = refl });
       fits = tt;
       cause = inl (record { no_room = c.has_room.ensures.no c.if-has_room.false; same = refl });
       left = inl (omega arith);

@@ -35,6 +35,9 @@ returns-in-Ok g c =
           (self.holds.opened has_open) c.read_page.result same noted c.read_page.ensures.reads is;
       err = tt;
       cause = tt;
+      only_reads = c.read_page.ensures.reads;
+      calls = c.read_page.ensures.calls;
+      spares = same.spares;
       left = left_open there.image there.work c.read_page.ensures.opened ∙ (λ i. same.spares i - same.taken i) ∙ sym (left_open self.image self.work has_open);
     }
 
@@ -72,5 +75,8 @@ returns-in-Err g c =
       err = read_failed_answer self.image there.image self.work there.work self.log there.log self.counts c.read_failed.new.self old new has_open c.read_page.ensures.opened
           (self.holds.opened has_open) c.args.page same noted c.read_page.ensures.reads is;
       cause = c.in-Err.ensures.err;
+      only_reads = c.read_page.ensures.reads;
+      calls = c.read_page.ensures.calls;
+      spares = same.spares;
       left = left_open there.image there.work c.read_page.ensures.opened ∙ (λ i. same.spares i - same.taken i) ∙ sym (left_open self.image self.work has_open);
     }

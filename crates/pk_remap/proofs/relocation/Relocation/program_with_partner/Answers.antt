@@ -1,7 +1,8 @@
-use Rattle.std.proofs.Common.{◌≡◌, ℕ, List, length, take, refl, ap, subst, ◌∙◌, arith}
+use Rattle.std.proofs.Common.{◌≡◌, ◌-◌, inl, inr, ℕ, List, length, take, refl, ap, subst, ◌∙◌, arith}
 use Rattle.pk_nand.{specs.BoardState.BoardState, proofs.Writing.shape_is, proofs.Effects.works_program, proofs.Effects.stops_program}
 use Rattle.pk_remap.{specs.Serving.outer_of, proofs.Running.refilled, proofs.Counting.counted_done, proofs.Counting.outer_served, proofs.Counting.outer_none_left}
 use Rattle.pk_remap.proofs.Outer.{page_inside, inner_order, program_done, program_begins, program_served, program_none_left, program_left}
+use Rattle.pk_remap.{specs.Stepping.one_program, proofs.Bounding.calls_one, proofs.Bounding.moved_by, proofs.Bounding.calls_more, proofs.Bounding.steps_fit, specs.MostCalls.relocation_calls}
 use Rattle.pk_remap.proofs.relocation.Relocation.program_with_partner.Goals as goal
 
 pub program-requires-clause-exists : goal.program-requires-clause-exists
@@ -38,6 +39,7 @@ returns-in-Ok g c =
       outcome = program_done r board c.requires.rests c.args.page c.requires.inside c.args.bytes.now c.requires.full c.requires.order _
           new (rw c.inner_page-at.ensures at c.in-Ok.ensures.ok);
       counts = counted_done r r board new works.rest 0 works.no_fault.2 (omega arith);
+      calls = inl (calls_one board new (one_program _ _ (inl c.in-Ok.ensures.ok)));
     }
 
 pub returns-then-self : goal.returns-then-self
@@ -57,6 +59,8 @@ returns-then-self g c =
           mid failed c.if-self.true _ (rw buffer.0 front) (rw buffer.0 buffer.1) c.requires.partner
           c.serve.result c.serve.new.self end c.serve.ensures.serves;
       counts = outer_served r _ c.serve.new.self board mid end c.serve.result stops.rest stops.stop refl c.serve.ensures.counts;
+      calls = moved_by (relocation_calls r.shape (r.spares - r.taken)) board mid end _ c.serve.result c.serve.new.self (one_program _ _ (inr c.in-Err.ensures.err)) stops.stop c.serve.ensures.counts
+          (calls_more _ _ mid end (steps_fit r.shape r.spares r.taken c.if-self.true) c.serve.ensures.calls);
     }
 
 pub returns-else-self : goal.returns-else-self
@@ -70,4 +74,5 @@ returns-else-self g c =
       outcome = program_none_left r board c.requires.rests c.args.page c.requires.inside c.args.bytes.now c.requires.full c.requires.order _ new failed c.if-self.false;
       counts = outer_none_left r board new stops.rest stops.stop
           (program_left r board c.requires.rests c.args.page c.requires.inside c.args.bytes.now c.requires.full c.requires.order new failed);
+      calls = inl (calls_one board new (one_program _ _ (inr c.in-Err.ensures.err)));
     }

@@ -1,11 +1,13 @@
 use Rattle.pk_nand.specs.BoardState.{BoardState}
 use Rattle.pk_remap.{proofs.Counting.counted_none, proofs.Counting.counted_from, proofs.Served.so_far_start, proofs.Served.so_far_more, proofs.Served.served_now, proofs.Served.stopped_now}
+use Rattle.pk_remap.proofs.Bounding.{called_none, called_more, called_last}
 use Rattle.pk_remap.proofs.relocation.Relocation.serve.Goals as goal
 
 pub loop-init : goal.loop-init
 loop-init g c = record {
   far = λ before runs. so_far_start c.args.self.now before (g.N.Nand.state c.args.inner.now) runs;
   counts = counted_none c.args.self.now (g.N.Nand.state c.args.inner.now);
+  calls = called_none c.args.self.now (g.N.Nand.state c.args.inner.now);
 }
 
 pub step-requires : goal.step-requires
@@ -23,6 +25,7 @@ returns-in-Ok-true g c =
           (rw c.in-Ok-true.field-0-test at (c.in-Ok-true.ensures.steps before far.runs));
       counts = counted_from 1 c.args.self.now c.loop.self c.step.new.self old mid new c.loop.invariant.counts
           (rw c.in-Ok-true.field-0-test at c.in-Ok-true.ensures.counts);
+      calls = called_last c.args.self.now old c.loop.self mid c.loop.invariant.calls new c.in-Ok-true.ensures.calls;
     }
 
 pub loop-smaller : goal.loop-smaller
@@ -42,6 +45,8 @@ loop-preserved g c =
           (rw c.in-Ok-false.field-0-test at (c.in-Ok-false.ensures.steps before far.runs));
       counts = counted_from 0 c.args.self.now c.loop.self c.step.new.self old mid new c.loop.invariant.counts
           (rw c.in-Ok-false.field-0-test at c.in-Ok-false.ensures.counts);
+      calls = called_more c.args.self.now old c.loop.self mid c.loop.invariant.calls new c.in-Ok-false.ensures.calls c.step.new.self
+          (rw c.in-Ok-false.field-0-test at (c.in-Ok-false.ensures.steps c.requires.0 (c.loop.invariant.far c.requires.0 c.requires.1).runs)).2;
     }
 
 pub returns-in-Err : goal.returns-in-Err
@@ -55,4 +60,5 @@ returns-in-Err g c =
           let far = c.loop.invariant.far before runs in
           stopped_now c.args.self.now before old c.loop.self mid far _ c.step.new.self new (c.in-Err.ensures.steps before far.runs);
       counts = (counted_from 0 c.args.self.now c.loop.self c.step.new.self old mid new c.loop.invariant.counts own.0, own.1);
+      calls = called_last c.args.self.now old c.loop.self mid c.loop.invariant.calls new c.in-Err.ensures.calls;
     }

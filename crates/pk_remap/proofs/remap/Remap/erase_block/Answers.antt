@@ -1,7 +1,8 @@
-use Rattle.std.proofs.Common.{◌<◌, sym, ap, subst}
+use Rattle.std.proofs.Common.{◌<◌, inl, sym, ap, subst, arith}
 use Rattle.pk_base.{specs.Shape.Shape, specs.Mark.erase}
 use Rattle.pk_nand.specs.BoardState.{BoardState}
 use Rattle.pk_remap.{specs.Remapped.is_open, specs.Remapped.is_sure, proofs.Remapping.rests, proofs.Remapping.made, proofs.Remapping.made_not_found}
+use Rattle.pk_remap.proofs.Bounding.{moved_found, calls_more}
 use Rattle.pk_remap.proofs.remap.Remap.erase_block.Goals as goal
 
 pub erase_found-requires : goal.erase_found-requires
@@ -29,3 +30,14 @@ returns-in-Err-clause-made g c =
 
 pub returns-in-Err-clause-opened : goal.returns-in-Err-clause-opened
 returns-in-Err-clause-opened g c = ap is_open c.in-Err.ensures.found.unsure
+
+pub returns-in-Ok-clause-calls : goal.returns-in-Ok-clause-calls
+returns-in-Ok-clause-calls g c =
+    let self = c.args.self.now in
+    let there = c.find_table.new.self in
+    moved_found _ 1 self.work (g.N.Nand.state self.inner) there.image there.work (g.N.Nand.state there.inner) (g.N.Nand.state c.erase_found.new.self.inner)
+    c.in-Ok.ensures.found c.find_table.ensures.calls c.erase_found.ensures.calls
+
+pub returns-in-Err-clause-calls : goal.returns-in-Err-clause-calls
+returns-in-Err-clause-calls g c =
+    inl (calls_more _ _ (g.N.Nand.state c.args.self.now.inner) (g.N.Nand.state c.find_table.new.self.inner) (omega arith) c.find_table.ensures.calls)

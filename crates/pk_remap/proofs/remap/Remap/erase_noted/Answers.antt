@@ -25,3 +25,9 @@ returns-in-Err-clause-told g c = ap (λ (l : MarkLog). told l) c.erase_block.ens
 
 pub returns-in-Err-clause-err : goal.returns-in-Err-clause-err
 returns-in-Err-clause-err g c = c.stop_failed.ensures ∙ ap (λ (k : BoardCounts). with_stop c.args.block k) c.erase_block.ensures.counts
+
+pub returns-in-Ok-clause-calls : goal.returns-in-Ok-clause-calls
+returns-in-Ok-clause-calls g c = c.in-Ok.ensures.calls
+
+pub returns-in-Err-clause-calls : goal.returns-in-Err-clause-calls
+returns-in-Err-clause-calls g c = c.in-Err.ensures.calls

@@ -1,7 +1,10 @@
-use Rattle.std.proofs.Common.{refl, sym, ap, ◌∙◌}
-use Rattle.pk_nand.specs.BoardState.{BoardState}
+use Rattle.std.proofs.Common.{inl, inr, ◌*◌, refl, sym, ap, subst, ◌∙◌, Option}
+use Rattle.std.specs.Prelude.{Err}
+use Rattle.pk_base.specs.Shape.{Shape}
+use Rattle.pk_nand.{specs.BoardState.BoardState, specs.BoardState.shape_or_none, specs.declared.types.LoadFault.LoadFault}
+use Rattle.pk_remap.{specs.declared.relocation.Relocation.Relocation as InMemory, specs.MostCalls.AtMostCalls, proofs.Bounding.calls_none}
 use Rattle.pk_remap.{specs.declared.image.Image.TheVariants.Missing, specs.Remapped.is_open, specs.Remapped.is_sure, specs.Remapped.is_missing, specs.Remapped.spares_left}
-use Rattle.pk_remap.{proofs.Remapping.no_bool, proofs.Remapping.holds_closed}
+use Rattle.pk_remap.{proofs.Remapping.no_bool, proofs.Remapping.holds_closed, proofs.Remapping.reading_none}
 use Rattle.pk_remap.proofs.Opening.{unknown_refused, unknown_none, unknown_then, load_cause_refused, load_cause_from, load_refused_as, load_cause_as}
 use Rattle.pk_remap.proofs.remap.Remap.load_inner.Goals as goal
 
@@ -65,3 +68,29 @@ returns-in-Err-clause-cause g c =
     let left = spares_left c.refuse.new.self.image c.refuse.new.self.work in
     load_cause_as self.work.spares old c.refuse.ensures.fault (ap g.N.Nand.state c.refuse.ensures.inner) left
     (load_cause_refused self.work.spares old (g.N.Nand.state c.load.new.self) c.in-Err.fault left c.load.result c.in-Err.is c.load.ensures.fault c.load.ensures.bad)
+
+pub returns-in-Ok-Some-clause-reads : goal.returns-in-Ok-Some-clause-reads
+returns-in-Ok-Some-clause-reads g c =
+    let mid : BoardState = g.N.Nand.state c.load.new.self in
+    let T : Shape → Type 0 = λ s. AtMostCalls (2 * s.block_pages) mid (g.N.Nand.state c.open_image.new.self.inner) in
+    let shape = ap (λ (o : Option Shape). shape_or_none o) (c.in-Ok-Some.ensures.ok.shape_is ∙ c.in-Ok-Some.field-0-is) in
+    record { mid = mid; loads = inl (_, c.in-Ok-Some.ensures.ok); reads = c.open_image.ensures.reads; calls = subst T (sym shape) c.open_image.ensures.calls }
+
+pub returns-in-Ok-None-clause-reads : goal.returns-in-Ok-None-clause-reads
+returns-in-Ok-None-clause-reads g c =
+    let mid : BoardState = g.N.Nand.state c.load.new.self in
+    record { mid = mid; loads = inl (_, c.in-Ok-None.ensures.ok); reads = refl; calls = calls_none _ mid mid refl }
+
+pub returns-in-Err-clause-reads : goal.returns-in-Err-clause-reads
+returns-in-Err-clause-reads g c =
+    let mid : BoardState = g.N.Nand.state c.load.new.self in
+    let same = ap g.N.Nand.state c.refuse.ensures.inner in
+    record {
+      mid = mid;
+      loads = inr (c.in-Err.ensures.err, λ some at e. c.load.ensures.held some at (c.in-Err.is ∙ ap (λ (f : LoadFault). Err f) (sym c.refuse.ensures.fault) ∙ e));
+      reads = reading_none mid (g.N.Nand.state c.refuse.new.self.inner) same;
+      calls = calls_none _ mid (g.N.Nand.state c.refuse.new.self.inner) same;
+    }
+
+pub returns-in-Err-clause-spares : goal.returns-in-Err-clause-spares
+returns-in-Err-clause-spares g c = ap (λ (w : InMemory). w.spares) c.refuse.ensures.work

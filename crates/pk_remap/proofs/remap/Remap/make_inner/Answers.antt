@@ -1,6 +1,6 @@
-use Rattle.std.proofs.Common.{sym, ap, ◌∙◌}
+use Rattle.std.proofs.Common.{refl, sym, ap, ◌∙◌}
 use Rattle.pk_nand.specs.declared.types.LoadFault.TheVariants.{Memory}
-use Rattle.pk_remap.{specs.Remapped.is_open, proofs.LogLemmas.told_unfit, proofs.Opening.missing_refused}
+use Rattle.pk_remap.{specs.Remapped.is_open, specs.Loading.no_call_made, proofs.LogLemmas.told_unfit, proofs.Opening.missing_refused}
 use Rattle.pk_remap.proofs.remap.Remap.make_inner.Goals as goal
 
 pub make_with-requires-clause-told : goal.make_with-requires-clause-told
@@ -18,3 +18,6 @@ returns-in-Err-clause-answers g c =
 
 pub returns-in-Err-clause-cause : goal.returns-in-Err-clause-cause
 returns-in-Err-clause-cause g c = c.requires.allowed
+
+pub returns-in-Err-clause-cuts : goal.returns-in-Err-clause-cuts
+returns-in-Err-clause-cuts g c = no_call_made refl

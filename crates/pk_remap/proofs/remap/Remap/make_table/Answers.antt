@@ -3,7 +3,7 @@ use Rattle.std.{proofs.Common.ap, proofs.Common.subst, proofs.Common.◌∙◌, 
 use Rattle.pk_base.{specs.Shape.Shape, specs.Shape.IsShape, specs.Shape.page_count, specs.Page.page_at, specs.Page.erased}
 use Rattle.pk_nand.{specs.BoardState.BoardState, specs.declared.types.LoadFault.TheVariants.Fault}
 use Rattle.pk_remap.{specs.declared.image.Image.TheVariants.Sure, specs.declared.relocation.Relocation.Relocation as InMemory, specs.Running.relocation_of, specs.Running.HasPageBuffers}
-use Rattle.pk_remap.{specs.FirstTable.IsMade, specs.Answers.MakeAnswers, specs.Causes.ImageOpened, specs.Causes.inner_fault}
+use Rattle.pk_remap.{specs.FirstTable.IsMade, specs.FirstTable.IsNoneOrErased, specs.Serving.PassesCalls, specs.Answers.MakeAnswers, specs.Causes.ImageOpened, specs.Causes.inner_fault}
 use Rattle.pk_remap.specs.Remapped.{is_open, is_sure, is_missing, remap_board, outer_pages, spares_left}
 use Rattle.pk_remap.proofs.Opening.{unknown_make_refused, unknown_made, make_refused_as, make_cause_as}
 use Rattle.pk_remap.{proofs.Finding.newest-found, proofs.Counting.has_table, proofs.Remapping.no_bool, proofs.Remapping.holds_closed, proofs.Remapping.holds_rest}
@@ -62,6 +62,7 @@ returns-in-Ok g c =
     let P : Shape → Type 0 = λ s. MakeAnswers (remap_board self.image self.work self.log self.counts old) s (Ok tt) (remap_board Sure w c.args.log self.counts new) in
     let Q : Shape → Type 0 = λ s. ImageOpened w.spares s (w.spares - w.taken) new in
     let R : ℕ → Type 0 = λ n. ImageOpened n c.args.shape (w.spares - w.taken) new in
+    let C : InMemory → Type 0 = λ x. PassesCalls (IsNoneOrErased x.shape x.spares) old new in
     let used : length (take w.used w.serves) ≤ w.taken = own.rests.used in
     let opened : ImageOpened w.spares w.shape (w.spares - w.taken) new = record {
       shape_is = own.rests.ready.shape_is;
@@ -74,6 +75,8 @@ returns-in-Ok g c =
           (ap (λ s. s.input) own.rest) (ap (λ s. s.posted) own.rest) c.requires.told tt
           (has_table w new w.top (relocation_of w).table own.rests.ready own.rests.top own.rests.used) all);
       cause = (subst R spares (subst Q shape opened), omega (arith, none, spares), c.requires.allowed);
+      cuts = subst C c.fit.ensures own.cuts;
+      spares = spares;
     }
 
 pub returns-in-Err : goal.returns-in-Err
@@ -82,10 +85,14 @@ returns-in-Err g c =
     let old : BoardState = g.N.Nand.state self.inner in
     let is = c.in-Err.ensures in
     let there = c.refuse.new.self in
+    let C : InMemory → Type 0 = λ x. PassesCalls (IsNoneOrErased x.shape x.spares) old (g.N.Nand.state c.write_first_table.new.inner) in
+    let S : BoardState → Type 0 = λ s. PassesCalls (IsNoneOrErased c.args.shape self.work.spares) old s in
     record {
       answers = make_refused_as c.refuse.ensures.fault c.refuse.ensures.board
           (unknown_make_refused self.image c.requires.unknown self.work c.write_first_table.new.self self.log self.log self.counts old (g.N.Nand.state c.write_first_table.new.inner)
           (ap (λ s. s.input) is.rest) (ap (λ s. s.posted) is.rest) refl c.args.shape Fault (λ at e. cc));
       cause = make_cause_as self.work.spares c.args.shape old c.refuse.ensures.fault (ap g.N.Nand.state c.refuse.ensures.inner) (spares_left there.image there.work)
           (inner_fault c.requires.allowed is.faults);
+      cuts = subst S (sym (ap g.N.Nand.state c.refuse.ensures.inner)) (subst C c.fit.ensures is.cuts);
+      spares = ap (λ (x : InMemory). x.spares) c.refuse.ensures.work ∙ is.spares ∙ ap (λ (x : InMemory). x.spares) c.fit.ensures;
     }

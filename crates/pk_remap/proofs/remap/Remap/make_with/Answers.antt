@@ -1,9 +1,11 @@
-use Rattle.std.{proofs.Common.refl, proofs.Common.ap, proofs.Common.◌∙◌, proofs.Common.Some, proofs.Common.replicate, specs.Prelude.Err}
+use Rattle.std.{proofs.Common.refl, proofs.Common.sym, proofs.Common.subst, proofs.Common.ap, proofs.Common.◌∙◌, proofs.Common.Some, proofs.Common.replicate, specs.Prelude.Err}
 use Rattle.pk_base.{specs.Shape.Shape, specs.Shape.page_count, specs.Page.erased}
 use Rattle.pk_nand.{specs.BoardState.BoardState, specs.declared.types.LoadFault.LoadFault}
 use Rattle.pk_remap.{specs.declared.image.Image.TheVariants.Unknown, specs.Remapped.is_open, specs.Remapped.is_missing, specs.Remapped.spares_left}
 use Rattle.pk_remap.{proofs.Remapping.no_bool, proofs.Remapping.holds_closed}
 use Rattle.pk_remap.proofs.Opening.{missing_failed, missing_then, make_cause_from, make_cause_refused, make_refused_as, make_cause_as}
+use Rattle.pk_nand.{specs.Calls.Made, specs.Calls.MakeFailed}
+use Rattle.pk_remap.{specs.declared.relocation.Relocation.Relocation as InMemory, specs.Loading.table_written, specs.Loading.inner_not_made}
 use Rattle.pk_remap.proofs.remap.Remap.make_with.Goals as goal
 
 pub make-requires : goal.make-requires
@@ -56,3 +58,17 @@ returns-in-Err-clause-cause g c =
     make_cause_as self.work.spares c.args.shape old c.refuse.ensures.fault (ap g.N.Nand.state c.refuse.ensures.inner) left
     (make_cause_refused self.work.spares c.args.shape old (g.N.Nand.state c.make.new.self) c.in-Err.fault left c.make.result
     c.requires.allowed c.in-Err.is c.make.ensures.fault c.make.ensures.bad)
+
+pub returns-in-Ok-clause-cuts : goal.returns-in-Ok-clause-cuts
+returns-in-Ok-clause-cuts g c =
+    let self = c.args.self.now in
+    let T : Shape → Type 0 = λ s. Made (g.N.Nand.state self.inner) (g.N.Nand.state c.make.new.self) s in
+    table_written (g.N.Nand.state c.make.new.self) (subst T c.requires.inner c.in-Ok.ensures.ok) c.make_table.ensures.cuts
+
+pub returns-in-Err-clause-cuts : goal.returns-in-Err-clause-cuts
+returns-in-Err-clause-cuts g c =
+    let T : BoardState → Type 0 = λ s. MakeFailed (g.N.Nand.state c.args.self.now.inner) s in
+    inner_not_made (subst T (sym (ap g.N.Nand.state c.refuse.ensures.inner)) c.in-Err.ensures.err)
+
+pub returns-in-Err-clause-spares : goal.returns-in-Err-clause-spares
+returns-in-Err-clause-spares g c = ap (λ (w : InMemory). w.spares) c.refuse.ensures.work

@@ -1,11 +1,12 @@
-use Rattle.std.proofs.Common.{◌≡◌, ℕ, refl, sym, ap, subst, ◌∙◌, arith}
+use Rattle.std.proofs.Common.{◌≡◌, ◌*◌, ℕ, refl, sym, ap, subst, ◌∙◌, arith}
 use Rattle.std.specs.Prelude.{Result, IsErr, None}
 use Rattle.pk_base.{specs.declared.shape.ShapeError.ShapeError, specs.Shape.Shape}
 use Rattle.pk_nand.{specs.BoardState.BoardState, specs.Calls.IsReady, specs.declared.types.LoadFault.TheVariants.BadImage}
 use Rattle.pk_remap.{specs.declared.relocation.Relocation.Relocation as InMemory, specs.Places.inner_shape, specs.Causes.LoadCause, specs.Causes.no_outer_shape}
 use Rattle.pk_remap.{specs.Remapped.RemapHolds, specs.Remapped.is_open, specs.Remapped.is_sure, specs.Remapped.is_missing, specs.Remapped.spares_left}
-use Rattle.pk_remap.{proofs.Remapping.no_bool, proofs.Remapping.holds_closed, proofs.Opening.with_spares, proofs.Opening.unknown_refused, proofs.Opening.unknown_then}
-use Rattle.pk_remap.proofs.Opening.{load_refused_as, load_cause_as}
+use Rattle.pk_remap.{proofs.Remapping.no_bool, proofs.Remapping.holds_closed, proofs.Remapping.reading_none, proofs.Opening.with_spares, proofs.Opening.unknown_refused, proofs.Opening.unknown_then}
+use Rattle.pk_remap.proofs.Opening.{load_refused_as, load_cause_as, named_ok}
+use Rattle.pk_remap.{specs.Remapped.without_spares, specs.MostCalls.AtMostCalls, proofs.Bounding.calls_none}
 use Rattle.pk_remap.proofs.remap.Remap.open_image.Goals as goal
 
 pub invariant_of-self : goal.invariant_of-self
@@ -62,3 +63,26 @@ returns-in-Err-clause-cause g c =
     load_cause_as self.work.spares (g.N.Nand.state self.inner) c.refuse.ensures.fault (ap g.N.Nand.state c.refuse.ensures.inner)
     (spares_left c.refuse.new.self.image c.refuse.new.self.work)
     (no_outer_shape c.args.found.now c.requires.ready.shape_is (subst T (sym c.in-Err.is ∙ c.outer_shape.ensures) refl) refl)
+
+pub returns-in-Ok-clause-reads : goal.returns-in-Ok-clause-reads
+returns-in-Ok-clause-reads g c = c.open_table.ensures.reads
+
+pub returns-in-Err-clause-reads : goal.returns-in-Err-clause-reads
+returns-in-Err-clause-reads g c = reading_none (g.N.Nand.state c.args.self.now.inner) (g.N.Nand.state c.refuse.new.self.inner) (ap g.N.Nand.state c.refuse.ensures.inner)
+
+pub returns-in-Ok-clause-calls : goal.returns-in-Ok-clause-calls
+returns-in-Ok-clause-calls g c =
+    let self = c.args.self.now in
+    let is = named_ok (without_spares c.args.found.now self.work.spares) c.in-Ok.shape (sym c.in-Ok.is ∙ c.outer_shape.ensures) in
+    let same : c.fit.new.self.shape.block_pages ≡ c.args.found.now.block_pages = ap (λ (w : InMemory). w.shape.block_pages) c.fit.ensures ∙ ap (λ (s : Shape). s.block_pages) is in
+    let T : ℕ → Type 0 = λ n. AtMostCalls (2 * n) (g.N.Nand.state self.inner) (g.N.Nand.state c.open_table.new.self.inner) in
+    subst T same c.open_table.ensures.calls
+
+pub returns-in-Ok-clause-spares : goal.returns-in-Ok-clause-spares
+returns-in-Ok-clause-spares g c = c.open_table.ensures.spares ∙ ap (λ (w : InMemory). w.spares) c.fit.ensures
+
+pub returns-in-Err-clause-calls : goal.returns-in-Err-clause-calls
+returns-in-Err-clause-calls g c = calls_none _ (g.N.Nand.state c.args.self.now.inner) (g.N.Nand.state c.refuse.new.self.inner) (ap g.N.Nand.state c.refuse.ensures.inner)
+
+pub returns-in-Err-clause-spares : goal.returns-in-Err-clause-spares
+returns-in-Err-clause-spares g c = ap (λ (w : InMemory). w.spares) c.refuse.ensures.work

@@ -45,3 +45,9 @@ pub returns-in-Err-clause-answers : goal.returns-in-Err-clause-answers
 returns-in-Err-clause-answers g c =
     let self = c.args.self.now in
     unknown_refused self.image c.requires.unknown self.work self.work self.log self.log self.counts (g.N.Nand.state self.inner) (g.N.Nand.state self.inner) refl refl refl Memory
+
+pub returns-in-Ok-clause-reads : goal.returns-in-Ok-clause-reads
+returns-in-Ok-clause-reads g c = refl
+
+pub returns-in-Err-clause-reads : goal.returns-in-Err-clause-reads
+returns-in-Err-clause-reads g c = refl

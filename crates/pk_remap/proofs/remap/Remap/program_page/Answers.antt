@@ -1,8 +1,9 @@
-use Rattle.std.proofs.Common.{◌<◌, sym, ap, subst}
+use Rattle.std.proofs.Common.{◌<◌, inl, sym, ap, subst, arith}
 use Rattle.pk_base.{specs.Shape.Shape, specs.Shape.page_count, specs.Page.Flash, specs.Page.IsPage, specs.Mark.program}
 use Rattle.pk_nand.{specs.BoardState.BoardState, specs.Operations.InOrder}
 use Rattle.pk_remap.{specs.Serving.outer_of, specs.Remapped.is_open, specs.Remapped.is_sure}
 use Rattle.pk_remap.proofs.Remapping.{rests, outer_same, made, made_not_found}
+use Rattle.pk_remap.proofs.Bounding.{moved_found, calls_more}
 use Rattle.pk_remap.proofs.remap.Remap.program_page.Goals as goal
 
 pub program_found-requires : goal.program_found-requires
@@ -43,3 +44,14 @@ returns-in-Err-clause-made g c =
 
 pub returns-in-Err-clause-opened : goal.returns-in-Err-clause-opened
 returns-in-Err-clause-opened g c = ap is_open c.in-Err.ensures.found.unsure
+
+pub returns-in-Ok-clause-calls : goal.returns-in-Ok-clause-calls
+returns-in-Ok-clause-calls g c =
+    let self = c.args.self.now in
+    let there = c.find_table.new.self in
+    moved_found _ 2 self.work (g.N.Nand.state self.inner) there.image there.work (g.N.Nand.state there.inner) (g.N.Nand.state c.program_found.new.self.inner)
+    c.in-Ok.ensures.found c.find_table.ensures.calls c.program_found.ensures.calls
+
+pub returns-in-Err-clause-calls : goal.returns-in-Err-clause-calls
+returns-in-Err-clause-calls g c =
+    inl (calls_more _ _ (g.N.Nand.state c.args.self.now.inner) (g.N.Nand.state c.find_table.new.self.inner) (omega arith) c.find_table.ensures.calls)

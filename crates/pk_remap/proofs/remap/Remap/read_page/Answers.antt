@@ -1,7 +1,7 @@
-use Rattle.std.{proofs.Common.◌≡◌, proofs.Common.◌<◌, proofs.Common.sym, proofs.Common.ap, proofs.Common.subst, proofs.Common.◌∙◌, specs.Prelude.IfOk, specs.Prelude.OnOk}
+use Rattle.std.{proofs.Common.◌≡◌, proofs.Common.◌<◌, proofs.Common.sym, proofs.Common.ap, proofs.Common.subst, proofs.Common.◌∙◌, proofs.Common.arith, specs.Prelude.IfOk, specs.Prelude.OnOk}
 use Rattle.pk_base.{specs.Shape.Shape, specs.Shape.page_count, specs.Page.Flash, specs.Page.page_at, specs.Mark.erase}
 use Rattle.pk_nand.{specs.BoardState.BoardState, specs.Operations.filled, specs.Seen.answer}
-use Rattle.pk_remap.{specs.Remapped.is_open, specs.Remapped.is_sure, proofs.Outer.rests_again}
+use Rattle.pk_remap.{specs.Remapped.is_open, specs.Remapped.is_sure, proofs.Outer.rests_again, proofs.Bounding.calls_page, proofs.Bounding.calls_more}
 use Rattle.pk_remap.proofs.Remapping.{rests, outer_same, open_there, holds_rest, reading_page, reading_then, rose_page}
 use Rattle.pk_remap.proofs.remap.Remap.read_page.Goals as goal
 
@@ -48,6 +48,7 @@ returns-in-Ok g c =
       bytes = subst Q same c.read_outer.ensures.bytes;
       err = rose_page old mid new _ c.read_outer.result found.no_fault.1 c.read_outer.ensures.err;
       reads = reading_then old mid new found.reads (reading_page mid new _ c.read_outer.result c.read_outer.ensures.ok c.read_outer.ensures.err);
+      calls = calls_page _ _ old mid new c.read_outer.result c.read_outer.ensures.ok c.read_outer.ensures.err c.find_table.ensures.calls;
       opened = ap is_open found.sure;
       same = found.same;
       log = c.find_table.ensures.log;
@@ -62,6 +63,7 @@ returns-in-Err g c =
       bytes = tt;
       err = lost.failed.read;
       reads = lost.failed.rest;
+      calls = calls_more _ _ (g.N.Nand.state c.args.self.now.inner) (g.N.Nand.state c.find_table.new.self.inner) (omega arith) c.find_table.ensures.calls;
       opened = ap is_open lost.unsure;
       same = lost.same;
       log = c.find_table.ensures.log;

@@ -1,0 +1,74 @@
+#!/usr/bin/env python3
+"""Lists the wrong bodies of the repository, by the line `body:` with which each edit begins.
+
+  docs/wrong_bodies.py            prints all: who tries it (the gate, or bench/wrong.sh by hand), its crate, its name, what it does
+  docs/wrong_bodies.py --write    puts the table of those that the gate tries into docs/WRONG-BODIES.md
+  docs/wrong_bodies.py --check    fails if that table is another one, or an edit does not say what is wrong
+"""
+from __future__ import annotations
+
+import argparse
+import pathlib
+import sys
+from dataclasses import dataclass
+
+TOP = pathlib.Path(__file__).resolve().parent.parent
+PAGE = TOP / "docs" / "WRONG-BODIES.md"
+BEGIN, END = "<!-- gate -->", "<!-- end of gate -->"
+
+
+@dataclass
+class Edit:
+    by: str
+    crate: str
+    name: str
+    body: str
+
+
+def order() -> dict[str, int]:
+    """The place of each crate in crates.txt."""
+    lines = (TOP / "crates.txt").read_text(encoding="utf-8").split("\n")
+    return {line.split(":")[0].split()[0]: place for place, line in enumerate(lines) if line[:1].isalpha()}
+
+
+def edits() -> list[Edit]:
+    found = []
+    for by, pattern in (("gate", "crates/*/must-fail/*.edit"), ("hand", "bench/wrong-bodies/*/*.edit")):
+        for path in TOP.glob(pattern):
+            first = path.read_text(encoding="utf-8").split("\n")[0]
+            crate = path.parent.parent.name if by == "gate" else path.parent.name
+            found.append(Edit(by, crate, path.stem, first[6:] if first.startswith("body: ") else ""))
+    places = order()
+    return sorted(found, key=lambda edit: (edit.by, places.get(edit.crate, 0), edit.name))
+
+
+def table(found: list[Edit]) -> str:
+    rows = [f"| {edit.body} | `{edit.crate}`, `{edit.name}` |" for edit in found if edit.by == "gate"]
+    return "| a body that | is refused by |\n|---|---|\n" + "\n".join(rows) + "\n"
+
+
+def main() -> int:
+    parser = argparse.ArgumentParser(description=__doc__, formatter_class=argparse.RawDescriptionHelpFormatter)
+    choice = parser.add_mutually_exclusive_group()
+    choice.add_argument("--write", action="store_true", help="put the table into docs/WRONG-BODIES.md")
+    choice.add_argument("--check", action="store_true", help="fail if docs/WRONG-BODIES.md has another table")
+    args = parser.parse_args()
+    found = edits()
+    if not (args.write or args.check):
+        print("\n".join(f"{edit.by} {edit.crate} {edit.name}: {edit.body}" for edit in found))
+        return 0
+    page = PAGE.read_text(encoding="utf-8")
+    before, _, rest = page.partition(BEGIN)
+    new = f"{before}{BEGIN}\n\n{table(found)}\n{END}{rest.partition(END)[2]}"
+    if args.write:
+        PAGE.write_text(new, encoding="utf-8")
+        return 0
+    faults = [f"{edit.crate}: the first line of {edit.name} does not say what is wrong (body: ..)" for edit in found if not edit.body]
+    if new != page:
+        faults.append("docs/WRONG-BODIES.md: its table is not the one that docs/wrong_bodies.py --write makes")
+    print("\n".join(faults), end="\n" if faults else "", file=sys.stderr)
+    return 1 if faults else 0
+
+
+if __name__ == "__main__":
+    sys.exit(main())
