@@ -233,6 +233,13 @@ def _causes() -> Any:
     return causes
 
 
+def _no_space(image: Path) -> Optional[str]:
+    """That the disk of an image is full, in words; None if it is not."""
+    causes = _causes()
+    found = causes.space_cause(os.fspath(image)) if causes else None
+    return found.text if found else None
+
+
 def process_using(image: Path) -> Optional[int]:
     """The process that has the image file locked; None if the system lists none."""
     causes = _causes()
