@@ -350,7 +350,7 @@ open_fault() { # IMAGE WORD: why the system does not read or write it; prints no
         place=$1
         [ -e "$place" ] || place=$(dirname -- "$1")
         free=$(df -Pk -- "$place" 2>/dev/null | awk 'NR == 2 { print $4 }')
-        if [ "${free:-64}" -lt 64 ]; then fault="no space is left on the disk of $1"; fi
+        if [ "${free:-64}" -lt 64 ]; then fault="there is no space left on the disk of $1"; fi
     fi
     echo "$fault"
 }
