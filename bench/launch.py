@@ -121,7 +121,7 @@ def causes(folder, image):
             script = b''.join(b'store %02x %s\n' % (i, b'61' * 60000) for i in range(16))
             asm = subprocess.run([PINK, image, 'asm'], input=script, stdout=subprocess.PIPE).stdout
             done = subprocess.run([PINK, small + '/d.img', 'serve', '36'], input=asm, capture_output=True)
-            check('no space', done.returncode == 6 and b'no space is left on the disk' in done.stderr)
+            check('no space', done.returncode == 6 and b'there is no space left on the disk' in done.stderr)
         finally:
             run('umount', small)
 

@@ -198,6 +198,7 @@ pair_fault() { # STATUS IMAGE IMAGE WORDS..: prints nothing if it has no more to
             pair_words_fault "$@"
             ;;
         6)
+            # shellcheck disable=SC3013  # dash, bash and BusyBox have it
             if [ "$2" -ef "$3" ]; then echo "both images are one file: $2 and $3" && return; fi
             fault=$(seen 6 "$2" mirror || open_fault "$2" list)
             [ -n "$fault" ] || fault=$(seen 6 "$3" mirror || open_fault "$3" list)
@@ -252,7 +253,7 @@ pair_shape_fault() { # IMAGE IMAGE
 
 # The second drive of a pair decides nothing, so a new first one beside it would empty it.
 first_lost() { # IMAGE IMAGE FAULT WORDS: the fault of the first, and how to go on with the second if it opens
-    if [ -z "$(keys_of "$program" "$2")" ]; then
+    if [ -z "$(keys_of "$(program_of pink)" "$2")" ]; then
         echo "$3"
         return
     fi
@@ -349,7 +350,7 @@ open_fault() { # IMAGE WORD: why the system does not read or write it; prints no
         place=$1
         [ -e "$place" ] || place=$(dirname -- "$1")
         free=$(df -Pk -- "$place" 2>/dev/null | awk 'NR == 2 { print $4 }')
-        if [ "${free:-64}" -lt 64 ]; then fault="no space is left on the disk of $1"; fi
+        if [ "${free:-64}" -lt 64 ]; then fault="there is no space left on the disk of $1"; fi
     fi
     echo "$fault"
 }

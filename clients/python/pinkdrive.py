@@ -61,7 +61,6 @@ from typing import (
     List,
     MutableMapping,
     NamedTuple,
-    NoReturn,
     Optional,
     Sequence,
     Tuple,
@@ -232,6 +231,13 @@ def _causes() -> Any:
     except ImportError:
         return None
     return causes
+
+
+def _no_space(image: Path) -> Optional[str]:
+    """That the disk of an image is full, in words; None if it is not."""
+    causes = _causes()
+    found = causes.space_cause(os.fspath(image)) if causes else None
+    return found.text if found else None
 
 
 def process_using(image: Path) -> Optional[int]:
@@ -1010,20 +1016,22 @@ class Drive(MutableMapping[bytes, bytes]):
     def items_from(
         self, start: Bytes = b"", *, prefix: Bytes = b"", namespace: Optional[int] = None
     ) -> Iterator[Tuple[bytes, bytes]]:
-        """The keys in their order, from `start` on, of those that begin with `prefix`, each with its value."""
+        """The same keys as `keys_from`, each with its value."""
         keys = self.keys_from(start, prefix=prefix, namespace=namespace)
         for key, value in self._values_of(keys, namespace):
             if value is not None:  # else it was deleted meanwhile
                 yield key, value
 
-    def prefix(self, prefix: Bytes, *, namespace: Optional[int] = None) -> Iterator[Tuple[bytes, bytes]]:
+    def prefix(
+        self, prefix: Bytes, *, namespace: Optional[int] = None
+    ) -> Iterator[Tuple[bytes, bytes]]:
         """The keys that begin with these bytes, in their order, each with its value."""
         return self.items_from(prefix=prefix, namespace=namespace)
 
     def first(
         self, start: Bytes = b"", *, prefix: Bytes = b"", namespace: Optional[int] = None
     ) -> Optional[Tuple[bytes, bytes]]:
-        """The first key from `start` on, of those that begin with `prefix`, with its value; None if there is none."""
+        """The first key of `keys_from`, with its value; None if there is none."""
         front = _bytes(prefix)
         at = max(_bytes(start), front)
         while True:

@@ -219,7 +219,8 @@ def _first_lost(images: Tuple[str, str], error: DriveEnded, shape: Shape) -> Dri
     first, second = images
     away = f"move {first} away, then " if os.path.exists(first) else ""
     make = f"make({first!r}, {', '.join(map(str, shape))})"
-    error.hint = f"the drive that is left is {second}, so name it first: {away}{make}, then Mirror({second!r}, {first!r}).resync()"
+    resync = f"Mirror({second!r}, {first!r}).resync()"
+    error.hint = f"the drive that is left is {second}, so name it first: {away}{make}, then {resync}"
     return error
 
 

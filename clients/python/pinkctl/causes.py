@@ -125,7 +125,7 @@ def space_cause(path: str) -> Optional[Cause]:
         return None
     if system.f_bavail * system.f_frsize >= LEAST_FREE_BYTES:
         return None
-    return Cause(Kind.SPACE, f"no space is left on the disk of {path}")
+    return Cause(Kind.SPACE, f"there is no space left on the disk of {path}")
 
 
 def flash_cause(path: str, making: bool = False) -> Optional[Cause]:
