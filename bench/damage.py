@@ -41,6 +41,11 @@ class Drive(NamedTuple):
     body: dict
 
 
+def in_first(key):
+    """A key of the first namespace, as the reader has it."""
+    return image.Key(1, key)
+
+
 def session(path, draw, keys, longest, stored, held):
     with program.open_drive(path, 36) as d:
         for _ in range(draw.randrange(30, 200)):
@@ -52,10 +57,10 @@ def session(path, draw, keys, longest, stored, held):
                     d.store(key, value)
                 except pinkdrive.CapacityExceeded:
                     continue
-                stored[key].add(value)
-                held[key] = value
+                stored[in_first(key)].add(value)
+                held[in_first(key)] = value
             elif chance < 0.88:
-                if held.pop(key, None) is not None:
+                if held.pop(in_first(key), None) is not None:
                     d.delete(key)
             else:
                 d.tick(draw.choice([1, 5, 30]))
@@ -125,10 +130,10 @@ def changed(drive, place, draw):
     return bytes(data), at
 
 
-def differs(drive, verdict, at):
+def differs(drive, data, verdict, at):
     """Whether the map of an image differs from the drive's, but for values whose own bytes were changed."""
     own = {drive.body[it] for it in at if it in drive.body}
-    it, flash = verdict.image, verdict.flash
+    it, flash = image.load_image(data), verdict.flash
     values = {key: image.value_of(it, flash.layout, place) for key, place in flash.map.items()}
     return {k: v for k, v in values.items() if k not in own} != {k: v for k, v in drive.map.items() if k not in own}
 
@@ -155,7 +160,7 @@ def never_stored(drive, data, at):
 
 
 def say(at, it):
-    return ", ".join(f"byte {place} of {it.place_of(place)}" for place in sorted(at))
+    return ", ".join(f"byte {place}, of page {(place - it.first) // it.shape.page_bytes}" for place in sorted(at))
 
 
 class Trial:
@@ -184,7 +189,7 @@ class Trial:
             self.counts["agree with pinkdump"] += 1
         elif "not built" not in verdict.compared and verdict.name != "unknown":
             self.fail(drive, data, at, f"compared: {verdict.compared}: {verdict.text}")
-        if verdict.flash and verdict.flash.opens and differs(drive, verdict, at):
+        if verdict.flash and verdict.flash.opens and differs(drive, data, verdict, at):
             self.counts["open with another map"] += 1
             if verdict.name == "whole" and not touches_run(drive, at):
                 self.fail(drive, data, at, "check says whole, and the map differs")
@@ -222,7 +227,7 @@ class Trial:
             finally:
                 sys.stdout = out
         with program.open_drive(new) as d:
-            got = dict(d.items_from())
+            got = {in_first(key): value for key, value in d.items_from()}
         with open(path, "rb") as file:
             same = file.read() == data
         os.remove(new)

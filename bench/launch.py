@@ -210,6 +210,7 @@ def pairs(folder, image):
     says(['mirror', junk, image, 'list'], 8, f'junk (5 bytes) is no image of a drive; {left}move {junk} away, then pink {junk} make')
     says(['mirror', image, small, 'list'], 8, 'the drives have different shapes')
     says(['mirror', image, folder, 'list'], 6, 'is a folder')
+    says(['mirror', image, f'{folder}/./{os.path.basename(image)}', 'list'], 6, 'both images are one file')
     launcher, program = serving(other)
     says([*pair, 'list'], 6, f'{other} is in use by process {program} (')
     launcher.stdin.close()

@@ -198,6 +198,7 @@ pair_fault() { # STATUS IMAGE IMAGE WORDS..: prints nothing if it has no more to
             pair_words_fault "$@"
             ;;
         6)
+            if [ "$2" -ef "$3" ]; then echo "both images are one file: $2 and $3" && return; fi
             fault=$(seen 6 "$2" mirror || open_fault "$2" list)
             [ -n "$fault" ] || fault=$(seen 6 "$3" mirror || open_fault "$3" list)
             echo "${fault:-a read or write of an image failed, or another process had it open}"

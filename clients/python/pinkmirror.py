@@ -193,6 +193,8 @@ def _pair_ended(status: int, images: Tuple[str, str]) -> DriveEnded:
         return DriveEnded(status, f"the images are {images[0]} and {images[1]}, which is one twice")
     if status == 10:
         return DriveEnded(status, "a drive of the pair is worn")
+    if status == 6 and all(map(os.path.exists, images)) and os.path.samefile(*images):
+        return DriveEnded(status, f"both images are one file: {images[0]} and {images[1]}")
     if status == 6:
         return ended(status, next((it for it in images if cause_of(6, it)), images[0]))
     return _no_drive(images) if status == 8 else ended(status, images[0])

@@ -107,6 +107,8 @@ class Mapping(OnPair):
         with self.assertRaises(DriveEnded) as caught:
             Mirror("b.img", "b.img", program=PROGRAM).resync()
         self.assertEqual(caught.exception.status, 2)
+        with self.assertRaisesRegex(DriveEnded, "both images are one file: b.img and ./b.img"):
+            Mirror("b.img", "./b.img", program=PROGRAM).resync()
 
     def test_a_value_too_long_for_a_word(self):
         with self.assertRaises(ValueError):

@@ -3,9 +3,8 @@ use Rattle.std.proofs.Common.{◌≡◌, ◌⊎◌, inl, inr, ℕ, zero, suc, �
 use Rattle.std.specs.Prelude.{Result, Ok, Err, OnOk, OnErr}
 use Rattle.pk_base.specs.Shape.{Shape}
 use Rattle.pk_nand.{specs.BoardState.BoardState, specs.Calls.Rose, specs.Operations.after_read, specs.Operations.ReadFailed, specs.Counts.after_reads, specs.declared.types.NandFault.NandFault}
-use Rattle.pk_remap.{specs.declared.image.Image.Image, specs.declared.phase.Phase.Phase, specs.declared.relocation.Relocation.Relocation as InMemory, specs.Stepping.OneCall, specs.Stepping.one_read}
-use Rattle.pk_remap.specs.declared.phase.Phase.TheVariants.{EraseSpare, Read, Write, EraseTable, First, Second}
-use Rattle.pk_remap.{specs.Remapped.is_sure, specs.Remapped.TableIsFound, specs.Running.phase_rank, specs.Running.relocation_steps_left, specs.Serving.PartnerKept, specs.Serving.PartnerOutcome, specs.Counting.ServeCounts}
+use Rattle.pk_remap.{specs.declared.image.Image.Image, specs.declared.relocation.Relocation.Relocation as InMemory, specs.Stepping.OneCall, specs.Stepping.one_read}
+use Rattle.pk_remap.{specs.Remapped.is_sure, specs.Remapped.TableIsFound, specs.Running.relocation_steps_left, specs.Running.steps_of_spare, proofs.Running.rank_some, specs.Serving.PartnerKept, specs.Serving.PartnerOutcome, specs.Counting.ServeCounts}
 use Rattle.pk_remap.specs.MostCalls.{CallsMade, AtMostCalls, search_calls, find_calls, relocation_calls, CallsUnlessMoved}
 
 pub calls_none : (n : ℕ) (old new : BoardState) → new ≡ old → AtMostCalls n old new
@@ -76,30 +75,34 @@ pub record CalledSoFar (r : InMemory) (old : BoardState) (r' : InMemory) (new : 
 pub called_none : (r : InMemory) (old : BoardState) → CalledSoFar r old r old
 called_none r old = record { count = 0; left = omega arith; made = refl }
 
-rank_some : (p : Phase) → 1 ≤ phase_rank p
-rank_some EraseSpare = omega arith
-rank_some (Read k) = omega arith
-rank_some (Write k) = omega arith
-rank_some EraseTable = omega arith
-rank_some (First k) = omega arith
-rank_some (Second k) = omega arith
-
 module _ (r : InMemory) (old : BoardState) (r1 : InMemory) (mid : BoardState) (far : CalledSoFar r old r1 mid) (new : BoardState) (call : OneCall mid new) where
   pub called_more : (r2 : InMemory) → relocation_steps_left r2 < relocation_steps_left r1 → CalledSoFar r old r2 new
   called_more r2 fewer = record { count = suc far.count; left = (let left = far.left in omega (arith, left, fewer)); made = (mid, far.made, call) }
 
   pub called_last : AtMostCalls (relocation_steps_left r) old new
-  called_last = (suc far.count, (let left = far.left in let some = rank_some r1.phase in omega (arith, left, some)), (mid, far.made, call))
+  called_last = (suc far.count, (let left = far.left in let some = rank_some r1.shape.block_pages r1.phase in omega (arith, left, some)), (mid, far.made, call))
 
 -- ---- programs and erases
 
 -- the same, after some calls of which no program and no erase failed
-pub moved_after : (n m left : ℕ) (a b c : BoardState) → b.stop_faults ≡ a.stop_faults → AtMostCalls n a b → CallsUnlessMoved m left b c → CallsUnlessMoved (n + m) left a c
-moved_after n m left a b c stops first (inl few) = inl (calls_then n m a b c first few)
-moved_after n m left a b c stops first (inr (rose, many)) = inr (
+pub moved_after : (n m more : ℕ) (a b c : BoardState) → b.stop_faults ≡ a.stop_faults → AtMostCalls n a b → CallsUnlessMoved m more b c → CallsUnlessMoved (n + m) more a c
+moved_after n m more a b c stops first (inl few) = inl (calls_then n m a b c first few)
+moved_after n m more a b c stops first (inr (rose, many)) = inr (
   (let P : ℕ → Type 0 = λ x. Rose x c.stop_faults in subst P stops rose),
-  calls_more (n + (m + relocation_calls left)) (n + m + relocation_calls left) a c (omega arith) (calls_then n (m + relocation_calls left) a b c first many),
+  calls_more (n + (m + more)) (n + m + more) a c (omega arith) (calls_then n (m + more) a b c first many),
 )
+
+-- the steps of a relocation that begins
+one_spare : (m c : ℕ) → m * c + c ≤ suc m * c
+one_spare m c = omega arith
+
+pub steps_fit : (shape : Shape) (spares taken : ℕ) → taken < spares
+    → (spares - suc taken) * steps_of_spare shape.block_pages + steps_of_spare shape.block_pages ≤ relocation_calls shape (spares - taken)
+steps_fit shape spares taken less =
+    let c = steps_of_spare shape.block_pages in
+    let e : spares - taken ≡ suc (spares - suc taken) = omega (arith, less) in
+    let T : ℕ → Type 0 = λ x. (spares - suc taken) * c + c ≤ x * c in
+    subst T (sym e) (one_spare (spares - suc taken) c)
 
 serve_stops : (r : InMemory) (old : BoardState) (result : Result Unit NandFault) (r' : InMemory) (new : BoardState) → ServeCounts r old result r' new
     → (new.stop_faults ≡ old.stop_faults) ⊎ Rose old.stop_faults new.stop_faults
@@ -111,31 +114,34 @@ rose_on a b c rose (inl same) = let P : ℕ → Type 0 = λ x. Rose a x in subst
 rose_on a b c rose (inr more) = omega (arith, rose, more)
 
 -- a call failed, and a relocation served it
-pub moved_by : (left : ℕ) (a b c : BoardState) (r : InMemory) (result : Result Unit NandFault) (r' : InMemory) → OneCall a b → Rose a.stop_faults b.stop_faults
-    → ServeCounts r b result r' c → AtMostCalls (relocation_calls left) b c → CallsUnlessMoved 1 left a c
-moved_by left a b c r result r' call rose counts served = inr (
+pub moved_by : (more : ℕ) (a b c : BoardState) (r : InMemory) (result : Result Unit NandFault) (r' : InMemory) → OneCall a b → Rose a.stop_faults b.stop_faults
+    → ServeCounts r b result r' c → AtMostCalls more b c → CallsUnlessMoved 1 more a c
+moved_by more a b c r result r' call rose counts served = inr (
   rose_on a.stop_faults b.stop_faults c.stop_faults rose (serve_stops r b result r' c counts),
-  calls_then 1 (relocation_calls left) a b c (calls_one a b call) served,
+  calls_then 1 more a b c (calls_one a b call) served,
 )
 
 -- the first page of the pair was read, or no page
 module _ (r : InMemory) (page : ℕ) (old : BoardState) (r1 : InMemory) (mid : BoardState) where
-  pub moved_partner : PartnerKept r page old r1 mid → (new : BoardState) → CallsUnlessMoved 1 (r1.spares - r1.taken) mid new → CallsUnlessMoved 2 (r.spares - r.taken) old new
+  pub moved_partner : PartnerKept r page old r1 mid → (new : BoardState) → CallsUnlessMoved 1 (relocation_calls r1.shape (r1.spares - r1.taken)) mid new
+      → CallsUnlessMoved 2 (relocation_calls r.shape (r.spares - r.taken)) old new
   moved_partner kept new own =
-      let same : r1.spares - r1.taken ≡ r.spares - r.taken = ap (λ (x : InMemory). x.spares - x.taken) kept.others in
-      let T : ℕ → Type 0 = λ left. CallsUnlessMoved 1 left mid new in
+      let most : ℕ = relocation_calls r.shape (r.spares - r.taken) in
+      let same : relocation_calls r1.shape (r1.spares - r1.taken) ≡ most = ap (λ (x : InMemory). relocation_calls x.shape (x.spares - x.taken)) kept.others in
+      let T : ℕ → Type 0 = λ more. CallsUnlessMoved 1 more mid new in
       elim kept.board [
-        | inl none ↦ moved_after 1 1 (r.spares - r.taken) old mid new (ap (λ s. s.stop_faults) none) (calls_none 1 old mid none) (subst T same own)
-        | inr read ↦ moved_after 1 1 (r.spares - r.taken) old mid new (ap (λ s. s.stop_faults) read) (calls_one old mid (one_read 0 (inl read))) (subst T same own)
+        | inl none ↦ moved_after 1 1 most old mid new (ap (λ s. s.stop_faults) none) (calls_none 1 old mid none) (subst T same own)
+        | inr read ↦ moved_after 1 1 most old mid new (ap (λ s. s.stop_faults) read) (calls_one old mid (one_read 0 (inl read))) (subst T same own)
       ]
 
-  pub partner_lost : (at : ℕ) → ReadFailed old mid at → CallsUnlessMoved 2 (r.spares - r.taken) old mid
+  pub partner_lost : (at : ℕ) → ReadFailed old mid at → CallsUnlessMoved 2 (relocation_calls r.shape (r.spares - r.taken)) old mid
   partner_lost at failed = inl (calls_more 1 2 old mid (omega arith) (calls_one old mid (one_read at (inr failed))))
 
 -- after the search for the newest table
 pub moved_found : (n m : ℕ) (work : InMemory) (old : BoardState) (image' : Image) (w : InMemory) (mid new : BoardState) → TableIsFound work old image' w mid → AtMostCalls n old mid
-    → CallsUnlessMoved m (w.spares - w.taken) mid new → CallsUnlessMoved (n + m) (work.spares - work.taken) old new
+    → CallsUnlessMoved m (relocation_calls w.shape (w.spares - w.taken)) mid new → CallsUnlessMoved (n + m) (relocation_calls work.shape (work.spares - work.taken)) old new
 moved_found n m work old image' w mid new found first own =
-    let same : w.spares - w.taken ≡ work.spares - work.taken = (λ i. found.same.spares i - found.same.taken i) in
-    let T : ℕ → Type 0 = λ left. CallsUnlessMoved m left mid new in
-    moved_after n m (work.spares - work.taken) old mid new found.no_fault.2 first (subst T same own)
+    let same : relocation_calls w.shape (w.spares - w.taken) ≡ relocation_calls work.shape (work.spares - work.taken) =
+    (λ i. relocation_calls (found.same.shape i) (found.same.spares i - found.same.taken i)) in
+    let T : ℕ → Type 0 = λ more. CallsUnlessMoved m more mid new in
+    moved_after n m (relocation_calls work.shape (work.spares - work.taken)) old mid new found.no_fault.2 first (subst T same own)

@@ -10,7 +10,7 @@ use Rattle.pk_remap.{specs.declared.layout.TheConstants.MOST_SPARES, specs.decla
 use Rattle.pk_remap.specs.declared.phase.Phase.TheVariants.{EraseSpare, Read, Write, EraseTable, First, Second}
 use Rattle.pk_remap.specs.Relocating.{Relocation, block, copies_of, fill_of, spare_block, spare_page, next_table, IsSpareFilled, IsSpareFull, IsRelocating, IsTop, SameTables, IsNextPair}
 use Rattle.pk_remap.specs.Stepping.{WentSafely, RelocationGoesOn, IsSource, IsOtherTable, SpareFailed}
-use Rattle.pk_remap.specs.Running.{mark_of, is_program, relocation_of, copies, is_kept, bytes_for, next_after, with_table, table_phase, phase_after, phase_rank, relocation_steps_left, IsTableHalf}
+use Rattle.pk_remap.specs.Running.{mark_of, is_program, relocation_of, copies, is_kept, bytes_for, next_after, with_table, table_phase, phase_after, steps_of_spare, phase_rank, relocation_steps_left, IsTableHalf}
 use Rattle.pk_remap.specs.Running.{AtPhase, HasPageBuffers, HasTurn, RelocationRuns, SameCall, NoReadFailed, RelocationStops, StepOutcome, reading, in_table, no_spare, torn}
 use Rattle.pk_remap.proofs.Cutting.{none_cut, block_inside, next_grammar}
 use Rattle.pk_remap.proofs.Turning.{block_of_table, next_kept, next_pair, erased_pair, second_order, following_pair}
@@ -130,19 +130,34 @@ module _ (r : InMemory) (before flash : Flash) (serving : IsRelocating (relocati
 
 -- ---- how many steps remain
 
-rank_table : (next : Option ℕ) → phase_rank (table_phase next) ≤ 3
-rank_table None = omega arith
-rank_table (Some pair) = omega arith
+rank_table : (n : ℕ) (next : Option ℕ) → phase_rank n (table_phase next) ≤ 3
+rank_table n None = omega arith
+rank_table n (Some pair) = omega arith
 
-rank_cases : (s t u : Bool) (k : ℕ) (next : Option ℕ) → k ≤ 256
-    → phase_rank (if s then (if t then Write k else Read k) else if u then Write k else table_phase next) ≤ 2 * (257 - k) + 3
-rank_cases true true u k next few = omega arith
-rank_cases true false u k next few = omega arith
-rank_cases false t true k next few = omega arith
-rank_cases false t false k next few = let most = rank_table next in omega (arith, most)
+rank_cases : (n : ℕ) (s t u : Bool) (k : ℕ) (next : Option ℕ)
+    → phase_rank n (if s then (if t then Write k else Read k) else if u then Write k else table_phase next) ≤ 2 * (n - k) + 3
+rank_cases n true true u k next = omega arith
+rank_cases n true false u k next = omega arith
+rank_cases n false t true k next = omega arith
+rank_cases n false t false k next = let most = rank_table n next in omega (arith, most)
 
-rank_after : (r : InMemory) (k : ℕ) → k ≤ 256 → phase_rank (phase_after r k) ≤ 2 * (257 - k) + 3
-rank_after r k few = rank_cases (nat_lt k (copies r)) (is_kept r k) (is_program r.call && (k == copies r)) k r.next few
+rank_after : (r : InMemory) (k : ℕ) → phase_rank r.shape.block_pages (phase_after r k) ≤ 2 * (r.shape.block_pages - k) + 3
+rank_after r k = rank_cases r.shape.block_pages (nat_lt k (copies r)) (is_kept r k) (is_program r.call && (k == copies r)) k r.next
+
+pub rank_some : (n : ℕ) (p : Phase) → 1 ≤ phase_rank n p
+rank_some n EraseSpare = omega arith
+rank_some n (Read k) = omega arith
+rank_some n (Write k) = omega arith
+rank_some n EraseTable = omega arith
+rank_some n (First k) = omega arith
+rank_some n (Second k) = omega arith
+
+less_behind : (a b c : ℕ) → b < c → a + b < a + c
+less_behind a b c less = omega (arith, less)
+
+-- with one spare fewer
+spare_fewer : (m c rank : ℕ) → 1 ≤ rank → m * c + c < suc m * c + rank
+spare_fewer m c rank some = omega (arith, some)
 
 -- ---- steps
 
@@ -218,8 +233,20 @@ module _ (r : InMemory) (before : Flash) (old : BoardState) (runs : RelocationRu
   }
 
   -- with another phase of a lower rank
-  lower : (phase next : Phase) → r.phase ≡ phase → phase_rank next < phase_rank phase → (r.spares - r.taken) * 1024 + phase_rank next < relocation_steps_left r
-  lower phase next is less = let same : phase_rank r.phase ≡ phase_rank phase = ap phase_rank is in omega (arith, same, less)
+  lower : (phase next : Phase) → r.phase ≡ phase → phase_rank r.shape.block_pages next < phase_rank r.shape.block_pages phase
+      → (r.spares - suc r.taken) * steps_of_spare r.shape.block_pages + phase_rank r.shape.block_pages next < relocation_steps_left r
+  lower phase next is less =
+      let n = r.shape.block_pages in
+      let T : Phase → Type 0 = λ p. phase_rank n next < phase_rank n p in
+      less_behind ((r.spares - suc r.taken) * steps_of_spare n) (phase_rank n next) (phase_rank n r.phase) (subst T (sym is) less)
+
+  next_fewer : r.taken + 1 < r.spares → relocation_steps_left (record r { taken = r.taken + 1; phase = EraseSpare }) < relocation_steps_left r
+  next_fewer room =
+      let n = r.shape.block_pages in
+      let m : ℕ = r.spares - suc (r.taken + 1) in
+      let e : r.spares - suc r.taken ≡ suc m = omega (arith, room) in
+      let T : ℕ → Type 0 = λ x. m * steps_of_spare n + steps_of_spare n < x * steps_of_spare n + phase_rank n r.phase in
+      subst T (sym e) (spare_fewer m (steps_of_spare n) (phase_rank n r.phase) (rank_some n r.phase))
 
   -- with the next spare
   pub next_spare : (new : BoardState) → SpareFailed (relocation_of r) before old new → r.taken + 1 < r.spares
@@ -233,7 +260,7 @@ module _ (r : InMemory) (before : Flash) (old : BoardState) (runs : RelocationRu
       turn = turn_kept new.pages failed.tables;
       room = runs.room;
     },
-    omega (arith, room),
+    next_fewer room,
     same_next,
     refl,
     record { reads = failed.reads; stops = inr failed.stop },
@@ -253,7 +280,7 @@ module _ (r : InMemory) (before : Flash) (old : BoardState) (runs : RelocationRu
         went old new _ own.cuts,
         again (phase_after r 0) new own.goes_on own.tables
             (phase_after_fits r before new.pages own.goes_on.serving own.top (turn_kept new.pages own.tables) runs.partner 0 own.filled (omega arith)),
-        lower EraseSpare (phase_after r 0) phase (let most = rank_after r 0 (omega arith) in omega (arith, most)),
+        lower EraseSpare (phase_after r 0) phase (let most = rank_after r 0 in omega (arith, most)),
         same_phase (phase_after r 0) r.next,
         refl,
         none_failed new (ap (λ s. s.read_faults) is) (ap (λ s. s.stop_faults) is),
@@ -269,14 +296,13 @@ module _ (r : InMemory) (before : Flash) (old : BoardState) (runs : RelocationRu
   page_written k phase less new is =
       let s = stands_in (Write k) phase in
       let own = writes_page (relocation_of r) before k (bytes_for r k) old new runs.goes_on s.0 less s.1 s.3 is in
-      let few = s.2 in
-      let block_most = runs.goes_on.serving.shape_is.block_most in (
+      let few = s.2 in (
         went old new _ own.cuts,
         again (phase_after r (suc k)) new own.goes_on own.tables
             (phase_after_fits r before new.pages own.goes_on.serving own.top
             (turn_kept new.pages own.tables) runs.partner (suc k) own.filled (omega (arith, few))),
         lower (Write k) (phase_after r (suc k)) phase
-            (let most = rank_after r (suc k) (omega (arith, less, block_most)) in omega (arith, most, less, block_most)),
+            (let most = rank_after r (suc k) in omega (arith, most, less)),
         same_phase (phase_after r (suc k)) r.next,
         refl,
         none_failed new (ap (λ s. s.read_faults) is) (ap (λ s. s.stop_faults) is),

@@ -2,7 +2,7 @@
 use Rattle.std.specs.Prelude.{◌≡◌, ◌⊎◌, ℕ, zero, suc, ◌+◌, ◌*◌, ◌≤◌, Bool, true, false}
 use Rattle.pk_base.specs.Shape.{Shape}
 use Rattle.pk_nand.{specs.BoardState.BoardState, specs.Calls.Rose}
-use Rattle.pk_remap.{specs.declared.image.Image.Image, specs.Stepping.OneCall, specs.Remapped.is_sure}
+use Rattle.pk_remap.{specs.declared.image.Image.Image, specs.Stepping.OneCall, specs.Remapped.is_sure, specs.Running.steps_of_spare}
 
 -- n calls one after another, each done or failed
 abbrev pub CallsMade : ℕ → BoardState → BoardState → Type 0
@@ -21,10 +21,10 @@ search_calls true shape = 0
 abbrev pub find_calls : Image → Shape → ℕ
 find_calls image shape = search_calls (is_sure image) shape
 
--- the calls of a relocation, if so many spares are left: 600 for the spare that serves the block, and 1,024 for each one that may fail
-abbrev pub relocation_calls : ℕ → ℕ
-relocation_calls left = left * 1024 + 600
+-- the most calls of a relocation, if so many spares are left: each may fail, up to the last
+abbrev pub relocation_calls : Shape → ℕ → ℕ
+relocation_calls shape left = left * steps_of_spare shape.block_pages
 
--- At most n calls; or a program or an erase failed, and besides there were at most those of a relocation.
+-- At most n calls; or a program or an erase failed, and then at most so many more.
 abbrev pub CallsUnlessMoved : ℕ → ℕ → BoardState → BoardState → Type 0
-CallsUnlessMoved n left old new = AtMostCalls n old new ⊎ (Rose old.stop_faults new.stop_faults × AtMostCalls (n + relocation_calls left) old new)
+CallsUnlessMoved n more old new = AtMostCalls n old new ⊎ (Rose old.stop_faults new.stop_faults × AtMostCalls (n + more) old new)

@@ -145,18 +145,22 @@ pub data RelocationStops (r : InMemory) (old : BoardState) (r' : InMemory) (new 
   no_spare : Rose old.stop_faults new.stop_faults → r.spares ≤ r'.taken → RelocationStops r old r' new
   torn : (k : ℕ) → r.phase ≡ Read k → page_at old.pages (placed_page r.shape (relocation_of r).table (block (relocation_of r) * r.shape.block_pages + k)) ≡ torn_page → new.pages ≡ old.pages → RelocationStops r old r' new
 
+-- the most steps with one spare, in blocks of n pages: its erase, a read and a program of each page, and three calls for the table
+abbrev pub steps_of_spare : ℕ → ℕ
+steps_of_spare n = 2 * n + 4
+
 -- how far a phase is from the end
-abbrev pub phase_rank : Phase → ℕ
-phase_rank EraseSpare = 600
-phase_rank (Read k) = 2 * (257 - k) + 3
-phase_rank (Write k) = 2 * (257 - k) + 2
-phase_rank EraseTable = 3
-phase_rank (First pair) = 2
-phase_rank (Second pair) = 1
+abbrev pub phase_rank : ℕ → Phase → ℕ
+phase_rank n EraseSpare = steps_of_spare n
+phase_rank n (Read k) = 2 * (n - k) + 3
+phase_rank n (Write k) = 2 * (n - k) + 2
+phase_rank n EraseTable = 3
+phase_rank n (First pair) = 2
+phase_rank n (Second pair) = 1
 
 -- most steps that remain
 abbrev pub relocation_steps_left : InMemory → ℕ
-relocation_steps_left r = (r.spares - r.taken) * 1024 + phase_rank r.phase
+relocation_steps_left r = (r.spares - suc r.taken) * steps_of_spare r.shape.block_pages + phase_rank r.shape.block_pages r.phase
 
 -- What a step does. Its one call may have failed in each case, so the board is at a cut of its mark.
 abbrev pub StepOutcome : InMemory → Flash → BoardState → Result Bool NandFault → InMemory → BoardState → Type 0

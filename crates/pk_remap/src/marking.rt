@@ -8,7 +8,7 @@ ghost use Rattle.pk_nand.specs.Operations.{InOrder};
 ghost use Rattle.pk_remap.specs.Logged.{told, HasLogRoom};
 ghost use Rattle.pk_remap.specs.Remapped.{is_open as is_open_image, outer_pages, with_stop};
 ghost use Rattle.pk_remap.specs.Causes.{MarkMade};
-ghost use Rattle.pk_remap.specs.MostCalls.{find_calls, CallsUnlessMoved};
+ghost use Rattle.pk_remap.specs.MostCalls.{find_calls, CallsUnlessMoved, relocation_calls};
 
 use crate::remap::Remap;
 use pk_nand::{Nand, NandFault};
@@ -30,8 +30,8 @@ impl<N: Nand> Remap<N> {
         ensures made { MarkMade self.old.work (program page bytes.now) (N.state self.old.inner)
             result self.new.work (N.state self.new.inner) }
         ensures calls { CallsUnlessMoved (find_calls self.old.image self.old.work.shape + 2)
-            (self.old.work.spares - self.old.work.taken) (N.state self.old.inner)
-            (N.state self.new.inner) }
+            (relocation_calls self.old.work.shape (self.old.work.spares - self.old.work.taken))
+            (N.state self.old.inner) (N.state self.new.inner) }
         ensures opened { is_open_image self.new.image ≡ true }
         ensures told { told self.new.log ≡ longer (told self.old.log) (program page bytes.now ∷ []) }
         ensures ok { OnOk result (self.new.counts ≡ self.old.counts) }
@@ -55,8 +55,8 @@ impl<N: Nand> Remap<N> {
         ensures made { MarkMade self.old.work (erase block) (N.state self.old.inner) result
             self.new.work (N.state self.new.inner) }
         ensures calls { CallsUnlessMoved (find_calls self.old.image self.old.work.shape + 1)
-            (self.old.work.spares - self.old.work.taken) (N.state self.old.inner)
-            (N.state self.new.inner) }
+            (relocation_calls self.old.work.shape (self.old.work.spares - self.old.work.taken))
+            (N.state self.old.inner) (N.state self.new.inner) }
         ensures opened { is_open_image self.new.image ≡ true }
         ensures told { told self.new.log ≡ longer (told self.old.log) (erase block ∷ []) }
         ensures ok { OnOk result (self.new.counts ≡ self.old.counts) }

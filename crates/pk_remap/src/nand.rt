@@ -15,7 +15,7 @@ ghost use Rattle.pk_remap.specs.Logged.{HasLogRoom};
 ghost use Rattle.pk_remap.specs.Remapped.{remap_board, is_open as is_open_image, spares_left as spares_left_of};
 ghost use Rattle.pk_remap.specs.Causes.{LoadCause, MakeCause, StopCause, SparesFallBy, IsRefused};
 ghost use Rattle.pk_remap.specs.Loading.{LoadsInner, HoldsOuter, OpensOuter, MakesInner};
-ghost use Rattle.pk_remap.specs.MostCalls.{AtMostCalls, find_calls, CallsUnlessMoved};
+ghost use Rattle.pk_remap.specs.MostCalls.{AtMostCalls, find_calls, CallsUnlessMoved, relocation_calls};
 
 use crate::image::Image;
 use crate::remap::Remap;
@@ -142,8 +142,8 @@ impl<N: Nand> Nand for Remap<N> {
         ensures passes { PassesCalls (MayShow self.old.work.shape self.old.work.spares
             (⟦<Remap<N> as Nand>⟧.state self.old).pages (program page bytes.now)) (N.state self.old.inner) (N.state self.new.inner) }
         ensures calls { CallsUnlessMoved (find_calls self.old.image self.old.work.shape + 2)
-            (spares_left_of self.old.image self.old.work) (N.state self.old.inner)
-            (N.state self.new.inner) }
+            (relocation_calls self.old.work.shape (spares_left_of self.old.image self.old.work))
+            (N.state self.old.inner) (N.state self.new.inner) }
         ensures spares { self.new.work.spares ≡ self.old.work.spares }
 
         ensures noted { OnErr result (IsRefused self.old.log (length bytes.now) (N.state self.old.inner)
@@ -183,8 +183,8 @@ impl<N: Nand> Nand for Remap<N> {
         ensures passes { PassesCalls (MayShow self.old.work.shape self.old.work.spares
             (⟦<Remap<N> as Nand>⟧.state self.old).pages (erase block)) (N.state self.old.inner) (N.state self.new.inner) }
         ensures calls { CallsUnlessMoved (find_calls self.old.image self.old.work.shape + 1)
-            (spares_left_of self.old.image self.old.work) (N.state self.old.inner)
-            (N.state self.new.inner) }
+            (relocation_calls self.old.work.shape (spares_left_of self.old.image self.old.work))
+            (N.state self.old.inner) (N.state self.new.inner) }
         ensures spares { self.new.work.spares ≡ self.old.work.spares }
 
         ensures noted { OnErr result (IsRefused self.old.log 0 (N.state self.old.inner)

@@ -12,7 +12,7 @@ ghost use Rattle.pk_remap.specs.Serving.{outer_of, OuterOutcome};
 ghost use Rattle.pk_remap.specs.Counting.{OuterCounts};
 ghost use Rattle.pk_remap.specs.Remapped.{is_open as is_open_image, outer_pages, SameTaken};
 ghost use Rattle.pk_remap.specs.Causes.{MarkMade};
-ghost use Rattle.pk_remap.specs.MostCalls.{AtMostCalls, find_calls, CallsUnlessMoved};
+ghost use Rattle.pk_remap.specs.MostCalls.{AtMostCalls, find_calls, CallsUnlessMoved, relocation_calls};
 
 use crate::image::Image;
 use crate::remap::Remap;
@@ -63,8 +63,8 @@ impl<N: Nand> Remap<N> {
         ensures made { MarkMade self.old.work (program page bytes.now) (N.state self.old.inner)
             result self.new.work (N.state self.new.inner) }
         ensures calls { CallsUnlessMoved (find_calls self.old.image self.old.work.shape + 2)
-            (self.old.work.spares - self.old.work.taken) (N.state self.old.inner)
-            (N.state self.new.inner) }
+            (relocation_calls self.old.work.shape (self.old.work.spares - self.old.work.taken))
+            (N.state self.old.inner) (N.state self.new.inner) }
         ensures opened { is_open_image self.new.image ≡ true }
         ensures log { self.new.log ≡ self.old.log }
         ensures counts { self.new.counts ≡ self.old.counts }
@@ -86,8 +86,9 @@ impl<N: Nand> Remap<N> {
             self.new.work (N.state self.new.inner) }
         ensures taken { OuterCounts self.old.work (N.state self.old.inner) result self.new.work
             (N.state self.new.inner) }
-        ensures calls { CallsUnlessMoved 2 (self.old.work.spares - self.old.work.taken)
-            (N.state self.old.inner) (N.state self.new.inner) }
+        ensures calls { CallsUnlessMoved 2 (relocation_calls self.old.work.shape
+            (self.old.work.spares - self.old.work.taken)) (N.state self.old.inner)
+            (N.state self.new.inner) }
         ensures opened { is_open_image self.new.image ≡ true }
         ensures log { self.new.log ≡ self.old.log }
         ensures counts { self.new.counts ≡ self.old.counts }
@@ -109,8 +110,8 @@ impl<N: Nand> Remap<N> {
         ensures made { MarkMade self.old.work (erase block) (N.state self.old.inner) result
             self.new.work (N.state self.new.inner) }
         ensures calls { CallsUnlessMoved (find_calls self.old.image self.old.work.shape + 1)
-            (self.old.work.spares - self.old.work.taken) (N.state self.old.inner)
-            (N.state self.new.inner) }
+            (relocation_calls self.old.work.shape (self.old.work.spares - self.old.work.taken))
+            (N.state self.old.inner) (N.state self.new.inner) }
         ensures opened { is_open_image self.new.image ≡ true }
         ensures log { self.new.log ≡ self.old.log }
         ensures counts { self.new.counts ≡ self.old.counts }
@@ -129,8 +130,9 @@ impl<N: Nand> Remap<N> {
             self.new.work (N.state self.new.inner) }
         ensures taken { OuterCounts self.old.work (N.state self.old.inner) result self.new.work
             (N.state self.new.inner) }
-        ensures calls { CallsUnlessMoved 1 (self.old.work.spares - self.old.work.taken)
-            (N.state self.old.inner) (N.state self.new.inner) }
+        ensures calls { CallsUnlessMoved 1 (relocation_calls self.old.work.shape
+            (self.old.work.spares - self.old.work.taken)) (N.state self.old.inner)
+            (N.state self.new.inner) }
         ensures opened { is_open_image self.new.image ≡ true }
         ensures log { self.new.log ≡ self.old.log }
         ensures counts { self.new.counts ≡ self.old.counts }

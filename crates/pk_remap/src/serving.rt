@@ -13,7 +13,7 @@ ghost use Rattle.pk_remap.specs.declared.layout.TheConstants.{MOST_SPARES};
 ghost use Rattle.pk_remap.specs.Places.{inner_shape, placed_page};
 ghost use Rattle.pk_remap.specs.Counting.{SearchFailed, UsesOnlyTaken, ServeCounts, OuterCounts};
 ghost use Rattle.pk_remap.specs.Running.{relocation_of, RelocationRuns, IsAtRest, relocation_steps_left};
-ghost use Rattle.pk_remap.specs.MostCalls.{AtMostCalls, CallsUnlessMoved};
+ghost use Rattle.pk_remap.specs.MostCalls.{AtMostCalls, CallsUnlessMoved, relocation_calls};
 ghost use Rattle.pk_remap.specs.Serving.{outer_of, HasPartner, PartnerOutcome, CanFind, FindOutcome, found_top, RelocationServes, OuterOutcome};
 
 use crate::phase::Phase;
@@ -144,8 +144,8 @@ impl Relocation {
             self.new (N.state inner.new) }
         ensures counts { OuterCounts self.old (N.state inner.old) result self.new
             (N.state inner.new) }
-        ensures calls { CallsUnlessMoved 2 (self.old.spares - self.old.taken)
-            (N.state inner.old) (N.state inner.new) }
+        ensures calls { CallsUnlessMoved 2 (relocation_calls self.old.shape
+            (self.old.spares - self.old.taken)) (N.state inner.old) (N.state inner.new) }
     {
         match self.keep_partner(inner, page) {
             Ok(()) => self.program_with_partner(inner, page, bytes),
@@ -169,8 +169,8 @@ impl Relocation {
             self.new (N.state inner.new) }
         ensures counts { OuterCounts self.old (N.state inner.old) result self.new
             (N.state inner.new) }
-        ensures calls { CallsUnlessMoved 1 (self.old.spares - self.old.taken)
-            (N.state inner.old) (N.state inner.new) }
+        ensures calls { CallsUnlessMoved 1 (relocation_calls self.old.shape
+            (self.old.spares - self.old.taken)) (N.state inner.old) (N.state inner.new) }
     {
         let at = self.inner_page(page);
         match inner.program(at, bytes) {
@@ -196,8 +196,8 @@ impl Relocation {
             self.new (N.state inner.new) }
         ensures counts { OuterCounts self.old (N.state inner.old) result self.new
             (N.state inner.new) }
-        ensures calls { CallsUnlessMoved 1 (self.old.spares - self.old.taken)
-            (N.state inner.old) (N.state inner.new) }
+        ensures calls { CallsUnlessMoved 1 (relocation_calls self.old.shape
+            (self.old.spares - self.old.taken)) (N.state inner.old) (N.state inner.new) }
     {
         self.shape.known();
         let at = place(&self.shape, &self.serves[..self.used], block);

@@ -5,7 +5,7 @@ use Rattle.pk_nand.{specs.BoardState.BoardState, specs.Calls.counted, specs.Oper
 use Rattle.pk_remap.{specs.declared.counts.BoardCounts.BoardCounts, specs.Through.MayShow, specs.Serving.PassesCalls, specs.Remapped.with_stop, specs.Remapped.remap_board, specs.Logged.HasLogRoom}
 use Rattle.pk_remap.proofs.LogLemmas.{if_ok}
 use Rattle.pk_remap.proofs.Remapping.{opens_block, erase_answer, erase_refused, shape_open, pages_open, left_open, cause_open, fall_open}
-use Rattle.pk_remap.{specs.MostCalls.find_calls, specs.MostCalls.CallsUnlessMoved, proofs.Bounding.calls_none, proofs.Bounding.if_err}
+use Rattle.pk_remap.{specs.MostCalls.find_calls, specs.MostCalls.CallsUnlessMoved, specs.MostCalls.relocation_calls, proofs.Bounding.calls_none, proofs.Bounding.if_err}
 use Rattle.pk_remap.proofs.nand.RemapNand.erase.Goals as goal
 
 pub erase_noted-requires : goal.erase_noted-requires
@@ -28,7 +28,7 @@ returns-then-has_room g c =
     let there = c.erase_noted.new.self in
     let new : BoardState = g.N.Nand.state there.inner in
     let made = c.erase_noted.ensures.made in
-    let L : ℕ → Type 0 = λ left. CallsUnlessMoved (find_calls self.image self.work.shape + 1) left old new in
+    let L : ℕ → Type 0 = λ left. CallsUnlessMoved (find_calls self.image self.work.shape + 1) (relocation_calls self.work.shape left) old new in
     let P : ℕ → Type 0 = λ n. OnOk c.erase_noted.result (there.counts ≡ record self.counts { erases = n }) in
     let Q : ℕ → Type 0 = λ n. OnErr c.erase_noted.result (there.counts ≡ with_stop c.args.block (record self.counts { erases = n })) in
     let S : Flash → Type 0 = λ f. PassesCalls (MayShow self.work.shape self.work.spares f (erase c.args.block)) old new in

@@ -5,7 +5,7 @@ use Rattle.pk_nand.{specs.BoardState.BoardState, specs.Calls.counted, specs.Call
 use Rattle.pk_remap.{specs.declared.counts.BoardCounts.BoardCounts, specs.Through.MayShow, specs.Serving.PassesCalls, specs.Remapped.with_stop, specs.Remapped.remap_board, specs.Logged.HasLogRoom}
 use Rattle.pk_remap.proofs.LogLemmas.{if_ok}
 use Rattle.pk_remap.proofs.Remapping.{opens_page, program_answer, program_refused, shape_open, pages_open, left_open, page_open, cause_open, fall_open}
-use Rattle.pk_remap.{specs.MostCalls.find_calls, specs.MostCalls.CallsUnlessMoved, proofs.Bounding.calls_none, proofs.Bounding.if_err}
+use Rattle.pk_remap.{specs.MostCalls.find_calls, specs.MostCalls.CallsUnlessMoved, specs.MostCalls.relocation_calls, proofs.Bounding.calls_none, proofs.Bounding.if_err}
 use Rattle.pk_remap.proofs.nand.RemapNand.program.Goals as goal
 
 pub program_noted-requires : goal.program_noted-requires
@@ -32,7 +32,7 @@ returns-then-has_room g c =
     let there = c.program_noted.new.self in
     let new : BoardState = g.N.Nand.state there.inner in
     let made = c.program_noted.ensures.made in
-    let L : ℕ → Type 0 = λ left. CallsUnlessMoved (find_calls self.image self.work.shape + 2) left old new in
+    let L : ℕ → Type 0 = λ left. CallsUnlessMoved (find_calls self.image self.work.shape + 2) (relocation_calls self.work.shape left) old new in
     let P : ℕ → Type 0 = λ n. OnOk c.program_noted.result (there.counts ≡ record self.counts { programs = n }) in
     let Q : ℕ → Type 0 = λ n. OnErr c.program_noted.result (there.counts ≡ with_stop (c.args.page / self.work.shape.block_pages) (record self.counts { programs = n })) in
     let R : ℕ → Type 0 = λ b. OnErr c.program_noted.result (there.counts ≡ with_stop b (record self.counts { programs = c.raise.new.count })) in

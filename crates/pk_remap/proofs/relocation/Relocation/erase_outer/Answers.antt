@@ -2,7 +2,7 @@ use Rattle.std.proofs.Common.{◌-◌, inl, inr, refl, arith}
 use Rattle.pk_nand.{specs.BoardState.BoardState, proofs.Writing.shape_is, proofs.Effects.works_erase, proofs.Effects.stops_erase}
 use Rattle.pk_remap.{specs.Serving.outer_of, proofs.Counting.counted_done, proofs.Counting.outer_served, proofs.Counting.outer_none_left}
 use Rattle.pk_remap.proofs.Outer.{erase_inside, erase_done, erase_begins, erase_served, erase_none_left, erase_left}
-use Rattle.pk_remap.{specs.Stepping.one_erase, proofs.Bounding.calls_one, proofs.Bounding.moved_by}
+use Rattle.pk_remap.{specs.Stepping.one_erase, proofs.Bounding.calls_one, proofs.Bounding.moved_by, proofs.Bounding.calls_more, proofs.Bounding.steps_fit, specs.MostCalls.relocation_calls}
 use Rattle.pk_remap.proofs.relocation.Relocation.erase_outer.Goals as goal
 
 pub erase-requires : goal.erase-requires
@@ -42,7 +42,8 @@ returns-then-self g c =
       outcome = erase_served r board c.requires.rests c.args.block c.requires.inside mid (rw c.place-at.ensures at c.in-Err.ensures.err) c.if-self.true
           c.serve.result c.serve.new.self new c.serve.ensures.serves;
       counts = outer_served r _ c.serve.new.self board mid new c.serve.result stops.rest stops.stop refl c.serve.ensures.counts;
-      calls = moved_by (r.spares - r.taken) board mid new _ c.serve.result c.serve.new.self (one_erase _ (inr c.in-Err.ensures.err)) stops.stop c.serve.ensures.counts c.serve.ensures.calls;
+      calls = moved_by (relocation_calls r.shape (r.spares - r.taken)) board mid new _ c.serve.result c.serve.new.self (one_erase _ (inr c.in-Err.ensures.err)) stops.stop c.serve.ensures.counts
+          (calls_more _ _ mid new (steps_fit r.shape r.spares r.taken c.if-self.true) c.serve.ensures.calls);
     }
 
 pub returns-else-self : goal.returns-else-self

@@ -2,7 +2,7 @@ use Rattle.std.proofs.Common.{◌≡◌, ◌-◌, inl, inr, ℕ, List, length, t
 use Rattle.pk_nand.{specs.BoardState.BoardState, proofs.Writing.shape_is, proofs.Effects.works_program, proofs.Effects.stops_program}
 use Rattle.pk_remap.{specs.Serving.outer_of, proofs.Running.refilled, proofs.Counting.counted_done, proofs.Counting.outer_served, proofs.Counting.outer_none_left}
 use Rattle.pk_remap.proofs.Outer.{page_inside, inner_order, program_done, program_begins, program_served, program_none_left, program_left}
-use Rattle.pk_remap.{specs.Stepping.one_program, proofs.Bounding.calls_one, proofs.Bounding.moved_by}
+use Rattle.pk_remap.{specs.Stepping.one_program, proofs.Bounding.calls_one, proofs.Bounding.moved_by, proofs.Bounding.calls_more, proofs.Bounding.steps_fit, specs.MostCalls.relocation_calls}
 use Rattle.pk_remap.proofs.relocation.Relocation.program_with_partner.Goals as goal
 
 pub program-requires-clause-exists : goal.program-requires-clause-exists
@@ -59,7 +59,8 @@ returns-then-self g c =
           mid failed c.if-self.true _ (rw buffer.0 front) (rw buffer.0 buffer.1) c.requires.partner
           c.serve.result c.serve.new.self end c.serve.ensures.serves;
       counts = outer_served r _ c.serve.new.self board mid end c.serve.result stops.rest stops.stop refl c.serve.ensures.counts;
-      calls = moved_by (r.spares - r.taken) board mid end _ c.serve.result c.serve.new.self (one_program _ _ (inr c.in-Err.ensures.err)) stops.stop c.serve.ensures.counts c.serve.ensures.calls;
+      calls = moved_by (relocation_calls r.shape (r.spares - r.taken)) board mid end _ c.serve.result c.serve.new.self (one_program _ _ (inr c.in-Err.ensures.err)) stops.stop c.serve.ensures.counts
+          (calls_more _ _ mid end (steps_fit r.shape r.spares r.taken c.if-self.true) c.serve.ensures.calls);
     }
 
 pub returns-else-self : goal.returns-else-self
