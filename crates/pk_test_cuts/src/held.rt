@@ -80,7 +80,7 @@ pub fn levels_are_held<P: Program>(alloc: Global) -> Result<(), Fail> {
         let flash = behind_pages::<P>(alloc, pages, &AT_REST, held.frames)?;
         let posted = flash.posted();
         check_lists(lists(posted, FOUND_BYTES)?, held.leased)?;
-        let reads = reads_of(posted, 0)?;
+        let reads = reads_of(posted, FOUND_BYTES, 0)?;
         same(u64::from(reads), u64::from(held.reads), "reads")?;
     }
     Ok(())
@@ -91,11 +91,18 @@ pub fn levels_are_held<P: Program>(alloc: Global) -> Result<(), Fail> {
 pub fn fewer_frames_hold_less<P: Program>(alloc: Global) -> Result<(), Fail> {
     let pages = made::<P>(alloc, &MAKE_WORKED)?;
     let flash = behind_pages::<P>(alloc, pages, &AT_REST, "52")?;
-    same(u64::from(reads_of(flash.posted(), 0)?), 1, "reads")?;
+    same(
+        u64::from(reads_of(flash.posted(), FOUND_BYTES, 0)?),
+        1,
+        "reads",
+    )?;
     let left = pages_left(alloc, &flash)?;
     let later = behind_pages::<P>(alloc, left, &[Step::Retrieve(200)], "36")?;
-    same(u64::from(reads_of(later.posted(), 0)?), 2, "reads")?;
-    Ok(())
+    same(
+        u64::from(reads_of(later.posted(), FOUND_BYTES, 0)?),
+        2,
+        "reads",
+    )
 }
 
 const OPENED: [Step; 6] = [
@@ -117,9 +124,8 @@ pub fn frames_fill_one_by_one<P: Program>(alloc: Global) -> Result<(), Fail> {
     let posted = flash.posted();
     let end = FOUND_BYTES + 24;
     check_lists(lists(posted, end)?, 23)?;
-    same(u64::from(reads_of(posted, 0)?), 1, "reads")?;
+    same(u64::from(reads_of(posted, FOUND_BYTES, 0)?), 1, "reads")?;
     let begin = end + REPORT_BYTES + 24;
-    same(u64::from(reads_of(posted, begin)?), 2, "reads")?;
-    check_lists(lists(posted, begin + FOUND_BYTES)?, 8)?;
-    Ok(())
+    same(u64::from(reads_of(posted, FOUND_BYTES, begin)?), 2, "reads")?;
+    check_lists(lists(posted, begin + FOUND_BYTES)?, 8)
 }

@@ -117,19 +117,22 @@ pub const REPORT_BYTES: usize = 24 + 64;
 /// The bytes of a Retrieve's record.
 pub const FOUND_BYTES: usize = 24 + 3;
 
-/// How many pages the Retrieve read whose record ends this many bytes before the end.
-pub fn reads_of(posted: &[u8], behind: usize) -> Result<u32, Fail> {
+/// How many pages the Retrieve read whose record has so many bytes, and ends so many before the end.
+pub fn reads_of(posted: &[u8], bytes: usize, behind: usize) -> Result<u32, Fail> {
     let start = posted
         .len()
-        .checked_sub(behind.saturating_add(FOUND_BYTES))
+        .checked_sub(behind.saturating_add(bytes))
         .ok_or("a record")?;
     number_at(posted, start.saturating_add(16))
 }
 
 // That Retrieve read one page.
 fn check_one_read(posted: &[u8], behind: usize) -> Result<(), Fail> {
-    same(u64::from(reads_of(posted, behind)?), 1, "reads")?;
-    Ok(())
+    same(
+        u64::from(reads_of(posted, FOUND_BYTES, behind)?),
+        1,
+        "reads",
+    )
 }
 
 /// These pages after a session with this many frames, which has to end well.
@@ -218,7 +221,7 @@ pub fn two_runs<P: Program>(alloc: Global) -> Result<(), Fail> {
     check_one_read(flash.posted(), 0)?;
     let pages = pages_left(alloc, &flash)?;
     let later = behind_pages::<P>(alloc, pages, &[Step::Retrieve(0)], "0")?;
-    let reads = reads_of(later.posted(), 0)?;
+    let reads = reads_of(later.posted(), FOUND_BYTES, 0)?;
     holds(2 <= reads && reads <= 5, "the reads of a Retrieve", place)?;
     let mut want = Vec::new(alloc);
     push_found(&mut want, 2, reads, &ABC)?;
@@ -258,8 +261,7 @@ pub fn roots_fill_a_block<P: Program>(alloc: Global) -> Result<(), Fail> {
         u64::from(first_root(&next)?),
         0,
         "the page of the next root",
-    )?;
-    Ok(())
+    )
 }
 
 // The page of the first root that a session programs; the two blocks of the roots come first on a flash.

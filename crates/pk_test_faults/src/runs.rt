@@ -351,8 +351,7 @@ pub fn store_over_runs<P: Program>(alloc: Global) -> Result<(), Fail> {
     posted(&lists, DONE, &want, place)?;
     let pages = pages_left(alloc, &stored.flash)?;
     let found = ask_with::<P>(alloc, pages, &retrieves(alloc)?, "36")?;
-    posted(&found, DONE, &retrieved(alloc, 2)?, place)?;
-    Ok(())
+    posted(&found, DONE, &retrieved(alloc, 2)?, place)
 }
 
 // Lists the keys after a cut of the Store. The new one exists if a byte of its record was posted,

@@ -109,6 +109,5 @@ pub fn held_records<P: Program>(alloc: Global) -> Result<(), Fail> {
     check_failing::<P>(alloc, script(alloc, &SIXTEEN)?, post, left, OUTPUT, front)?;
     let fetch = FIRST + 13 * LATER + 1;
     let left = Left::Untouched;
-    check_failing::<P>(alloc, script(alloc, &SIXTEEN)?, fetch, left, INPUT, &stored)?;
-    Ok(())
+    check_failing::<P>(alloc, script(alloc, &SIXTEEN)?, fetch, left, INPUT, &stored)
 }

@@ -206,8 +206,7 @@ pub fn store_and_delete<P: Program>(alloc: Global) -> Result<(), Fail> {
     let session = ask::<P>(alloc, made::<P>(alloc, &MAKE_WORKED)?, &asks)?;
     ended(&session, DONE, Place::Named("a Store and a Delete"))?;
     wrote(&session, 6, 4)?;
-    check_keys::<P>(alloc, pages_left(alloc, &session.flash)?, &[])?;
-    Ok(())
+    check_keys::<P>(alloc, pages_left(alloc, &session.flash)?, &[])
 }
 
 /// Eight Stores of one key fill the two blocks that values may have, and the next one gives a block back, which has none that is live.

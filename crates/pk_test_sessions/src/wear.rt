@@ -153,6 +153,5 @@ pub fn tick_ends_at_the_last_root<P: Program>(alloc: Global) -> Result<(), Fail>
     same(number_in(&left, 2)?, 1 << 63, "the number")?;
     let is_erased = matches!(left.get(3), Some(PageState::Erased));
     holds(is_erased, "the second page is Erased", place)?;
-    posted(&ask::<P>(alloc, left, &STORES[..1])?, WORN, &[], place)?;
-    Ok(())
+    posted(&ask::<P>(alloc, left, &STORES[..1])?, WORN, &[], place)
 }
