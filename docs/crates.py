@@ -25,7 +25,7 @@ class Crate:
     needs: list[str]
 
     def promise(self) -> str:
-        """The first sentence of the comment at the head of the crate's root file."""
+        """The first sentence of the comment at the head of the crate's root file, up to a colon or a semicolon after three words."""
         root = next(p for f in ("lib", "main") if (p := TOP / "crates" / self.name / "src" / f"{f}.rt").exists())
         lines = []
         for line in root.read_text(encoding="utf-8").split("\n"):
@@ -33,7 +33,9 @@ class Crate:
                 break
             lines.append(line[3:].strip())
         text = re.sub(r"\s+", " ", " ".join(lines)).strip()
-        return re.split(r"(?<=[.:]) (?=[A-Z`])", text)[0].rstrip(":")
+        sentence = re.split(r"(?<=[.:]) (?=[A-Z`])", text)[0].rstrip(":")
+        short = re.match(r"(\S+ \S+ \S+.*?)[:;] ", sentence)
+        return f"{short.group(1)}." if short else sentence
 
 
 @dataclass
