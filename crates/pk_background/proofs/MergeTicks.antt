@@ -10,7 +10,8 @@ use Rattle.pk_law_work.specs.Work.{work}
 use Rattle.pk_call.specs.declared.types.Ticked.TheVariants.{Worked as Goes, Fault as Fails}
 use Rattle.pk_schedule.{specs.declared.phase.Stepped.Stepped, specs.declared.phase.Stepped.TheVariants.Worked, specs.declared.phase.Stepped.TheVariants.Idle, specs.Index.Index}
 use Rattle.pk_schedule.specs.Steps.{Moves, Unmoved, backlog_of as backlog_of_index, has_no_merge, is_between}
-use Rattle.pk_parts.{specs.Parts.Parts, specs.Parts.frames_of, specs.Parts.index_of, specs.Parts.sight_of, specs.Parts.backlog_of, specs.Parts.may_freeze, specs.Parts.is_half, specs.Parts.commits_in, specs.Moves.StandsFor}
+use Rattle.pk_parts.{specs.Parts.Parts, specs.Parts.frames_of, specs.Parts.index_of, specs.Parts.sight_of, specs.Parts.backlog_of, specs.Parts.may_freeze}
+use Rattle.pk_parts.{specs.Parts.is_half, specs.Parts.commits_in, specs.Moves.StandsFor}
 use Rattle.pk_parts.{proofs.Unchanging.agrees_ready, proofs.Staying.stays_frees}
 use Rattle.pk_background.{specs.Emptying.MayEmpty, specs.Emptying.MergesOnce, specs.Emptying.FreezesOnce, specs.Reclaiming.FailsAll, proofs.Indexing.with_index, proofs.Advancing.busy_merge}
 use Rattle.pk_background.{specs.Merging.DoesMerge, specs.Merging.FailsMerge, specs.Merging.Merges, specs.Merging.CannotMerge, specs.Merging.FreezesOn, proofs.Ticking.busy_wanted}
@@ -108,7 +109,8 @@ module _ (d : Parts) (old : BoardState) (m : MayTick d old) (none_half : is_half
     pub tick_merged : MergesOnce d d' old new (Ok Worked) → Merges d d' old new → Advances d d' old new Goes
     tick_merged once is =
         made_advances d old m d' new once.step.ready once.calls once.step.rest once.step.roots_few no_pair no_pair no_pair is.grows (busy_merge d old old m none_half is.busy) once.none_pending
-        (whole_holds d old m d' new none_half is.holds) once.step.came.1 once.leaves.frames (ap (λ (e : Parts). e.stopped) once.leaves.rest) (stays_frees d d' once.stays) is.number (begins_pair is.begins) is.less
+        (whole_holds d old m d' new none_half is.holds) once.step.came.1 once.leaves.frames (ap (λ (e : Parts). e.stopped) once.leaves.rest)
+        (stays_frees d d' once.stays) is.number (begins_pair is.begins) is.less
         (makes_merge d d' old new none_half is.busy (record { leaves = once.leaves; fewer = once.less refl }))
 
     pub tick_unread : MergesOnce d d' old new (Err Reading) → CannotMerge d d' old new → Advances d d' old new (Fails false)

@@ -8,7 +8,8 @@ use Rattle.pk_model.{specs.Growth.Grows, specs.Growth.Reaches, specs.Growth.Goes
 use Rattle.pk_model.proofs.Growing.{reached_limits}
 use Rattle.pk_call.{specs.Sight.IsIdle, specs.Half.MakesPair, specs.Drive.HoldsMap, specs.declared.types.Ticked.TheVariants.Worked, specs.declared.types.Ticked.TheVariants.Idle}
 use Rattle.pk_call.{specs.declared.types.Ticked.TheVariants.Fault}
-use Rattle.pk_parts.{specs.Parts.Parts, specs.Parts.drive_limits, specs.Parts.frames_of, specs.Parts.sight_of, specs.Parts.is_half, specs.Parts.index_of, specs.Parts.settled_parts, specs.Moves.StandsFor, specs.Moves.StandsBetween}
+use Rattle.pk_parts.{specs.Parts.Parts, specs.Parts.drive_limits, specs.Parts.frames_of, specs.Parts.sight_of, specs.Parts.is_half, specs.Parts.index_of, specs.Parts.settled_parts}
+use Rattle.pk_parts.specs.Moves.{StandsFor, StandsBetween}
 use Rattle.pk_parts.{specs.Staying.StaysOrFrees, proofs.OwnLimits.limits_on, proofs.Unchanging.for_its_map, proofs.Unchanging.agrees_ready, proofs.Halves.stands as whole_stands}
 use Rattle.pk_background.{proofs.ReadSteps.read_cuts, proofs.Inside.number_is}
 use Rattle.pk_parts.proofs.Standing.{agrees_so, agrees_between, reads_as, reads_between, stands_between}
@@ -119,7 +120,8 @@ module _ (d : Parts) (old : BoardState) (m : MayTick d old) where
         }
 
     -- a step of which a read failed: the state of the drive is unchanged
-    pub unread_advances : (is_half d ≡ true → is_half d' ≡ false) → (is_half d ≡ true → MakesPair d.log.shape old.pages new.pages) → Grows d.log.shape old.pages new.pages → (IsIdle d.log.shape old.pages (sight_of d) → ⊥)
+    pub unread_advances : (is_half d ≡ true → is_half d' ≡ false) → (is_half d ≡ true → MakesPair d.log.shape old.pages new.pages)
+        → Grows d.log.shape old.pages new.pages → (IsIdle d.log.shape old.pages (sight_of d) → ⊥)
         → d'.log.pending ≡ [] → sight_of d' ≡ sight_of d → StandsFor d' d.log.shape old.pages m.agrees.all → OnlyReading old new → Rose old.read_faults new.read_faults
         → Rose old.flash_faults new.flash_faults
         → frames_of d' ≡ frames_of d → d'.stopped ≡ d.stopped → StaysOrFrees d d' → d'.log.root.number ≤ d.log.root.number + 1 → (due_step d ≡ nothing → ⊥) → Advances d d' old new (Fault false)

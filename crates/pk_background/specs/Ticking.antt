@@ -3,7 +3,8 @@ use Rattle.std.specs.Prelude.{◌≡◌, ◌⊎◌, ◌+◌, ◌<◌, ◌≤◌,
 use Rattle.pk_pool.{specs.declared.state.BlockState.TheVariants.Free, specs.Blocks.IsNowhere}
 use Rattle.pk_nand.{specs.BoardState.BoardState, specs.BoardState.shape_of, specs.Calls.Rose, specs.Calls.last_count}
 use Rattle.pk_nand.specs.Effects.{OnlyFlash, OnlyReading, NoFault, AtMostOneCall, OneProgram}
-use Rattle.pk_call.{specs.Sight.Sight, specs.Sight.IsIdle, specs.Half.MakesPair, specs.Call.KeepsMap, specs.Call.CallReaches, specs.Call.CallGoes, specs.Seen.stopped_by, specs.declared.types.Ticked.Ticked}
+use Rattle.pk_call.{specs.Sight.Sight, specs.Sight.IsIdle, specs.Half.MakesPair, specs.Call.KeepsMap, specs.Call.CallReaches, specs.Call.CallGoes, specs.Seen.stopped_by}
+use Rattle.pk_call.specs.declared.types.Ticked.{Ticked}
 use Rattle.pk_call.specs.declared.types.Ticked.TheVariants.{Worked, Idle, Fault}
 use Rattle.pk_model.{specs.Growth.Grows, specs.Wear.roots, specs.Crashes.background}
 use Rattle.pk_compact.specs.FreezeSteps.{taken_by}

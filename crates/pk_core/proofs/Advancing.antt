@@ -2,7 +2,8 @@
 use Rattle.std.{proofs.Common.◌≡◌, specs.Prelude.◌↔◌}
 use Rattle.pk_nand.specs.BoardState.{BoardState}
 use Rattle.pk_pool.specs.Blocks.{IsShared}
-use Rattle.pk_call.{specs.Sight.IsIdle, specs.Tick.TellsIdle, specs.Tick.LowersWork, specs.Tick.KeepsOrder, specs.Tick.SeenOrder, specs.Tick.SettlesStep, specs.declared.types.Ticked.Ticked, specs.declared.types.Ticked.TheVariants.Idle}
+use Rattle.pk_call.{specs.Sight.IsIdle, specs.Tick.TellsIdle, specs.Tick.LowersWork, specs.Tick.KeepsOrder, specs.Tick.SeenOrder, specs.Tick.SettlesStep}
+use Rattle.pk_call.{specs.declared.types.Ticked.Ticked, specs.declared.types.Ticked.TheVariants.Idle}
 use Rattle.pk_parts.{specs.Parts.Parts, specs.Parts.sight_of, proofs.Unchanging.for_its_map}
 use Rattle.pk_background.{specs.Ticking.MayTick, specs.Ticking.Advances, proofs.Ticking.none_idle, proofs.SeenOrder.seen_order}
 

@@ -5,7 +5,8 @@ use Rattle.pk_rootfmt.specs.Root.{Root}
 use Rattle.pk_model.{specs.Found.Found, specs.Found.found_under, specs.Tree.Tree, specs.Tree.IsTree, specs.Spaces.terms_at}
 use Rattle.pk_nand.{specs.BoardState.BoardState, specs.Calls.IsReady, specs.Counts.after_reads}
 use Rattle.pk_call.{specs.Sight.entries_of_runs, specs.Drive.HoldsMap, specs.Steady.live_blocks, specs.Steady.pages_of_runs}
-use Rattle.pk_parts.{specs.Parts.Parts, specs.Parts.IsParts, specs.Parts.sight_of, specs.Agreeing.DriveOnFlash, specs.Moves.StandsFor, specs.Opening.OpenedOn, proofs.Halves.between, proofs.Standing.agrees_so}
+use Rattle.pk_parts.{specs.Parts.Parts, specs.Parts.IsParts, specs.Parts.sight_of, specs.Agreeing.DriveOnFlash, specs.Moves.StandsFor, specs.Opening.OpenedOn}
+use Rattle.pk_parts.{proofs.Halves.between, proofs.Standing.agrees_so}
 use Rattle.pk_core.{proofs.Standing.still_stands, proofs.Steadying.pinned_leased}
 
 -- ---- what contracts say of it
