@@ -6,6 +6,7 @@ use Rattle.pk_nand.{specs.Calls.Rose, specs.BoardState.BoardState}
 use Rattle.pk_nvme.specs.Reply.{reply_record}
 use Rattle.pk_model.{specs.Kept.AtMost, specs.Kept.rise, specs.Run.Exchange, specs.Run.commands, specs.Run.records, specs.Run.faults, specs.Wear.is_worn, specs.Wear.roots}
 use Rattle.pk_call.specs.Meter.{Meter, MeteredAll}
+use Rattle.pk_serve.specs.Answered.{installs}
 
 pub at_most-zero : (n : Option ℕ) → AtMost n 0
 at_most-zero None = tt
@@ -63,7 +64,13 @@ faults-one x = by (x.reply.status == 0x88) refl
 
 -- ---- counts of roots
 
--- what commands began with
+-- the roots that commands installed, and what they began with
+pub metered-roots : (xs : List Exchange) (before after : Meter) → MeteredAll before xs after → after.roots ≤ before.roots + installs (commands xs)
+metered-roots [] before after same = omega (arith, ap (λ (m : Meter). m.roots) same)
+metered-roots (x ∷ xs) before after all =
+    let rest = metered-roots xs all.0 after all.2 in
+    omega (arith, rest, all.1.installs)
+
 pub metered-unworn : (xs : List Exchange) (before after : Meter) → xs ≢ [] → MeteredAll before xs after → before.roots < 9223372036854775808
 metered-unworn [] before after some all = absurd (some refl)
 metered-unworn (x ∷ xs) before after some all = all.1.unworn
