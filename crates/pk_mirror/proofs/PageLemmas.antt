@@ -144,22 +144,22 @@ module _ (Keeps : Map → Map → Type 0) (Done : Map → Map → Key → Type 0
       let (b1, e1, k1, up) = h a b ea eb keeps in g a b1 (same ∙ ea) e1 k1 up
 
 module _ {P Q : Type 0} (stateP : P → PortState) (tookP : P → List Command → P → Type 0) (stateQ : Q → PortState) (tookQ : Q → List Command → Q → Type 0)
-    (Keeps : Map → Map → Type 0) (room : Map → Map → ℕ) (opcode : ℕ) (Done : Map → Map → Key → Type 0) where
+    (Keeps : Map → Map → Type 0) (Wanted : Map → Map → Key → Type 0) (opcode : ℕ) (Done : Map → Map → Key → Type 0) where
   -- All keys up to the last were visited, from two ports on to two others.
   pub record IsTurning (first first' : P) (second second' : Q) (last : Option Key) : Type 0 where
-    pub progress : Progress stateP tookP stateQ tookQ Keeps room opcode first first' second second'
+    pub progress : Progress stateP tookP stateQ tookQ Keeps Wanted opcode first first' second second'
     pub visits : VisitsUpTo Keeps Done (stateP first) (stateQ second) (stateQ second') last
     pub text : (k : Key) → last ≡ Some k → IsText k
 
   pub turning_begins : (first : P) (second : Q) → tookP first [] first → tookQ second [] second → IsTurning first first second second None
   turning_begins first second p q = record {
-    progress = no_progress stateP tookP stateQ tookQ Keeps room opcode first second p q;
+    progress = no_progress stateP tookP stateQ tookQ Keeps Wanted opcode first second p q;
     visits = turned_none Keeps Done (stateP first) (stateQ second);
     text = λ k e. absurd (let clash : ◌≡◌ {A = Option Key} None (Some k) = e in cc);
   }
 
   pub turning_goes : TakesBoth tookP → TakesBoth tookQ → (first mid first' : P) (second halfway second' : Q) (last : Option Key) (next : Key)
-      → IsTurning first mid second halfway last → Progress stateP tookP stateQ tookQ Keeps room opcode mid first' halfway second'
+      → IsTurning first mid second halfway last → Progress stateP tookP stateQ tookQ Keeps Wanted opcode mid first' halfway second'
       → Turns Keeps Done (stateP mid) (stateQ halfway) (stateQ second') last (Some next) → IsText next → IsTurning first first' second second' (Some next)
   turning_goes bothP bothQ first mid first' second halfway second' last next h g turns text = record {
     progress = goes_on bothP bothQ first mid first' second halfway second' h.progress g;

@@ -121,15 +121,15 @@ abbrev pub TellsTook : {P : Type 0} → (P → PortState) → (P → List Comman
 TellsTook {P} state took = (p : P) (cs : List Command) (q : P) → took p cs q → Took (state p) (state q) cs
 
 module _ {P Q : Type 0} {stateP : P → PortState} {tookP : P → List Command → P → Type 0} {stateQ : Q → PortState} {tookQ : Q → List Command → Q → Type 0}
-    {Keeps : Map → Map → Type 0} {room : Map → Map → ℕ} {opcode : ℕ} where
+    {Keeps : Map → Map → Type 0} {Wanted : Map → Map → Key → Type 0} {opcode : ℕ} where
   -- after a look at both
   module _ (other : (c : Command) → OnlyLooks c → IsOther opcode c) (first first' : P) (second second' : Q) (h : Looked stateP tookP stateQ tookQ first first' second second') where
-    pub looked_goes : Progress stateP tookP stateQ tookQ Keeps room opcode first first' second second'
+    pub looked_goes : Progress stateP tookP stateQ tookQ Keeps Wanted opcode first first' second second'
     looked_goes = record {
       took_first = h.took_first;
       took_second = (
         h.took_second.0,
-        spent_looks Keeps room opcode other (stateP first) (stateQ second) (stateQ second') h.took_second.0 h.took_second.1 h.second_keeps,
+        spent_looks Keeps Wanted opcode other (stateP first) (stateQ second) (stateQ second') h.took_second.0 h.took_second.1 h.second_keeps,
         h.took_second.2,
       );
       same = h.first_keeps;
@@ -137,10 +137,10 @@ module _ {P Q : Type 0} {stateP : P → PortState} {tookP : P → List Command �
     }
 
     pub looked_fails : (e : MirrorError) → IsCause (stateP first) (stateP first') (stateQ second) (stateQ second') e
-        → OnlyReadsFail Keeps (stateP first) (stateQ second) e → Failure stateP tookP stateQ tookQ Keeps room opcode first first' second second' e
+        → OnlyReadsFail Keeps (stateP first) (stateQ second) e → Failure stateP tookP stateQ tookQ Keeps Wanted opcode first first' second second' e
     looked_fails e causes unread = record {
       took_first = h.took_first;
-      took_second = (h.took_second.0, spending_looks Keeps room opcode other (stateP first) (stateQ second) h.took_second.0 h.took_second.1, h.took_second.2);
+      took_second = (h.took_second.0, spending_looks Keeps Wanted opcode other (stateP first) (stateQ second) h.took_second.0 h.took_second.1, h.took_second.2);
       same = h.first_keeps;
       causes = causes;
       unread = unread;
@@ -148,20 +148,20 @@ module _ {P Q : Type 0} {stateP : P → PortState} {tookP : P → List Command �
 
   -- after a part of the phase
   module _ (bothP : TakesBoth tookP) (bothQ : TakesBoth tookQ) (first mid first' : P) (second halfway second' : Q)
-      (h : Progress stateP tookP stateQ tookQ Keeps room opcode first mid second halfway) where
-    pub goes_on : Progress stateP tookP stateQ tookQ Keeps room opcode mid first' halfway second' → Progress stateP tookP stateQ tookQ Keeps room opcode first first' second second'
+      (h : Progress stateP tookP stateQ tookQ Keeps Wanted opcode first mid second halfway) where
+    pub goes_on : Progress stateP tookP stateQ tookQ Keeps Wanted opcode mid first' halfway second' → Progress stateP tookP stateQ tookQ Keeps Wanted opcode first first' second second'
     goes_on g = record {
       took_first = asking_more tookP bothP first mid first' h.took_first g.took_first;
-      took_second = took_spent Keeps room opcode stateQ tookQ bothQ (stateP first) (stateP mid) second halfway second' h.same h.goes h.took_second g.took_second;
+      took_second = took_spent Keeps Wanted opcode stateQ tookQ bothQ (stateP first) (stateP mid) second halfway second' h.same h.goes h.took_second g.took_second;
       same = g.same ∙ h.same;
       goes = λ a b ea eb keeps. let (b1, e1, k1) = h.goes a b ea eb keeps in g.goes a b1 (h.same ∙ ea) e1 k1;
     }
 
-    pub fails_on : TellsTook stateP tookP → TellsTook stateQ tookQ → (e : MirrorError) → Failure stateP tookP stateQ tookQ Keeps room opcode mid first' halfway second' e
-        → Failure stateP tookP stateQ tookQ Keeps room opcode first first' second second' e
+    pub fails_on : TellsTook stateP tookP → TellsTook stateQ tookQ → (e : MirrorError) → Failure stateP tookP stateQ tookQ Keeps Wanted opcode mid first' halfway second' e
+        → Failure stateP tookP stateQ tookQ Keeps Wanted opcode first first' second second' e
     fails_on tellsP tellsQ e g = record {
       took_first = asking_more tookP bothP first mid first' h.took_first g.took_first;
-      took_second = took_spending Keeps room opcode stateQ tookQ bothQ (stateP first) (stateP mid) second halfway second' h.same h.goes h.took_second g.took_second;
+      took_second = took_spending Keeps Wanted opcode stateQ tookQ bothQ (stateP first) (stateP mid) second halfway second' h.same h.goes h.took_second g.took_second;
       same = g.same ∙ h.same;
       causes = cause_later (stateP first) (stateP mid) (stateP first') (stateQ second) (stateQ halfway) (stateQ second') h.took_first.0 h.took_second.0 e
           (tellsP first h.took_first.0 mid h.took_first.2) (tellsQ second h.took_second.0 halfway h.took_second.2) g.causes;
@@ -171,34 +171,34 @@ module _ {P Q : Type 0} {stateP : P → PortState} {tookP : P → List Command �
 -- ---- a page of visits
 
 module _ {P Q : Type 0} (stateP : P → PortState) (tookP : P → List Command → P → Type 0) (stateQ : Q → PortState) (tookQ : Q → List Command → Q → Type 0)
-    (Keeps : Map → Map → Type 0) (room : Map → Map → ℕ) (opcode : ℕ) where
-  pub no_progress : (first : P) (second : Q) → tookP first [] first → tookQ second [] second → Progress stateP tookP stateQ tookQ Keeps room opcode first first second second
+    (Keeps : Map → Map → Type 0) (Wanted : Map → Map → Key → Type 0) (opcode : ℕ) where
+  pub no_progress : (first : P) (second : Q) → tookP first [] first → tookQ second [] second → Progress stateP tookP stateQ tookQ Keeps Wanted opcode first first second second
   no_progress first second p q = record {
     took_first = asking_none tookP first p;
-    took_second = ([], spent_none Keeps room opcode (stateP first) (stateQ second), q);
+    took_second = ([], spent_none Keeps Wanted opcode (stateP first) (stateQ second), q);
     same = refl;
     goes = λ a b ea eb keeps. (b, eb, keeps);
   }
 
   -- at any exit
   pub any_exit : {X : Type 0} → TellsTook stateQ tookQ → (first first' : P) (second second' : Q) (r : Result X MirrorError)
-      → OnOk r (Progress stateP tookP stateQ tookQ Keeps room opcode first first' second second')
-      → IfErr r (Failure stateP tookP stateQ tookQ Keeps room opcode first first' second second')
-      → ((stateP first').map ≡ (stateP first).map) × TookSome tookP AreAsking first first' × TookSome tookQ (Spending Keeps room opcode (stateP first) (stateQ second)) second second'
-  any_exit tells first first' second second' (Ok x) h g = (h.same, h.took_first, took_settled Keeps room opcode stateQ tookQ tells (stateP first) second second' h.took_second)
+      → OnOk r (Progress stateP tookP stateQ tookQ Keeps Wanted opcode first first' second second')
+      → IfErr r (Failure stateP tookP stateQ tookQ Keeps Wanted opcode first first' second second')
+      → ((stateP first').map ≡ (stateP first).map) × TookSome tookP AreAsking first first' × TookSome tookQ (Spending Keeps Wanted opcode (stateP first) (stateQ second)) second second'
+  any_exit tells first first' second second' (Ok x) h g = (h.same, h.took_first, took_settled Keeps Wanted opcode stateQ tookQ tells (stateP first) second second' h.took_second)
   any_exit tells first first' second second' (Err e) h g = (g.same, g.took_first, g.took_second)
 
   module _ (Done : Map → Map → Key → Type 0) where
     -- These keys were visited, from two ports on to two others.
     pub record IsVisiting (first first' : P) (second second' : Q) (keys : List Key) : Type 0 where
-      pub progress : Progress stateP tookP stateQ tookQ Keeps room opcode first first' second second'
+      pub progress : Progress stateP tookP stateQ tookQ Keeps Wanted opcode first first' second second'
       pub visits : Visits Keeps Done (stateP first) (stateQ second) (stateQ second') keys
 
     pub visiting_begins : (first : P) (second : Q) → tookP first [] first → tookQ second [] second → IsVisiting first first second second []
     visiting_begins first second p q = record { progress = no_progress first second p q; visits = visits_none Keeps Done (stateP first) (stateQ second) }
 
     pub visiting_goes : TakesBoth tookP → TakesBoth tookQ → (first mid first' : P) (second halfway second' : Q) (keys : List Key) (k : Key) (more : List Key)
-        → IsVisiting first mid second halfway keys → Progress stateP tookP stateQ tookQ Keeps room opcode mid first' halfway second'
+        → IsVisiting first mid second halfway keys → Progress stateP tookP stateQ tookQ Keeps Wanted opcode mid first' halfway second'
         → Visits Keeps Done (stateP mid) (stateQ halfway) (stateQ second') (k ∷ []) → more ≡ keys ++ k ∷ [] → IsVisiting first first' second second' more
     visiting_goes bothP bothQ first mid first' second halfway second' keys k more h g visits is = record {
       progress = goes_on bothP bothQ first mid first' second halfway second' h.progress g;

@@ -1,5 +1,6 @@
 //! The second drive's map becomes the first's again.
 ghost use Rattle.std.specs.Prelude.{◌≡◌, ◌≢◌, ◌<◌, ◌≤◌, ◌^◌, List, ℕ, [], length, true, false, Some, None, Err, OnOk, OnErr, IfOk, IfErr};
+ghost use Rattle.std.specs.List.{AllByRecursion};
 ghost use Rattle.std.specs.Option.{option_copied};
 ghost use Rattle.pk_base.specs.Map.{Map};
 ghost use Rattle.pk_base.specs.Shape.{greatest};
@@ -10,7 +11,7 @@ ghost use Rattle.pk_mirror.specs.Causes.{IsCause, IsReadError, AreAsking, NotEmp
 ghost use Rattle.pk_mirror.specs.Agreement.{NoOther, HaveSame, AreAny, IsPart};
 ghost use Rattle.pk_mirror.specs.Ranks.{IsText, keys_left};
 ghost use Rattle.pk_mirror.specs.Visits.{Turns, VisitsAll, OnlyReadsFail};
-ghost use Rattle.pk_mirror.specs.Spending.{AreOfResync};
+ghost use Rattle.pk_mirror.specs.Spending.{OnlyLooks, AreOfResync, AreWholeResync};
 ghost use Rattle.pk_mirror.specs.Progress.{Dropped, DropFails, Copied, CopyFails};
 
 use crate::buffers::last_of;
@@ -22,7 +23,8 @@ use pk_host::{Host, KeyPage, Port};
 
 impl Mirror {
     /// Deletes from the second each key that the first lacks or has with another value, then stores
-    /// on it each key that it lacks. The pair is in step then. `Refused` if a read failed, `Port`
+    /// on it each key that it lacks, and deletes and stores nothing else: the second is asked for
+    /// nothing but looks where both maps were the same. The pair is in step then. `Refused` if a read failed, `Port`
     /// if a port failed: the pair is split then, and never in step in between.
     pub fn resync<P: Port, Q: Port>(
         &mut self,
@@ -50,6 +52,10 @@ impl Mirror {
         ensures took_first { TookSome P.took AreAsking first.old first.new }
         ensures took_second { TookSome Q.took (AreOfResync (P.state first.old)
             (Q.state second.old)) second.old second.new }
+        ensures exact { OnOk result (TookSome Q.took (AreWholeResync (P.state first.old)
+            (Q.state second.old)) second.old second.new) }
+        ensures quiet { self.old.split ≡ false → (m : Map) → (P.state first.old).map ≡ Some m
+            → TookSome Q.took (AllByRecursion OnlyLooks) second.old second.new }
         ensures asked { OnOk result (BothAsked P.took Q.took first.old first.new second.old
             second.new) }
     {
@@ -82,6 +88,8 @@ impl Mirror {
         ensures took_first { TookSome P.took AreAsking first.old first.new }
         ensures took_second { TookSome Q.took (AreOfResync (P.state first.old)
             (Q.state second.old)) second.old second.new }
+        ensures exact { OnOk result (TookSome Q.took (AreWholeResync (P.state first.old)
+            (Q.state second.old)) second.old second.new) }
         ensures asked { OnOk result (BothAsked P.took Q.took first.old first.new second.old
             second.new) }
     {
@@ -124,6 +132,8 @@ fn copy_map<P: Port, Q: Port>(
     ensures took_first { TookSome P.took AreAsking first.old first.new }
     ensures took_second { TookSome Q.took (AreOfResync (P.state first.old)
         (Q.state second.old)) second.old second.new }
+    ensures exact { OnOk result (TookSome Q.took (AreWholeResync (P.state first.old)
+        (Q.state second.old)) second.old second.new) }
     ensures asked { OnOk result (BothAsked P.took Q.took first.old first.new second.old
         second.new) }
 {

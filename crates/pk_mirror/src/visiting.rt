@@ -11,7 +11,7 @@ ghost use Rattle.pk_mirror.specs.Pair.{Alike};
 ghost use Rattle.pk_mirror.specs.Causes.{IsCause, AreAsking};
 ghost use Rattle.pk_mirror.specs.Agreement.{NoOther, HaveSame, AreAny, IsPart};
 ghost use Rattle.pk_mirror.specs.Visits.{Visits, OnlyReadsFail};
-ghost use Rattle.pk_mirror.specs.Spending.{Deleted, Deleting, Stored, Storing};
+ghost use Rattle.pk_mirror.specs.Spending.{ToDelete, Deleted, Deleting, Stored, Storing};
 ghost use Rattle.pk_mirror.specs.Progress.{Looked, Dropped, DropFails, Copied, CopyFails};
 
 use crate::buffers::{front, same_fronts};
@@ -38,8 +38,8 @@ fn has_other<P: Port, Q: Port>(
     requires room_two { greatest (P.state first.old).shape ≤ length two.old }
     ensures tells { IfOk result (λ other. (a b : Map) → (P.state first.old).map ≡ Some a
         → (Q.state second.old).map ≡ Some b → other ≡ false → NoOther a b key.now) }
-    ensures there { IfOk result (λ other. (b : Map) → (Q.state second.old).map ≡ Some b
-        → other ≡ true → map.contains_key b key.now ≡ true) }
+    ensures differs { IfOk result (λ other. (a b : Map) → (P.state first.old).map ≡ Some a
+        → (Q.state second.old).map ≡ Some b → other ≡ true → ToDelete a b key.now) }
     ensures looks { OnOk result (Looked P.state P.took Q.state Q.took first.old
         first.new second.old second.new) }
     ensures fails { IfErr result (DropFails P.state P.took Q.state Q.took first.old

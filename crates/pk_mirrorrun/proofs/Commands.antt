@@ -1,6 +1,6 @@
 -- The commands of a word on each drive: which maps they leave, and how many roots they install.
 use Rattle.std.proofs.Common.{◌≡◌, inl, inr, ℕ, ◌+◌, ◌*◌, ◌≤◌, ◌⊎◌, ◌==◌, if◌then◌else◌, cond, true, false, length, List, [], ◌∷◌, ◌++◌, Option, Some, None, refl, sym, ap, subst, ◌∙◌, arith}
-use Rattle.std.{specs.FinMap.get as value_at, specs.FinMap.get-insert, specs.FinMap.get-remove, specs.Ordering.eq_by_cmp, proofs.lemmas.Bool.eq-eqb}
+use Rattle.std.{specs.FinMap.get as value_at, specs.FinMap.get-insert, specs.FinMap.get-remove, specs.Ordering.eq_by_cmp, proofs.lemmas.Bool.eq-eqb, proofs.lemmas.Bool.eqb-true}
 use Rattle.pk_base.{specs.Key.Key, specs.Key.key_cmp, specs.Key.space_of, specs.Shape.Shape, specs.Page.Flash, specs.Map.Map}
 use Rattle.pk_nvme.{specs.Command.Command, specs.Command.key as key_of, specs.Opcode.op_of, specs.declared.opcode.TheConstants.STORE, specs.declared.opcode.TheConstants.DELETE}
 use Rattle.pk_nvme.specs.declared.opcode.Opcode.{Opcode}
@@ -9,12 +9,12 @@ use Rattle.pk_model.{specs.Answer.refused, specs.Answer.effect, specs.Answer.map
 use Rattle.pk_model.{specs.Spaces.Terms, specs.Spaces.limit_of, specs.Spaces.in_space, proofs.MapLemmas.key_total}
 use Rattle.pk_model.proofs.SpaceLemmas.{by_keys, get_in_space, same_tied}
 use Rattle.pk_call.{specs.Calling.only_looks, specs.Exec.most_installs}
-use Rattle.pk_host.{specs.Calls.store_of, specs.Calls.delete_of, specs.declared.types.StoreRule.TheVariants.Any, specs.Port.PortState}
+use Rattle.pk_host.{specs.Calls.store_of, specs.Calls.delete_of, specs.declared.types.StoreRule.TheVariants.Any}
 use Rattle.pk_port.{specs.Chained.installs_of, specs.Chained.installs, proofs.Isolating.first_left}
-use Rattle.pk_mirror.{specs.Causes.OnlyAsks, specs.Causes.AreAsking, specs.Spending.OnlyLooks, specs.Spending.LooksOr, specs.Spending.opcode_count}
+use Rattle.pk_mirror.{specs.Causes.OnlyAsks, specs.Causes.AreAsking, specs.Spending.OnlyLooks, specs.Spending.LooksOrChanges, specs.Spending.opcode_count}
 use Rattle.pk_mirrorwords.specs.PairTasks.{PairTask, put, get, delete, list, resync, change_of, after_change, map_left}
-use Rattle.pk_mirrorwords.specs.PairAnswers.{AreChange, AreOfFirst, AreOfPair, AreOfSecond}
-use Rattle.pk_mirrorrun.specs.PairTold.{most_pair_roots}
+use Rattle.pk_mirrorwords.specs.PairAnswers.{AreChange, AreOfWord, AreOfPair}
+use Rattle.pk_mirrorrun.specs.PairTold.{most_pair_roots, OnSecond, KeepsOtherSpaces}
 
 -- ---- maps
 
@@ -64,17 +64,17 @@ change_left shape limits m m' (Some c) change (inl none) h = inl (subst (λ (cs 
 change_left shape limits m m' (Some c) change (inr one) h = subst (λ (cs : List Command). LeftOf shape limits m cs m') one h
 
 -- commands of a word, or the first of them, leave the map before it or the one after it
-left_first : (task : PairTask) (shape : Shape) (limits : List ℕ) (m m' : Map) (cs : List Command) → AreOfFirst task cs → LeftOf shape limits m cs m' → (m' ≡ m) ⊎ (m' ≡ map_left shape limits task m)
+left_first : (task : PairTask) (shape : Shape) (limits : List ℕ) (m m' : Map) (cs : List Command) → AreOfWord task cs → LeftOf shape limits m cs m' → (m' ≡ m) ⊎ (m' ≡ map_left shape limits task m)
 left_first task shape limits m m' cs are h =
     change_left shape limits m m' (change_of task) are.change are.changing
     (asks_left shape limits m m' are.asks are.change are.asking (subst (λ (ds : List Command). LeftOf shape limits m ds m') are.are h))
 
-pub ran_first : (task : PairTask) (shape : Shape) (terms : Terms) (m m' : Map) (xs : List Exchange) → AreOfFirst task (commands xs) → RunWithin shape terms m xs m'
+pub ran_first : (task : PairTask) (shape : Shape) (terms : Terms) (m m' : Map) (xs : List Exchange) → AreOfWord task (commands xs) → RunWithin shape terms m xs m'
     → (m' ≡ m) ⊎ (m' ≡ map_left shape terms.limits task m)
 ran_first task shape terms m m' xs are ran = left_first task shape terms.limits m m' (commands xs) are (ran_left shape terms xs m m' ran)
 
 -- what is kept of a word's commands is the map before it or the one after it
-pub kept_first : (task : PairTask) (shape : Shape) (terms : Terms) (m : Map) (cs : List Command) (n : Option ℕ) (posted : List ℕ) (f : Flash) → AreOfFirst task cs
+pub kept_first : (task : PairTask) (shape : Shape) (terms : Terms) (m : Map) (cs : List Command) (n : Option ℕ) (posted : List ℕ) (f : Flash) → AreOfWord task cs
     → Kept shape terms m cs n posted f
     → Holds shape f m ⊎ Holds shape f (map_left shape terms.limits task m)
 kept_first task shape terms m cs n posted f are k =
@@ -131,6 +131,50 @@ same_parts x y part others = by_keys x y (λ q. elim (space_of q == 1) as (λ b.
   | false ↦ λ other. others q other
 ] refl)
 
+-- ---- the second drive
+
+own_space : (c : Command) → LooksOrChanges c → c.namespace ≡ 1
+own_space c (inl (inl (inl (inl (from, e))))) = ap (λ (d : Command). d.namespace) e
+own_space c (inl (inl (inl (inr (key, size, e))))) = ap (λ (d : Command). d.namespace) e
+own_space c (inl (inl (inr (key, e)))) = ap (λ (d : Command). d.namespace) e
+own_space c (inl (inr own)) = own.1
+own_space c (inr own) = own.1
+
+left_others : (shape : Shape) (limits : List ℕ) (m : Map) (cs : List Command) (m' : Map) → AreOfPair cs → LeftOf shape limits m cs m'
+    → (q : Key) → (space_of q == 1) ≡ false → value_at m' q ≡ value_at m q
+left_others shape limits m [] m' are e q other = ap (λ (x : Map). value_at x q) e
+left_others shape limits m (c ∷ cs) m' are (inl h) q other = left_others shape limits m cs m' are.1 h q other
+left_others shape limits m (c ∷ cs) m' are (inr h) q other =
+    left_others shape limits (map_after shape limits m c) cs m' are.1 h q other ∙ others_kept shape limits m c (own_space c are.0) q other
+
+-- maps with the same values of keys of other namespaces have the same other namespaces
+other_spaces : (m m' : Map) → ((q : Key) → (space_of q == 1) ≡ false → value_at m' q ≡ value_at m q) → KeepsOtherSpaces m m'
+other_spaces m m' same space apart = by_keys (in_space space m') (in_space space m) (λ q. get_in_space space m' q ∙ at q ∙ sym (get_in_space space m q))
+  where
+    not_first : (q : Key) → (space_of q == space) ≡ true → (space_of q == 1) ≡ false
+    not_first q here = elim (space_of q == 1) as (λ b. (space_of q == 1) ≡ b → b ≡ false) [
+      | true ↦ λ first. absurd (apart (sym (eqb-true (space_of q) space here) ∙ eqb-true (space_of q) 1 first))
+      | false ↦ λ e. refl
+    ] refl
+
+    at : (q : Key) → cond (space_of q == space) (value_at m' q) None ≡ cond (space_of q == space) (value_at m q) None
+    at q = elim (space_of q == space) as (λ b. (space_of q == space) ≡ b → cond b (value_at m' q) None ≡ cond b (value_at m q) None) [
+      | true ↦ λ here. same q (not_first q here)
+      | false ↦ λ e. refl
+    ] refl
+
+-- commands that were served on the second drive keep the other namespaces
+pub ran_second : (shape : Shape) (terms : Terms) (m m' : Map) (xs : List Exchange) → AreOfPair (commands xs) → RunWithin shape terms m xs m' → KeepsOtherSpaces m m'
+ran_second shape terms m m' xs are ran = other_spaces m m' (left_others shape terms.limits m (commands xs) m' are (ran_left shape terms xs m m' ran))
+
+-- so does what is kept of them
+pub kept_second : (shape : Shape) (terms : Terms) (m : Map) (cs : List Command) (n : Option ℕ) (posted : List ℕ) (f : Flash) → AreOfPair cs
+    → (k : Kept shape terms m cs n posted f) → KeepsOtherSpaces m k.map_left
+kept_second shape terms m cs n posted f are k =
+    let more = left_more shape terms.limits m (commands k.served) k.map_left k.unserved (ran_left shape terms k.served m k.map_left k.ran) in
+    let whole = subst (λ (ds : List Command). LeftOf shape terms.limits m ds k.map_left) k.from_front more in
+    other_spaces m k.map_left (left_others shape terms.limits m cs k.map_left are whole)
+
 -- ---- roots
 
 looks_none : (c : Command) → OnlyLooks c → installs_of c ≡ 0
@@ -143,19 +187,18 @@ by_opcode : (opcode size : ℕ) → (opcode ≡ DELETE) ⊎ (opcode ≡ STORE)
 by_opcode opcode size (inl e) = subst (λ (o : ℕ). (if only_looks o then 0 else most_installs o size) ≤ 10 * ((if o == DELETE then 1 else 0) + (if o == STORE then 1 else 0))) (sym e) (omega arith)
 by_opcode opcode size (inr e) = subst (λ (o : ℕ). (if only_looks o then 0 else most_installs o size) ≤ 10 * ((if o == DELETE then 1 else 0) + (if o == STORE then 1 else 0))) (sym e) (omega arith)
 
-one_installs : (c : Command) → LooksOr DELETE c ⊎ (c.opcode ≡ STORE) → installs_of c ≤ 10 * ((if c.opcode == DELETE then 1 else 0) + (if c.opcode == STORE then 1 else 0))
+one_installs : (c : Command) → LooksOrChanges c → installs_of c ≤ 10 * ((if c.opcode == DELETE then 1 else 0) + (if c.opcode == STORE then 1 else 0))
 one_installs c (inl (inl looks)) = let none = looks_none c looks in omega (arith, none)
-one_installs c (inl (inr e)) = by_opcode c.opcode c.size (inl e)
-one_installs c (inr e) = by_opcode c.opcode c.size (inr e)
+one_installs c (inl (inr own)) = by_opcode c.opcode c.size (inl own.0)
+one_installs c (inr own) = by_opcode c.opcode c.size (inr own.0)
 
 few_installs : (cs : List Command) → AreOfPair cs → installs cs ≤ 10 * (opcode_count DELETE cs + opcode_count STORE cs)
 few_installs [] h = omega arith
 few_installs (c ∷ cs) h = let one = one_installs c h.0 in let rest = few_installs cs h.1 in omega (arith, one, rest)
 
-pub second_installs : (first second : PortState) (m other : Map) (cs : List Command) → first.map ≡ Some (in_space 1 m)
-    → second.map ≡ Some (in_space 1 other) → AreOfSecond first second cs → installs cs ≤ most_pair_roots m other
-second_installs first second m other cs told too are =
-    let few = are.few (in_space 1 m) (in_space 1 other) told too in
+pub second_installs : (task : PairTask) (m other : Map) (cs : List Command) → OnSecond task m other cs → installs cs ≤ most_pair_roots m other
+second_installs task m other cs are =
+    let few = are.few in
     let each = few_installs cs are.only in
     omega (arith, few, each)
 
@@ -172,7 +215,7 @@ change_installs (delete key) change (inr one) = let n : installs change ≡ 10 =
 change_installs list change none = let n : installs change ≡ 0 = ap installs none in omega (arith, n)
 change_installs resync change none = let n : installs change ≡ 0 = ap installs none in omega (arith, n)
 
-pub first_installs : (task : PairTask) (m other : Map) (cs : List Command) → AreOfFirst task cs → installs cs ≤ most_pair_roots m other
+pub first_installs : (task : PairTask) (m other : Map) (cs : List Command) → AreOfWord task cs → installs cs ≤ most_pair_roots m other
 first_installs task m other cs are =
     let few = change_installs task are.change are.changing in
     let all : installs cs ≡ installs are.change = ap installs are.are ∙ asks_install are.asks are.change are.asking in

@@ -44,18 +44,18 @@ serving shape b d ready runs none stands =
 
 -- what was said of two ports that keep their shape, of the drives and boards when they are given back
 pub said_lent : (asked : Type 0) (task : PairTask) (shape one two : Shape) (p p' last q q' last' : Standing) (m : Map) (text : List ℕ)
-    → (asked → BothWalked shape p p' q q') → one ≡ shape → two ≡ shape → last ≡ p' → last' ≡ q'
+    → (asked → BothWalked task shape p p' q q') → one ≡ shape → two ≡ shape → last ≡ p' → last' ≡ q'
     → PairSaid asked task (seen shape p.on p.faults) (seen one p'.on p'.faults) (seen shape q.on q.faults) (seen two q'.on q'.faults) m text
-    → PairSaid (BothWalked shape p last q last') task (seen shape p.on p.faults)
+    → PairSaid (BothWalked task shape p last q last') task (seen shape p.on p.faults)
     (seen shape last.on last.faults) (seen shape q.on q.faults) (seen shape last'.on last'.faults) m text
 said_lent asked task shape one two p p' last q q' last' m text walked same same' back back' said =
     let First : Shape → Type 0 = λ s. PairSaid asked task (seen shape p.on p.faults) (seen s p'.on p'.faults) (seen shape q.on q.faults) (seen two q'.on q'.faults) m text in
     let Second : Shape → Type 0 = λ s. PairSaid asked task (seen shape p.on p.faults) (seen shape p'.on p'.faults) (seen shape q.on q.faults) (seen s q'.on q'.faults) m text in
-    let Last : Standing → Type 0 = λ x. PairSaid (BothWalked shape p x q q') task (seen shape p.on p.faults)
+    let Last : Standing → Type 0 = λ x. PairSaid (BothWalked task shape p x q q') task (seen shape p.on p.faults)
     (seen shape x.on x.faults) (seen shape q.on q.faults) (seen shape q'.on q'.faults) m text in
-    let Last' : Standing → Type 0 = λ x. PairSaid (BothWalked shape p last q x) task (seen shape p.on p.faults)
+    let Last' : Standing → Type 0 = λ x. PairSaid (BothWalked task shape p last q x) task (seen shape p.on p.faults)
     (seen shape last.on last.faults) (seen shape q.on q.faults) (seen shape x.on x.faults) m text in
-    let walk : PairSaid (BothWalked shape p p' q q') task (seen shape p.on p.faults)
+    let walk : PairSaid (BothWalked task shape p p' q q') task (seen shape p.on p.faults)
     (seen shape p'.on p'.faults) (seen shape q.on q.faults) (seen shape q'.on q'.faults) m text =
     elim (subst Second same' (subst First same said)) [
       | inl (some, done) ↦ inl (walked some, done)

@@ -18,10 +18,10 @@ use Rattle.pk_port.proofs.Chaining.{chained}
 use Rattle.pk_wordrun.{specs.Ends.end_of, specs.Told.KeepsInput, specs.declared.end.WordEnd.WordEnd, specs.declared.end.WordEnd.TheVariants.Done, specs.declared.end.WordEnd.TheVariants.Output}
 use Rattle.pk_wordrun.{proofs.Telling.keeps-flash}
 use Rattle.pk_mirrorwords.specs.PairTasks.{PairTask, map_left}
-use Rattle.pk_mirrorwords.specs.PairAnswers.{PairSaid, PairFault, AreOfFirst, AreOfPair, AreOfSecond}
+use Rattle.pk_mirrorwords.specs.PairAnswers.{PairSaid, PairFault, AreOfWord, AreOfPair, AsksSecond}
 use Rattle.pk_mirrorrun.specs.PairTold.{IsServing, EitherUnread, text_by, Walk, BothWalked, end_by, KeptFirst, KeptSecond, PairAnswered, PairEnds, most_pair_roots, UsedRoots, PairTold}
-use Rattle.pk_mirrorrun.specs.PairTold.{ServedUnworn, WornBefore, PairWorn}
-use Rattle.pk_mirrorrun.proofs.Commands.{ran_first, kept_first, change_keeps_others, part_left, same_parts, first_installs, second_installs}
+use Rattle.pk_mirrorrun.specs.PairTold.{ServedUnworn, WornBefore, PairWorn, OnSecond, WholeOnSecond}
+use Rattle.pk_mirrorrun.proofs.Commands.{ran_first, ran_second, kept_first, kept_second, change_keeps_others, part_left, same_parts, first_installs, second_installs}
 use Rattle.pk_mirrorrun.proofs.Unworn.{all_unworn, worn_before}
 
 -- ---- one drive
@@ -43,12 +43,12 @@ part_is : (shape : Shape) (start : Map) (cs : List Command) (p q : Standing) (w 
 part_is shape start cs p q w m told = part_held (reading shape q.on.board.pages []) w.asked.left m w.asked.held told
 
 -- the map after the session, if the port reports what the word leaves of the first namespace
-left_is : (task : PairTask) (shape : Shape) (start : Map) (cs : List Command) (p q : Standing) (begun : Begins shape start p) (w : AllServed shape start cs p q) → AreOfFirst task cs
+left_is : (task : PairTask) (shape : Shape) (start : Map) (cs : List Command) (p q : Standing) (begun : Begins shape start p) (w : AllServed shape start cs p q) → AreOfWord task cs
     → part_of (reading shape q.on.board.pages []) ≡ Some (map_left shape (limit_of p.on.terms.limits 1 ∷ []) task (in_space 1 start)) → w.asked.left ≡ map_left shape p.on.terms.limits task start
 left_is task shape start cs p q begun w are told =
     same_parts w.asked.left (map_left shape p.on.terms.limits task start)
     (part_is shape start cs p q w _ told ∙ sym (part_left task shape p.on.terms begun.some start))
-    (λ k other. elim (ran_first task shape p.on.terms start w.asked.left w.asked.answered.all (subst (AreOfFirst task) (sym w.asked.answered.are) are) w.asked.answered.ran) [
+    (λ k other. elim (ran_first task shape p.on.terms start w.asked.left w.asked.answered.all (subst (AreOfWord task) (sym w.asked.answered.are) are) w.asked.answered.ran) [
       | inl before ↦ ap (λ (m : Map). value_at m k) before ∙ sym (change_keeps_others task shape p.on.terms.limits start k other)
       | inr after ↦ ap (λ (m : Map). value_at m k) after
     ])
@@ -91,9 +91,15 @@ module _ (shape : Shape) (start : Map) (cs : List Command) (p q : Standing) wher
   ]
 
   -- the second of a pair
-  second_kept : Chained shape start cs p q → Goes shape p.on.board q.on.board (KeptSecond shape p.on.terms.limits)
-  second_kept w = weaker p.on.board q.on.board (KeptSilently shape p.on.terms start cs (rise p.on.board.read_faults q.on.board.read_faults)) (KeptSecond shape p.on.terms.limits)
-      (λ f posted k. record { map = k.1.map_left; held = k.1.held; same_limits = k.1.same_limits; silent = k.0 }) (kept_by w)
+  second_kept : AreOfPair cs → Chained shape start cs p q → Goes shape p.on.board q.on.board (KeptSecond shape p.on.terms.limits start)
+  second_kept are w = weaker p.on.board q.on.board (KeptSilently shape p.on.terms start cs (rise p.on.board.read_faults q.on.board.read_faults)) (KeptSecond shape p.on.terms.limits start)
+      (λ f posted k. record {
+        map = k.1.map_left;
+        held = k.1.held;
+        others = kept_second shape p.on.terms start cs (rise p.on.board.read_faults q.on.board.read_faults) [] f are k.1;
+        same_limits = k.1.same_limits;
+        silent = k.0;
+      }) (kept_by w)
 
 -- a drive that served a command was not worn before it
 unworn_by : (shape : Shape) (start : Map) (p q : Standing) → p.on.board.shape ≡ Some shape
@@ -104,14 +110,16 @@ unworn_by shape start p q has holds begun going before none walk =
     let run = w.asked.answered in
     few_unworn p.on.board (metered-unworn run.all (meter p.on.board) (meter q.on.board) (λ nothing. walk.1 (sym run.are ∙ ap commands nothing)) run.metered)
 
--- neither drive was worn
-abbrev BothUnworn : BoardState → BoardState → Type 0
-BothUnworn a c = (is_worn a ≡ false) × (is_worn c ≡ false)
+-- neither drive was worn, and the second served all that differed
+pub record BothUnworn (task : PairTask) (shape : Shape) (m other : Map) (a c d : BoardState) : Type 0 where
+  pub first : is_worn a ≡ false
+  pub second : is_worn c ≡ false
+  pub whole : ServedUnworn (WholeOnSecond task m other) shape c d
 
 -- ---- both
 
-module _ (task : PairTask) (shape : Shape) (m other : Map) (cs ds : List Command) (p p' q q' : Standing) (are : AreOfFirst task cs)
-    (few : installs ds ≤ most_pair_roots m other) (begun : Begins shape m p) (begun' : Begins shape other q) (walk : Chained shape m cs p p') (too : Chained shape other ds q q') where
+module _ (task : PairTask) (shape : Shape) (m other : Map) (cs ds : List Command) (p p' q q' : Standing) (are : AreOfWord task cs)
+    (of : OnSecond task m other ds) (begun : Begins shape m p) (begun' : Begins shape other q) (walk : Chained shape m cs p p') (too : Chained shape other ds q q') where
   abbrev a : BoardState
   a = p.on.board
 
@@ -132,8 +140,8 @@ module _ (task : PairTask) (shape : Shape) (m other : Map) (cs ds : List Command
   first_by : (new : BoardState) (failed : Type 0) → Goes shape a new (KeptFirst task failed shape limits m) → Goes shape a new (KeptFirst task failed shape (limits_at shape a.pages) m)
   first_by new failed = subst (λ (ls : List ℕ). Goes shape a new (KeptFirst task failed shape ls m)) (sym begun.within)
 
-  second_by : Goes shape c d (KeptSecond shape (limits_at shape c.pages))
-  second_by = subst (λ (ls : List ℕ). Goes shape c d (KeptSecond shape ls)) (sym begun'.within) (second_kept shape other ds q q' too)
+  second_by : Goes shape c d (KeptSecond shape (limits_at shape c.pages) other)
+  second_by = subst (λ (ls : List ℕ). Goes shape c d (KeptSecond shape ls other)) (sym begun'.within) (second_kept shape other ds q q' of.only too)
 
   -- without a post
   silent : (failed : Type 0) (n : Option ℕ) (f : Flash) (posted : List ℕ) → KeptSilently shape p.on.terms m cs n f posted → KeptFirst task failed shape limits m f posted
@@ -144,14 +152,14 @@ module _ (task : PairTask) (shape : Shape) (m other : Map) (cs ds : List Command
       (silent failed (rise a.read_faults b.read_faults)) (kept_by shape m cs p p' walk)
 
   -- what is the same whatever the end is
-  told : (last : BoardState) (end : WordEnd) → Goes shape a last (KeptFirst task (EitherUnread a last c d) shape limits m) → PairEnds task shape m a last c d end
+  told : (last : BoardState) (end : WordEnd) → Goes shape a last (KeptFirst task (EitherUnread a last c d) shape limits m) → PairEnds task shape m other a last c d end
       → UsedRoots m other a last → KeepsInput a last → PairTold task shape m other a last c d end
   told last end kept ends used input = record {
     first_kept = first_by last (EitherUnread a last c d) kept;
     second_kept = second_by;
     ends = ends;
     first_used = used;
-    second_used = used_by shape other ds q q' m other few too;
+    second_used = used_by shape other ds q q' m other (second_installs task m other ds of) too;
     first_input = input;
     second_input = keeps-flash c d (only_flash shape other ds q q' too);
   }
@@ -159,33 +167,33 @@ module _ (task : PairTask) (shape : Shape) (m other : Map) (cs ds : List Command
   used_first : UsedRoots m other a b
   used_first = used_by shape m cs p p' m other (first_installs task m other cs are) walk
 
-  ended : (end : WordEnd) → PairEnds task shape m a b c d end → PairTold task shape m other a b c d end
+  ended : (end : WordEnd) → PairEnds task shape m other a b c d end → PairTold task shape m other a b c d end
   ended end ends = told b end (first_silent (EitherUnread a b c d)) ends used_first (keeps-flash a b (only_flash shape m cs p p' walk))
 
   -- a drive is worn
-  worn_by : WornBefore (AreOfFirst task) shape a b ⊎ WornBefore AreOfPair shape c d → PairWorn task shape a b c d
+  worn_by : WornBefore (AreOfWord task) shape a b ⊎ WornBefore (OnSecond task m other) shape c d → PairWorn task shape m other a b c d
   worn_by worn = record { worn = worn; silent = ap (λ (s : BoardState). s.posted) (only_flash shape m cs p p' walk) }
 
-  first_halted : (h : HaltedAt shape m cs p p') (halt : Halt) → h.halt ≡ halt → p.halt ≡ None → Chain shape p cs p' → PairEnds task shape m a b c d (end_of halt)
+  first_halted : (h : HaltedAt shape m cs p p') (halt : Halt) → h.halt ≡ halt → p.halt ≡ None → Chain shape p cs p' → PairEnds task shape m other a b c d (end_of halt)
   first_halted h Stopped is none chain = inl (stopped_by shape m cs p p' h (subst (λ (x : Halt). HasCause p'.on x) is h.cause))
   first_halted h UsedUp is none chain =
-      worn_by (inl (worn_before (AreOfFirst task) shape p cs p' h.halt are none h.is chain (subst (λ (x : Halt). HasCause p'.on x) is h.cause)))
+      worn_by (inl (worn_before (AreOfWord task) shape p cs p' h.halt are none h.is chain (subst (λ (x : Halt). HasCause p'.on x) is h.cause)))
 
-  second_halted : (h : HaltedAt shape other ds q q') (halt : Halt) → h.halt ≡ halt → q.halt ≡ None → AreOfPair ds → Chain shape q ds q' → PairEnds task shape m a b c d (end_of halt)
-  second_halted h Stopped is none pair chain = inr (stopped_by shape other ds q q' h (subst (λ (x : Halt). HasCause q'.on x) is h.cause))
-  second_halted h UsedUp is none pair chain =
-      worn_by (inr (worn_before AreOfPair shape q ds q' h.halt pair none h.is chain (subst (λ (x : Halt). HasCause q'.on x) is h.cause)))
+  second_halted : (h : HaltedAt shape other ds q q') (halt : Halt) → h.halt ≡ halt → q.halt ≡ None → Chain shape q ds q' → PairEnds task shape m other a b c d (end_of halt)
+  second_halted h Stopped is none chain = inr (stopped_by shape other ds q q' h (subst (λ (x : Halt). HasCause q'.on x) is h.cause))
+  second_halted h UsedUp is none chain =
+      worn_by (inr (worn_before (OnSecond task m other) shape q ds q' h.halt of none h.is chain (subst (λ (x : Halt). HasCause q'.on x) is h.cause)))
 
   -- a drive halted
   pub told-halted : (one two : Option Halt) (end : WordEnd) → p.halt ≡ None → q.halt ≡ None → p'.halt ≡ one → q'.halt ≡ two → end_by one two ≡ Some end
-      → AreOfPair ds → Chain shape p cs p' → Chain shape q ds q' → PairTold task shape m other a b c d end
-  told-halted None None end first second is also by pair chain chain' = absurd (let clash : ◌≡◌ {A = Option WordEnd} None (Some end) = by in cc)
-  told-halted None (Some halt) end first second is also by pair chain chain' =
+      → Chain shape p cs p' → Chain shape q ds q' → PairTold task shape m other a b c d end
+  told-halted None None end first second is also by chain chain' = absurd (let clash : ◌≡◌ {A = Option WordEnd} None (Some end) = by in cc)
+  told-halted None (Some halt) end first second is also by chain chain' =
       let (h, same) = halted_at shape other ds q q' halt second also too in
-      ended end (subst (λ (e : WordEnd). PairEnds task shape m a b c d e) (some_same (end_of halt) end by) (second_halted h halt same second pair chain'))
-  told-halted (Some halt) two end first second is also by pair chain chain' =
+      ended end (subst (λ (e : WordEnd). PairEnds task shape m other a b c d e) (some_same (end_of halt) end by) (second_halted h halt same second chain'))
+  told-halted (Some halt) two end first second is also by chain chain' =
       let (h, same) = halted_at shape m cs p p' halt first is walk in
-      ended end (subst (λ (e : WordEnd). PairEnds task shape m a b c d e) (some_same (end_of halt) end by) (first_halted h halt same first chain))
+      ended end (subst (λ (e : WordEnd). PairEnds task shape m other a b c d e) (some_same (end_of halt) end by) (first_halted h halt same first chain))
 
   -- if neither did, no port failed
   pub no_fault : p.halt ≡ None → q.halt ≡ None → p'.halt ≡ None → q'.halt ≡ None → p.faults ≡ 0 → q.faults ≡ 0
@@ -200,8 +208,8 @@ module _ (task : PairTask) (shape : Shape) (m other : Map) (cs ds : List Command
   -- ---- the text
 
   module _ (w : AllServed shape m cs p p') (v : AllServed shape other ds q q') (text : List ℕ)
-      (said : PairSaid (BothUnworn a c) task (seen shape p.on p.faults) (seen shape p'.on p'.faults) (seen shape q.on q.faults) (seen shape q'.on q'.faults) (in_space 1 m) text)
-      (one_served : ServedUnworn (AreOfFirst task) shape a b) (two_served : ServedUnworn AreOfPair shape c d) where
+      (said : PairSaid (BothUnworn task shape m other a c d) task (seen shape p.on p.faults) (seen shape p'.on p'.faults) (seen shape q.on q.faults) (seen shape q'.on q'.faults) (in_space 1 m) text)
+      (one_served : ServedUnworn (AreOfWord task) shape a b) (two_served : ServedUnworn (OnSecond task m other) shape c d) where
     -- what the text says of the map that the first drive holds
     abbrev Says : List Exchange → List ℕ → Map → Type 0
     Says all t left = ((left ≡ map_left shape limits task m) × (t ≡ text_by shape limits task m)) ⊎ (EitherUnread a b c d × (t ≡ failed_line))
@@ -232,7 +240,7 @@ module _ (task : PairTask) (shape : Shape) (m other : Map) (cs ds : List Command
     word = KeptWord Says shape p.on.terms m cs (meter a) (meter b)
 
     -- what holds at the end
-    finished_says : PairAnswered task shape m a (after_post b text) c d text ⊎ (EitherUnread a b c d × (text ≡ failed_line))
+    finished_says : PairAnswered task shape m other a (after_post b text) c d text ⊎ (EitherUnread a b c d × (text ≡ failed_line))
     finished_says = elim said [
       | inl (unworn, done) ↦ inl (record {
         text_is = done.spelled ∙ ap (λ (ls : List ℕ). text_by shape ls task m) (sym begun.within);
@@ -242,9 +250,11 @@ module _ (task : PairTask) (shape : Shape) (m other : Map) (cs ds : List Command
           v.asked.left,
           v.asked.held,
           part_is shape other ds q q' v _ done.second_left ∙ sym (part_left task shape p.on.terms begun.some m) ∙ ap (λ (ls : List ℕ). in_space 1 (map_left shape ls task m)) (sym begun.within),
+          ran_second shape q.on.terms other v.asked.left v.asked.answered.all (subst AreOfPair (sym v.asked.answered.are) of.only) v.asked.answered.ran,
         );
-        first_unworn = unworn.0;
-        second_unworn = unworn.1;
+        whole = unworn.whole;
+        first_unworn = unworn.first;
+        second_unworn = unworn.second;
       })
       | inr unread ↦ inr unread
     ]
@@ -306,8 +316,8 @@ pub record Walked (task : PairTask) (shape : Shape) (m other : Map) (p p' q q' :
   pub begun' : Begins shape other q
   pub going : p.on.stopped ≡ false
   pub going' : q.on.stopped ≡ false
-  pub walk : Walk shape (AreOfFirst task) p p'
-  pub too : Walk shape (AreOfSecond (seen shape p.on p.faults) (seen shape q.on q.faults)) q q'
+  pub walk : Walk shape (AreOfWord task) p p'
+  pub too : Walk shape (AsksSecond task (seen shape p.on p.faults) (seen shape q.on q.faults)) q q'
   pub first : p.halt ≡ None
   pub second : q.halt ≡ None
 
@@ -318,45 +328,51 @@ module _ {task : PairTask} {shape : Shape} {m other : Map} {p p' q q' : Standing
   two : Chained shape other h.too.0 q q'
   two = chained shape other q h.too.0 q' h.has' h.holds' h.begun'.within h.going' h.too.2
 
-  few_roots : installs h.too.0 ≤ most_pair_roots m other
-  few_roots = second_installs (seen shape p.on p.faults) (seen shape q.on q.faults) m other h.too.0
-      (ap part_of h.holds) (ap part_of h.holds') h.too.1
+  of_second : OnSecond task m other h.too.0
+  of_second = h.too.1.known (in_space 1 m) (in_space 1 other) (ap part_of h.holds) (ap part_of h.holds')
 
   pub tells-halted : (end : WordEnd) → Some end ≡ end_by p'.halt q'.halt → PairTold task shape m other p.on.board p'.on.board q.on.board q'.on.board end
-  tells-halted end by = told-halted task shape m other h.walk.0 h.too.0 p p' q q' h.walk.1 few_roots h.begun h.begun' one two p'.halt q'.halt end h.first h.second refl refl (sym by) h.too.1.only h.walk.2 h.too.2
+  tells-halted end by = told-halted task shape m other h.walk.0 h.too.0 p p' q q' h.walk.1 of_second h.begun h.begun' one two p'.halt q'.halt end h.first h.second refl refl (sym by) h.walk.2 h.too.2
 
-  one_unworn : p'.halt ≡ None → ServedUnworn (AreOfFirst task) shape p.on.board p'.on.board
-  one_unworn none = all_unworn (AreOfFirst task) shape p h.walk.0 p' h.walk.1 none h.walk.2
+  one_unworn : p'.halt ≡ None → ServedUnworn (AreOfWord task) shape p.on.board p'.on.board
+  one_unworn none = all_unworn (AreOfWord task) shape p h.walk.0 p' h.walk.1 none h.walk.2
 
-  two_unworn : q'.halt ≡ None → ServedUnworn AreOfPair shape q.on.board q'.on.board
-  two_unworn nor = all_unworn AreOfPair shape q h.too.0 q' h.too.1.only nor h.too.2
+  two_unworn : q'.halt ≡ None → ServedUnworn (OnSecond task m other) shape q.on.board q'.on.board
+  two_unworn nor = all_unworn (OnSecond task m other) shape q h.too.0 q' of_second nor h.too.2
 
   -- what was said after commands was said of drives that were not worn
   unworn : p'.halt ≡ None → q'.halt ≡ None → (text : List ℕ)
-      → PairSaid (BothWalked shape p p' q q') task (seen shape p.on p.faults) (seen shape p'.on p'.faults) (seen shape q.on q.faults) (seen shape q'.on q'.faults) (in_space 1 m) text
-      → PairSaid (BothUnworn p.on.board q.on.board) task (seen shape p.on p.faults) (seen shape p'.on p'.faults) (seen shape q.on q.faults) (seen shape q'.on q'.faults) (in_space 1 m) text
+      → PairSaid (BothWalked task shape p p' q q') task (seen shape p.on p.faults) (seen shape p'.on p'.faults) (seen shape q.on q.faults) (seen shape q'.on q'.faults) (in_space 1 m) text
+      → PairSaid (BothUnworn task shape m other p.on.board q.on.board q'.on.board) task (seen shape p.on p.faults) (seen shape p'.on p'.faults) (seen shape q.on q.faults) (seen shape q'.on q'.faults) (in_space 1 m) text
   unworn none nor text (inl (asked, done)) =
-      let one = unworn_by shape m p p' h.has h.holds h.begun h.going h.first none asked.0 in
-      inl ((one, unworn_by shape other q q' h.has' h.holds' h.begun' h.going' h.second nor asked.1), done)
+      inl (
+        record {
+          first = unworn_by shape m p p' h.has h.holds h.begun h.going h.first none asked.first;
+          second = unworn_by shape other q q' h.has' h.holds' h.begun' h.going' h.second nor asked.second;
+          whole = all_unworn (WholeOnSecond task m other) shape q asked.whole.0 q'
+              (asked.whole.1 (in_space 1 m) (in_space 1 other) (ap part_of h.holds) (ap part_of h.holds')) nor asked.whole.2;
+        },
+        done,
+      )
   unworn none nor text (inr unread) = inr unread
 
   pub tells-posted : end_by p'.halt q'.halt ≡ None → (text : List ℕ)
-      → PairSaid (BothWalked shape p p' q q') task (seen shape p.on p.faults) (seen shape p'.on p'.faults) (seen shape q.on q.faults) (seen shape q'.on q'.faults) (in_space 1 m) text
+      → PairSaid (BothWalked task shape p p' q q') task (seen shape p.on p.faults) (seen shape p'.on p'.faults) (seen shape q.on q.faults) (seen shape q'.on q'.faults) (in_space 1 m) text
       → (last : BoardState) → last ≡ after_post p'.on.board text → PairTold task shape m other p.on.board last q.on.board q'.on.board Done
   tells-posted by text said last is =
       let (none, nor) = both_none p'.halt q'.halt by in
-      told-posted task shape m other h.walk.0 h.too.0 p p' q q' h.walk.1 few_roots h.begun h.begun' one two (all_served shape m h.walk.0 p p' h.first none one)
+      told-posted task shape m other h.walk.0 h.too.0 p p' q q' h.walk.1 of_second h.begun h.begun' one two (all_served shape m h.walk.0 p p' h.first none one)
       (all_served shape other h.too.0 q q' h.second nor two) text (unworn none nor text said) (one_unworn none) (two_unworn nor) last is
 
   pub tells-unposted : end_by p'.halt q'.halt ≡ None → (text : List ℕ)
-      → PairSaid (BothWalked shape p p' q q') task (seen shape p.on p.faults) (seen shape p'.on p'.faults) (seen shape q.on q.faults) (seen shape q'.on q'.faults) (in_space 1 m) text
+      → PairSaid (BothWalked task shape p p' q q') task (seen shape p.on p.faults) (seen shape p'.on p'.faults) (seen shape q.on q.faults) (seen shape q'.on q'.faults) (in_space 1 m) text
       → (last : BoardState) → PostFailed p'.on.board last text → PairTold task shape m other p.on.board last q.on.board q'.on.board Output
   tells-unposted by text said last failed =
       let (none, nor) = both_none p'.halt q'.halt by in
-      told-unposted task shape m other h.walk.0 h.too.0 p p' q q' h.walk.1 few_roots h.begun h.begun' one two (all_served shape m h.walk.0 p p' h.first none one)
+      told-unposted task shape m other h.walk.0 h.too.0 p p' q q' h.walk.1 of_second h.begun h.begun' one two (all_served shape m h.walk.0 p p' h.first none one)
       (all_served shape other h.too.0 q q' h.second nor two) text (unworn none nor text said) (one_unworn none) (two_unworn nor) last failed
 
   pub faults-never : end_by p'.halt q'.halt ≡ None → p.faults ≡ 0 → q.faults ≡ 0
       → PairFault (seen shape p.on p.faults) (seen shape p'.on p'.faults) (seen shape q.on q.faults) (seen shape q'.on q'.faults) → ⊥
   faults-never by zero zero' fault =
-      let (none, nor) = both_none p'.halt q'.halt by in no_fault task shape m other h.walk.0 h.too.0 p p' q q' h.walk.1 few_roots h.begun h.begun' one two h.first h.second none nor zero zero' fault
+      let (none, nor) = both_none p'.halt q'.halt by in no_fault task shape m other h.walk.0 h.too.0 p p' q q' h.walk.1 of_second h.begun h.begun' one two h.first h.second none nor zero zero' fault

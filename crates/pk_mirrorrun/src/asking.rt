@@ -10,7 +10,7 @@ ghost use Rattle.pk_port.specs.Ready.{Fits};
 ghost use Rattle.pk_port.specs.Steps.{mount, standing, seen as seen_on};
 ghost use Rattle.pk_words.specs.Said.{Spoken};
 ghost use Rattle.pk_mirrorwords.specs.PairTasks.{seen, IsAllowed};
-ghost use Rattle.pk_mirrorwords.specs.PairAnswers.{PairSaid, PairFault, AreOfFirst, AreOfSecond};
+ghost use Rattle.pk_mirrorwords.specs.PairAnswers.{PairSaid, PairFault, AreOfWord, AsksSecond};
 ghost use Rattle.pk_mirrorrun.specs.PairTold.{first_limit, IsServing, Walk, BothWalked};
 
 use pk_base::Shape;
@@ -54,12 +54,12 @@ pub fn ask<D: Engine, B: Nand, E: Engine, C: Nand>(
     requires allowed { IsAllowed (seen task.now) }
 
     // What the commands made of both boards.
-    ensures first { Walk shape (AreOfFirst (seen task.now))
+    ensures first { Walk shape (AreOfWord (seen task.now))
         (standing (B.state first.old) (D.sight first_drive.old) first_tally.old.faults
         first_tally.old.halt)
         (standing (B.state first.new) (D.sight first_drive.new) first_tally.new.faults
         first_tally.new.halt) }
-    ensures second { Walk shape (AreOfSecond
+    ensures second { Walk shape (AsksSecond (seen task.now)
         (seen_on shape (mount (B.state first.old) (D.sight first_drive.old)) first_tally.old.faults)
         (seen_on shape (mount (C.state second.old) (E.sight second_drive.old)) second_tally.old.faults))
         (standing (C.state second.old) (E.sight second_drive.old) second_tally.old.faults
@@ -69,7 +69,7 @@ pub fn ask<D: Engine, B: Nand, E: Engine, C: Nand>(
 
     // The text, or that a port failed.
     ensures said { OnOk result ((m : Map) → Holds shape (B.state first.old).pages m
-        → PairSaid (BothWalked shape
+        → PairSaid (BothWalked (seen task.now) shape
         (standing (B.state first.old) (D.sight first_drive.old) first_tally.old.faults
         first_tally.old.halt)
         (standing (B.state first.new) (D.sight first_drive.new) first_tally.new.faults

@@ -4,9 +4,10 @@ use Rattle.std.{specs.List.AllByRecursion, specs.FinMap.len}
 use Rattle.pk_base.{specs.Shape.limit, specs.Map.Map}
 use Rattle.pk_nvme.{specs.Command.Command, specs.declared.opcode.TheConstants.STORE, specs.declared.opcode.TheConstants.DELETE, specs.declared.status.TheConstants.UNRECOVERED_ERROR}
 use Rattle.pk_nand.specs.Calls.{Rose}
-use Rattle.pk_host.{specs.Port.PortState, specs.Outcomes.AtMostOne}
+use Rattle.pk_host.{specs.Port.PortState, specs.Outcomes.AtMostOne, specs.Outcomes.TookSome}
 use Rattle.pk_words.specs.Lines.{failed_line, status_line}
-use Rattle.pk_mirror.{specs.Pair.Mirrored, specs.Pair.IsPair, specs.Causes.AreAsking, specs.Spending.LooksOr, specs.Spending.opcode_count, specs.declared.error.MirrorError.MirrorError}
+use Rattle.pk_mirror.{specs.Pair.Mirrored, specs.Pair.IsPair, specs.Causes.AreAsking, specs.Causes.BothAsked, specs.declared.error.MirrorError.MirrorError}
+use Rattle.pk_mirror.specs.Spending.{OnlyLooks, LooksOrChanges, opcode_count, OnlyDiffering, AllDiffering}
 use Rattle.pk_mirror.specs.declared.error.MirrorError.TheVariants.{Refused, Port, Split}
 use Rattle.pk_mirrorwords.specs.PairTasks.{PairTask, change_of, map_left, text_of}
 
@@ -62,24 +63,45 @@ abbrev pub AreChange : Option Command → List Command → Type 0
 AreChange None cs = cs ≡ []
 AreChange (Some c) cs = AtMostOne c cs
 
--- On the first drive: Lists and Retrieves, then at most the command that changes the maps.
-pub record AreOfFirst (task : PairTask) (cs : List Command) : Type 0 where
+-- Of a word alone: Lists and Retrieves, then at most the command that changes the maps. So is all that the first drive is asked for.
+pub record AreOfWord (task : PairTask) (cs : List Command) : Type 0 where
   pub asks : List Command
   pub change : List Command
   pub asking : AreAsking asks
   pub changing : AreChange (change_of task) change
   pub are : cs ≡ asks ++ change
 
--- commands that look, delete or store
+-- commands that look, or delete or store in the first namespace
 abbrev pub AreOfPair : List Command → Type 0
-AreOfPair cs = AllByRecursion (λ c. LooksOr DELETE c ⊎ (c.opcode ≡ STORE)) cs
+AreOfPair cs = AllByRecursion LooksOrChanges cs
 
--- at most one that deletes or stores
-pub record HaveOneChange (cs : List Command) : Type 0 where
+-- On the second drive, where the first has the map a and the second b: the commands of a resync, or the first of them, and then those of the word.
+-- The resync deletes and stores no key but those of which both maps differ, each at most once, and if the maps are the same it only looks.
+pub record AreOfSecond (task : PairTask) (a b : Map) (cs : List Command) : Type 0 where
+  pub resync : List Command
+  pub word : List Command
+  pub differing : OnlyDiffering a b resync
+  pub quiet : a ≡ b → AllByRecursion OnlyLooks resync
+  pub asking : AreOfWord task word
+  pub are : cs ≡ resync ++ word
   pub only : AreOfPair cs
-  pub few : opcode_count DELETE cs + opcode_count STORE cs ≤ 1
+  pub few : opcode_count DELETE cs + opcode_count STORE cs ≤ len a + len b + 1
 
--- On the second drive: at most a Delete of each key that it has, a Store of each that the first has, and the word's own command.
-pub record AreOfSecond (first second : PortState) (cs : List Command) : Type 0 where
+-- The same of a word that was done: the resync deletes exactly the keys of the second that the first lacks or has with another value, and stores
+-- exactly those that the second then lacks.
+pub record AreWholeOfSecond (task : PairTask) (a b : Map) (cs : List Command) : Type 0 where
+  pub parts : AreOfSecond task a b cs
+  pub all : AllDiffering a b parts.resync
+
+-- the same of two ports, if their maps are known
+pub record AsksSecond (task : PairTask) (first second : PortState) (cs : List Command) : Type 0 where
   pub only : AreOfPair cs
-  pub few : (m other : Map) → first.map ≡ Some m → second.map ≡ Some other → opcode_count DELETE cs + opcode_count STORE cs ≤ len m + len other + 1
+  pub known : (a b : Map) → first.map ≡ Some a → second.map ≡ Some b → AreOfSecond task a b cs
+
+abbrev pub AsksAllOfSecond : PairTask → PortState → PortState → List Command → Type 0
+AsksAllOfSecond task first second cs = (a b : Map) → first.map ≡ Some a → second.map ≡ Some b → AreWholeOfSecond task a b cs
+
+-- Each port took at least one command, and the second was asked for all that differed.
+pub record PairAsked {P Q : Type 0} (tookP : P → List Command → P → Type 0) (tookQ : Q → List Command → Q → Type 0) (task : PairTask) (a b : PortState) (first first' : P) (second second' : Q) : Type 0 where
+  pub both : BothAsked tookP tookQ first first' second second'
+  pub whole : TookSome tookQ (AsksAllOfSecond task a b) second second'

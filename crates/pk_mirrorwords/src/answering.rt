@@ -8,10 +8,10 @@ ghost use Rattle.pk_host.specs.Outcomes.{AtMostOne, TookSome};
 ghost use Rattle.pk_host.specs.declared.types.StoreRule.TheVariants.{Any};
 ghost use Rattle.pk_words.specs.Lines.{key_lines};
 ghost use Rattle.pk_words.specs.declared.sizes.TheConstants.{LINE_BYTES};
-ghost use Rattle.pk_mirror.specs.Causes.{AreAsking, BothAsked};
+ghost use Rattle.pk_mirror.specs.Causes.{AreAsking};
 ghost use Rattle.pk_mirror.specs.Pair.{Mirrored};
 ghost use Rattle.pk_mirrorwords.specs.PairTasks.{seen, IsAllowed, put, get, delete, list};
-ghost use Rattle.pk_mirrorwords.specs.PairAnswers.{IsToldPair, IsInStep, PairDone, PairSaid, PairFails, PairFault, ResyncFails, AreOfFirst, AreOfSecond, HaveOneChange};
+ghost use Rattle.pk_mirrorwords.specs.PairAnswers.{IsToldPair, IsInStep, PairDone, PairSaid, PairFails, PairFault, ResyncFails, AreOfWord, AsksSecond, PairAsked};
 
 use crate::pages::list;
 use crate::pair_room::PairRoom;
@@ -153,8 +153,8 @@ fn ask_in_step<P: Port, Q: Port>(
     ensures fails { IfErr result (λ e. (m : Map) → (P.state first.old).map ≡ Some m
         → PairFails (seen task.now) (P.state first.old) (P.state first.new) (Q.state second.old)
         (Q.state second.new) m e) }
-    ensures took_first { TookSome P.took (AreOfFirst (seen task.now)) first.old first.new }
-    ensures took_second { TookSome Q.took HaveOneChange second.old second.new }
+    ensures took_first { TookSome P.took (AreOfWord (seen task.now)) first.old first.new }
+    ensures took_second { TookSome Q.took (AreOfWord (seen task.now)) second.old second.new }
     ensures shape { room.new.shape ≡ room.old.shape }
 {
     let shape = room.shape;
@@ -199,10 +199,11 @@ fn ask_pair<P: Port, Q: Port>(
     ensures fails { IfErr result (λ e. (m : Map) → (P.state first.old).map ≡ Some m
         → PairFails (seen task.now) (P.state first.old) (P.state first.new) (Q.state second.old)
         (Q.state second.new) m e) }
-    ensures took_first { TookSome P.took (AreOfFirst (seen task.now)) first.old first.new }
-    ensures took_second { TookSome Q.took (AreOfSecond (P.state first.old) (Q.state second.old))
-        second.old second.new }
-    ensures asked { BothAsked P.took Q.took first.old first.new second.old second.new
+    ensures took_first { TookSome P.took (AreOfWord (seen task.now)) first.old first.new }
+    ensures took_second { TookSome Q.took (AsksSecond (seen task.now) (P.state first.old)
+        (Q.state second.old)) second.old second.new }
+    ensures asked { PairAsked P.took Q.took (seen task.now) (P.state first.old)
+        (Q.state second.old) first.old first.new second.old second.new
         ⊎ ResyncFails (P.state first.old) (P.state first.new) (Q.state second.old)
         (Q.state second.new) result }
     ensures shape { room.new.shape ≡ room.old.shape }
@@ -214,7 +215,7 @@ fn ask_pair<P: Port, Q: Port>(
 }
 
 /// Makes the second drive equal to the first, does what a word asks, and says the answer. An error when a port failed. Each port took
-/// at least one command when the text is the definition's.
+/// at least one command when the text is the definition's, and the second a Delete or a Store of exactly the keys that differed.
 pub fn answer_pair<P: Port, Q: Port>(
     mirror: &mut Mirror,
     first: &mut P,
@@ -226,14 +227,15 @@ pub fn answer_pair<P: Port, Q: Port>(
     requires allowed { IsAllowed (seen task.now) }
     requires shape { (P.state first.old).shape ≡ room.old.shape }
     ensures said { OnOk result ((m : Map) → (P.state first.old).map ≡ Some m
-        → PairSaid (BothAsked P.took Q.took first.old first.new second.old second.new)
+        → PairSaid (PairAsked P.took Q.took (seen task.now) (P.state first.old)
+        (Q.state second.old) first.old first.new second.old second.new)
         (seen task.now) (P.state first.old) (P.state first.new) (Q.state second.old)
         (Q.state second.new) m room.new.text) }
     ensures fault { OnErr result (PairFault (P.state first.old) (P.state first.new)
         (Q.state second.old) (Q.state second.new)) }
-    ensures took_first { TookSome P.took (AreOfFirst (seen task.now)) first.old first.new }
-    ensures took_second { TookSome Q.took (AreOfSecond (P.state first.old) (Q.state second.old))
-        second.old second.new }
+    ensures took_first { TookSome P.took (AreOfWord (seen task.now)) first.old first.new }
+    ensures took_second { TookSome Q.took (AsksSecond (seen task.now) (P.state first.old)
+        (Q.state second.old)) second.old second.new }
     ensures shape { room.new.shape ≡ room.old.shape }
 {
     match ask_pair(mirror, first, second, room, task) {

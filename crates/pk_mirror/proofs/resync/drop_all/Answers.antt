@@ -1,13 +1,13 @@
 use Rattle.std.proofs.Common.{◌≤◌, length, Some, None, sym, subst, ◌∙◌, arith}
 use Rattle.pk_base.specs.Shape.{Shape, greatest}
-use Rattle.pk_mirror.{specs.Agreement.AreAny, specs.Agreement.NoOther, specs.Spending.to_delete, proofs.PairLemmas.still_alike}
+use Rattle.pk_mirror.{specs.Agreement.AreAny, specs.Agreement.NoOther, specs.Spending.ToDelete, proofs.PairLemmas.still_alike}
 use Rattle.pk_mirror.proofs.VisitLemmas.{goes_on, fails_on, asked_later}
 use Rattle.pk_mirror.proofs.PageLemmas.{turning_begins, turning_goes, turned_all, turns_as, smaller_as}
 use Rattle.pk_nvme.specs.declared.opcode.TheConstants.{DELETE}
 use Rattle.pk_mirror.proofs.resync.drop_all.Goals as goal
 
 pub loop-next-init : goal.loop-next-init
-loop-next-init g c = turning_begins g.P.Port.state g.P.Port.took g.Q.Port.state g.Q.Port.took AreAny to_delete DELETE NoOther c.args.first.now c.args.second.now
+loop-next-init g c = turning_begins g.P.Port.state g.P.Port.took g.Q.Port.state g.Q.Port.took AreAny ToDelete DELETE NoOther c.args.first.now c.args.second.now
     (g.met.P.Port.took_none c.args.first.now) (g.met.Q.Port.took_none c.args.second.now)
 
 pub drop_page-requires-clause-alike : goal.drop_page-requires-clause-alike
@@ -29,7 +29,7 @@ pub loop-next-smaller : goal.loop-next-smaller
 loop-next-smaller g c = (smaller_as _ c.loop-next.last _ c.in-Ok-Some.next c.as_ref.ensures.value c.in-Ok-Some.field-0-is c.in-Ok-Some.ensures.falls).1
 
 pub loop-next-preserved : goal.loop-next-preserved
-loop-next-preserved g c = turning_goes g.P.Port.state g.P.Port.took g.Q.Port.state g.Q.Port.took AreAny to_delete DELETE NoOther g.met.P.Port.took_both g.met.Q.Port.took_both
+loop-next-preserved g c = turning_goes g.P.Port.state g.P.Port.took g.Q.Port.state g.Q.Port.took AreAny ToDelete DELETE NoOther g.met.P.Port.took_both g.met.Q.Port.took_both
     _ _ _ _ _ _ c.loop-next.last c.in-Ok-Some.next c.loop-next.invariant c.in-Ok-Some.ensures.dropped
     (turns_as AreAny NoOther (g.P.Port.state c.loop-next.first) (g.Q.Port.state c.loop-next.second) (g.Q.Port.state c.drop_page.new.second) _ c.loop-next.last _
     (Some c.in-Ok-Some.next) c.as_ref.ensures.value c.in-Ok-Some.field-0-is c.in-Ok-Some.ensures.turns)

@@ -1,7 +1,8 @@
-use Rattle.std.proofs.Common.{◌≡◌, inr, List, ℕ, Some, None, [], refl, arith}
+use Rattle.std.proofs.Common.{◌≡◌, inr, List, ℕ, Some, None, [], length, take, refl, arith}
 use Rattle.std.specs.FinMap.{get}
 use Rattle.pk_base.specs.Map.{Map}
-use Rattle.pk_host.specs.Outcomes.{retrieved, stored, Fetches}
+use Rattle.pk_nvme.specs.declared.opcode.TheConstants.{STORE}
+use Rattle.pk_host.{specs.Outcomes.retrieved, specs.Outcomes.stored, specs.Outcomes.Fetches, proofs.CommandLemmas.key-of_key}
 use Rattle.pk_mirror.{specs.declared.error.Side.TheVariants.First, specs.Agreement.IsPart, specs.Agreement.HaveSame, specs.Progress.Looked}
 use Rattle.pk_mirror.{proofs.ReplyLemmas.retrieved_tells, proofs.ReplyLemmas.stored_tells, proofs.visiting.copy.Goals.After-retrieve, proofs.visiting.copy.Goals.In-Ok-Some}
 use Rattle.pk_mirror.proofs.KeyLemmas.{fetched_as, fits_told, visits_lacking, visits_stored, first_cause, second_cause, side_unread, store_unread, retrieve_keeps}
@@ -21,9 +22,10 @@ seen g c = record {
 found : (g : given.Over) (c : In-Ok-Some g) → Fetches (g.P.Port.state c.args.first.now) c.args.key.now (Some c.in-Ok-Some.len) c.retrieve.new.into
 found g c = fetched_as (g.P.Port.state c.args.first.now) c.args.key.now c.retrieve.new.into _ (Some c.in-Ok-Some.len) c.in-Ok-Some.field-0-is c.in-Ok-Some.ensures.fetches
 
-has : (g : given.Over) (c : In-Ok-Some g) (a b : Map) → (g.P.Port.state c.args.first.now).map ≡ Some a
-    → (g.Q.Port.state c.args.second.now).map ≡ Some b → (v : List ℕ) × (get a c.args.key.now ≡ Some v)
-has g c a b ea eb = found_has (g.P.Port.state c.args.first.now) c.args.key.now c.in-Ok-Some.len c.retrieve.new.into (found g c) a b (g.Q.Port.state c.args.second.now) ea eb
+has : (g : given.Over) (c : In-Ok-Some g) (value : List ℕ) → value ≡ take c.in-Ok-Some.len c.retrieve.new.into
+    → (a : Map) → (g.P.Port.state c.args.first.now).map ≡ Some a → get a c.args.key.now ≡ Some value
+has g c value is = found_has (g.P.Port.state c.args.first.now) c.args.key.now c.in-Ok-Some.len c.retrieve.new.into value (found g c)
+    (fits_told _ _ _ retrieved _ _ c.args.key.now c.in-Ok-Some.ensures.gives (omega (arith, c.requires.room, c.retrieve.auto.into))) is
 
 pub returns-in-Ok-None-clause-visits : goal.returns-in-Ok-None-clause-visits
 returns-in-Ok-None-clause-visits g c = visits_lacking (g.P.Port.state c.args.first.now) (g.Q.Port.state c.args.second.now) (g.Q.Port.state c.args.second.now) c.args.key.now c.retrieve.new.into
@@ -46,7 +48,7 @@ returns-in-Ok-clause-copied g c =
       took_second = (
         _,
         stored_one (g.P.Port.state c.args.first.now) (g.Q.Port.state c.args.second.now) (g.Q.Port.state c.store.new.port) c.args.key.now c.front.result.now
-            (has g at.In-Ok-Some) c.requires.lacked c.in-Ok.ensures.stores,
+            (key-of_key STORE c.args.key.now (length c.front.result.now) 0 c.front.result.now (c.bytes.ensures.key, c.requires.own)) (has g at.In-Ok-Some c.front.result.now c.front.ensures) c.requires.lacked c.in-Ok.ensures.stores,
         c.store.ensures.took,
       );
       same = looks.first_keeps;
@@ -62,7 +64,7 @@ returns-in-Err-store-clause-fails g c =
       took_second = (
         _,
         storing_one (g.P.Port.state c.args.first.now) (g.Q.Port.state c.args.second.now) (g.Q.Port.state c.store.new.port) c.args.key.now c.front.result.now
-            (has g at.In-Ok-Some) c.requires.lacked,
+            (key-of_key STORE c.args.key.now (length c.front.result.now) 0 c.front.result.now (c.bytes.ensures.key, c.requires.own)) (has g at.In-Ok-Some c.front.result.now c.front.ensures) c.requires.lacked,
         c.store.ensures.took,
       );
       same = looks.first_keeps;

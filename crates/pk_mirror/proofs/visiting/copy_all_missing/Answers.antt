@@ -1,13 +1,13 @@
 use Rattle.std.proofs.Common.{◌≤◌, [], ◌∷◌, ◌++◌, length, take, sym, ap, subst, ◌∙◌, arith}
 use Rattle.std.proofs.lemmas.List.{take_more, take_all}
 use Rattle.pk_base.{specs.Key.Key, specs.Shape.Shape, specs.Shape.greatest}
-use Rattle.pk_mirror.{specs.Agreement.IsPart, specs.Agreement.HaveSame, specs.Spending.to_store, proofs.PairLemmas.still_alike, proofs.SpendLemmas.took_settled}
+use Rattle.pk_mirror.{specs.Agreement.IsPart, specs.Agreement.HaveSame, specs.Spending.ToStore, proofs.PairLemmas.still_alike, proofs.SpendLemmas.took_settled}
 use Rattle.pk_mirror.proofs.VisitLemmas.{visiting_begins, visiting_goes, visiting_all, fails_on}
 use Rattle.pk_nvme.specs.declared.opcode.TheConstants.{STORE}
 use Rattle.pk_mirror.proofs.visiting.copy_all_missing.Goals as goal
 
 pub loop-i-init : goal.loop-i-init
-loop-i-init g c = visiting_begins g.P.Port.state g.P.Port.took g.Q.Port.state g.Q.Port.took IsPart to_store STORE HaveSame c.args.first.now c.args.second.now
+loop-i-init g c = visiting_begins g.P.Port.state g.P.Port.took g.Q.Port.state g.Q.Port.took IsPart ToStore STORE HaveSame c.args.first.now c.args.second.now
     (g.met.P.Port.took_none c.args.first.now) (g.met.Q.Port.took_none c.args.second.now)
 
 pub copy_missing-requires-clause-alike : goal.copy_missing-requires-clause-alike
@@ -19,7 +19,7 @@ copy_missing-requires-clause-room g c = subst (λ (s : Shape). greatest s ≤ le
     (sym (g.met.P.Port.took_state _ _ _ c.loop-i.invariant.progress.took_first.2).shape) (omega (arith, c.requires.room, c.loop-i.auto.one))
 
 pub loop-i-preserved : goal.loop-i-preserved
-loop-i-preserved g c = visiting_goes g.P.Port.state g.P.Port.took g.Q.Port.state g.Q.Port.took IsPart to_store STORE HaveSame g.met.P.Port.took_both g.met.Q.Port.took_both
+loop-i-preserved g c = visiting_goes g.P.Port.state g.P.Port.took g.Q.Port.state g.Q.Port.took IsPart ToStore STORE HaveSame g.met.P.Port.took_both g.met.Q.Port.took_both
     _ _ _ _ _ _ _ _ _ c.loop-i.invariant c.in-Ok.ensures.copied c.in-Ok.ensures.visits
     (take_more c.args.page.now c.loop-i.i [] (omega (arith, c.loop-i-test.true, c.len-i-end.ensures.count)) ∙ ap (λ (k : Key). take c.loop-i.i c.args.page.now ++ k ∷ []) (sym c.at.ensures.value))
 
@@ -38,12 +38,12 @@ returns-in-Err g c =
 
 pub returns : goal.returns
 returns g c = record {
-  visits = visiting_all g.P.Port.state g.P.Port.took g.Q.Port.state g.Q.Port.took IsPart to_store STORE HaveSame _ _ _ _ _ c.args.page.now
+  visits = visiting_all g.P.Port.state g.P.Port.took g.Q.Port.state g.Q.Port.took IsPart ToStore STORE HaveSame _ _ _ _ _ c.args.page.now
       (take_all c.loop-i.i c.args.page.now (omega (arith, c.loop-i-test.false, c.len-i-end.ensures.count))) c.loop-i.invariant;
   keeps = c.loop-i.invariant.progress.same;
   causes = tt;
   unread = tt;
   took_first = c.loop-i.invariant.progress.took_first;
-  took_second = took_settled IsPart to_store STORE g.Q.Port.state g.Q.Port.took g.met.Q.Port.took_state (g.P.Port.state c.args.first.now) _ _ c.loop-i.invariant.progress.took_second;
+  took_second = took_settled IsPart ToStore STORE g.Q.Port.state g.Q.Port.took g.met.Q.Port.took_state (g.P.Port.state c.args.first.now) _ _ c.loop-i.invariant.progress.took_second;
   stored = c.loop-i.invariant.progress.took_second;
 }

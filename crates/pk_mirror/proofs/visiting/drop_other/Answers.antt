@@ -1,5 +1,6 @@
-use Rattle.std.proofs.Common.{sym, refl, ◌∙◌}
-use Rattle.pk_host.{specs.Outcomes.existed}
+use Rattle.std.proofs.Common.{[], sym, refl, ◌∙◌}
+use Rattle.pk_nvme.specs.declared.opcode.TheConstants.{DELETE}
+use Rattle.pk_host.{specs.Outcomes.existed, proofs.CommandLemmas.key-of_key}
 use Rattle.pk_mirror.{specs.declared.error.Side.TheVariants.Second, proofs.ReplyLemmas.existed_tells}
 use Rattle.pk_mirror.proofs.VisitLemmas.{asking_none, looked_goes, goes_on, fails_on}
 use Rattle.pk_mirror.proofs.KeyLemmas.{visits_kept, visits_deleted, second_cause, side_unread, delete_unread}
@@ -24,8 +25,10 @@ returns-in-Ok-clause-dropped g c =
       took_first = asking_none g.P.Port.took _ (g.met.P.Port.took_none c.has_other.new.first);
       took_second = (
         _,
-        deleted_one (g.P.Port.state c.has_other.new.first) (g.Q.Port.state c.has_other.new.second) (g.Q.Port.state c.delete.new.port) c.args.key.now c.in-Ok.field-0
-            (λ b eb. c.in-Ok-true.ensures.there b (sym looks.second_keeps ∙ eb) c.in-Ok-true.field-0-test) c.in-Ok.ensures.tests c.in-Ok.ensures.deletes,
+        deleted_one (g.P.Port.state c.has_other.new.first) (g.Q.Port.state c.has_other.new.second) (g.Q.Port.state c.delete.new.port) c.args.key.now
+            (key-of_key DELETE c.args.key.now 0 0 [] (c.bytes.ensures.key, c.requires.own))
+            (λ a b ea eb. c.in-Ok-true.ensures.differs a b (sym looks.first_keeps ∙ ea) (sym looks.second_keeps ∙ eb) c.in-Ok-true.field-0-test)
+            c.in-Ok.field-0 c.in-Ok.ensures.tests c.in-Ok.ensures.deletes,
         c.delete.ensures.took,
       );
       same = refl;
@@ -40,7 +43,8 @@ returns-in-Err-delete-clause-fails g c =
       took_second = (
         _,
         deleting_one (g.P.Port.state c.has_other.new.first) (g.Q.Port.state c.has_other.new.second) (g.Q.Port.state c.delete.new.port) c.args.key.now
-            (λ b eb. c.in-Ok-true.ensures.there b (sym looks.second_keeps ∙ eb) c.in-Ok-true.field-0-test),
+            (key-of_key DELETE c.args.key.now 0 0 [] (c.bytes.ensures.key, c.requires.own))
+            (λ a b ea eb. c.in-Ok-true.ensures.differs a b (sym looks.first_keeps ∙ ea) (sym looks.second_keeps ∙ eb) c.in-Ok-true.field-0-test),
         c.delete.ensures.took,
       );
       same = refl;

@@ -5,7 +5,7 @@ use Rattle.pk_mirror.{specs.declared.error.Side.TheVariants.First, specs.declare
 use Rattle.pk_mirror.{proofs.ReplyLemmas.retrieved_tells, proofs.AskLemmas.retrieve_unread}
 use Rattle.pk_mirror.proofs.KeyLemmas.{fetched_as, fits_told, no_other_none, no_other_same, first_cause, second_cause, side_unread, retrieve_keeps}
 use Rattle.pk_mirror.proofs.visiting.has_other.Goals.{After-retrieve, After-retrieve-in-Ok-Some, In-Ok-Some}
-use Rattle.pk_mirror.{proofs.SpendLemmas.found_there, proofs.SpendLemmas.looks_no_delete, proofs.VisitLemmas.asking_none, proofs.VisitLemmas.asking_one, proofs.VisitLemmas.looked_fails}
+use Rattle.pk_mirror.{proofs.SpendLemmas.other_lacked, proofs.SpendLemmas.other_differs, proofs.SpendLemmas.looks_no_delete, proofs.VisitLemmas.asking_none, proofs.VisitLemmas.asking_one, proofs.VisitLemmas.looked_fails}
 use Rattle.pk_mirror.proofs.visiting.has_other.Given as given
 use Rattle.pk_mirror.proofs.visiting.has_other.Goals as goal
 
@@ -35,8 +35,8 @@ pub returns-in-Ok-None-clause-tells : goal.returns-in-Ok-None-clause-tells
 returns-in-Ok-None-clause-tells g c = λ a b ea eb e. no_other_none (g.Q.Port.state c.args.second.now) c.args.key.now c.retrieve.new.into
     (fetched_as (g.Q.Port.state c.args.second.now) c.args.key.now c.retrieve.new.into _ None c.in-Ok-None.field-0-is c.in-Ok-None.ensures.fetches) a b eb
 
-pub returns-in-Ok-None-clause-there : goal.returns-in-Ok-None-clause-there
-returns-in-Ok-None-clause-there g c = λ b eb e. absurd (let clash : false ≡ true = e in cc)
+pub returns-in-Ok-None-clause-differs : goal.returns-in-Ok-None-clause-differs
+returns-in-Ok-None-clause-differs g c = λ a b ea eb e. absurd (let clash : false ≡ true = e in cc)
 
 pub returns-in-Ok-None-clause-looks : goal.returns-in-Ok-None-clause-looks
 returns-in-Ok-None-clause-looks g c = seen g (goal.at.returns-in-Ok-None-clause-looks g c).After-retrieve
@@ -44,9 +44,11 @@ returns-in-Ok-None-clause-looks g c = seen g (goal.at.returns-in-Ok-None-clause-
 pub returns-in-Ok-None-retrieve-clause-tells : goal.returns-in-Ok-None-retrieve-clause-tells
 returns-in-Ok-None-retrieve-clause-tells g c = λ a b ea eb e. absurd (let clash : true ≡ false = e in cc)
 
-pub returns-in-Ok-None-retrieve-clause-there : goal.returns-in-Ok-None-retrieve-clause-there
-returns-in-Ok-None-retrieve-clause-there g c = λ b eb e. found_there (g.Q.Port.state c.args.second.now) c.args.key.now c.in-Ok-Some.held c.retrieve.new.into
-    (held g (goal.at.returns-in-Ok-None-retrieve-clause-there g c).In-Ok-Some) b eb
+pub returns-in-Ok-None-retrieve-clause-differs : goal.returns-in-Ok-None-retrieve-clause-differs
+returns-in-Ok-None-retrieve-clause-differs g c = λ a b ea eb e. other_lacked (g.P.Port.state c.args.first.now) (g.Q.Port.state c.args.second.now) c.args.key.now
+    c.retrieve-in-Ok-Some.new.into c.retrieve.new.into c.in-Ok-Some.held
+    (fetched_as (g.P.Port.state c.args.first.now) c.args.key.now c.retrieve-in-Ok-Some.new.into _ None c.in-Ok-None-retrieve.field-0-is c.in-Ok-None-retrieve.ensures.fetches)
+    (held g (goal.at.returns-in-Ok-None-retrieve-clause-differs g c).In-Ok-Some) a b ea eb
 
 pub returns-in-Ok-None-retrieve-clause-looks : goal.returns-in-Ok-None-retrieve-clause-looks
 returns-in-Ok-None-retrieve-clause-looks g c = both_seen g (goal.at.returns-in-Ok-None-retrieve-clause-looks g c).After-retrieve-in-Ok-Some
@@ -62,9 +64,16 @@ returns-in-Ok-Some-retrieve-clause-tells g c = no_other_same (g.P.Port.state c.a
     (let wide : greatest (g.Q.Port.state c.args.second.now).shape ≤ length c.retrieve.new.into = subst (λ (s : Shape). greatest s ≤ length c.retrieve.new.into)
     (sym c.requires.alike.shape) (omega (arith, c.requires.room_two, c.retrieve.auto.into)) in wide)) c.same_fronts.ensures
 
-pub returns-in-Ok-Some-retrieve-clause-there : goal.returns-in-Ok-Some-retrieve-clause-there
-returns-in-Ok-Some-retrieve-clause-there g c = λ b eb e. found_there (g.Q.Port.state c.args.second.now) c.args.key.now c.in-Ok-Some.held c.retrieve.new.into
-    (held g (goal.at.returns-in-Ok-Some-retrieve-clause-there g c).In-Ok-Some) b eb
+pub returns-in-Ok-Some-retrieve-clause-differs : goal.returns-in-Ok-Some-retrieve-clause-differs
+returns-in-Ok-Some-retrieve-clause-differs g c = other_differs (g.P.Port.state c.args.first.now)
+    (g.Q.Port.state c.args.second.now) c.args.key.now c.retrieve-in-Ok-Some.new.into c.retrieve.new.into c.in-Ok-Some-retrieve.wanted c.in-Ok-Some.held c.same_fronts.result
+    (fetched_as (g.P.Port.state c.args.first.now) c.args.key.now c.retrieve-in-Ok-Some.new.into _
+    (Some c.in-Ok-Some-retrieve.wanted) c.in-Ok-Some-retrieve.field-0-is c.in-Ok-Some-retrieve.ensures.fetches)
+    (held g (goal.at.returns-in-Ok-Some-retrieve-clause-differs g c).In-Ok-Some)
+    (fits_told _ _ _ retrieved _ _ c.args.key.now c.in-Ok-Some-retrieve.ensures.gives (omega (arith, c.requires.room_one, c.retrieve-in-Ok-Some.auto.into)))
+    (fits_told _ _ _ retrieved _ _ c.args.key.now c.in-Ok-Some.ensures.gives
+    (let wide : greatest (g.Q.Port.state c.args.second.now).shape ≤ length c.retrieve.new.into = subst (λ (s : Shape). greatest s ≤ length c.retrieve.new.into)
+    (sym c.requires.alike.shape) (omega (arith, c.requires.room_two, c.retrieve.auto.into)) in wide)) c.same_fronts.ensures
 
 pub returns-in-Ok-Some-retrieve-clause-looks : goal.returns-in-Ok-Some-retrieve-clause-looks
 returns-in-Ok-Some-retrieve-clause-looks g c = both_seen g (goal.at.returns-in-Ok-Some-retrieve-clause-looks g c).After-retrieve-in-Ok-Some

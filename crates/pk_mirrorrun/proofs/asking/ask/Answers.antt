@@ -33,5 +33,9 @@ returns-clause-said g c = on_ok_map c.answer_pair.result _ _ (λ said m held.
     (g.E.Engine.sight c.answer_pair.new.second.drive.now) c.answer_pair.new.second.tally.now.faults c.answer_pair.new.second.tally.now.halt)
     _
     (in_space 1 m) c.answer_pair.new.room.text
-    (λ asked. ((asked.0.0, asked.0.1, asked.0.2.5), (asked.1.0, asked.1.1, asked.1.2.5)))
+    (λ asked. record {
+      first = (asked.both.0.0, asked.both.0.1, asked.both.0.2.5);
+      second = (asked.both.1.0, asked.both.1.1, asked.both.1.2.5);
+      whole = (asked.whole.0, asked.whole.1, asked.whole.2.5);
+    })
     c.answer_pair.ensures.took_first.2.4 c.answer_pair.ensures.took_second.2.4 (search rules) (search rules) (said (in_space 1 m) (ap part_of held))) c.answer_pair.ensures.said

@@ -1,6 +1,6 @@
 use Rattle.std.proofs.Common.{Err, ap, ◌∙◌}
 use Rattle.pk_mirror.{specs.Pair.Mirrored, proofs.PairLemmas.pair_alike, proofs.PageLemmas.mirrored, proofs.PageLemmas.resynced, proofs.PageLemmas.unresynced, proofs.PageLemmas.resync_unread}
-use Rattle.pk_mirror.proofs.VisitLemmas.{not_split}
+use Rattle.pk_mirror.{proofs.VisitLemmas.not_split, proofs.SpendLemmas.took_looks}
 use Rattle.pk_mirror.proofs.mirror.Mirror.resync.Goals as goal
 
 pub copy_first-requires-clause-alike : goal.copy_first-requires-clause-alike
@@ -28,3 +28,11 @@ returns-in-Err-clause-unread g c = λ m told. resync_unread c.args.self.now (g.P
 
 pub returns-in-Err-clause-not_split : goal.returns-in-Err-clause-not_split
 returns-in-Err-clause-not_split g c = not_split _ _ _ _ c.in-Err.error c.in-Err.ensures.causes
+
+pub returns-in-Ok-clause-quiet : goal.returns-in-Ok-clause-quiet
+returns-in-Ok-clause-quiet g c = λ whole m told. took_looks g.Q.Port.took (g.P.Port.state c.args.first.now) (g.Q.Port.state c.args.second.now) c.args.second.now c.copy_first.new.second
+    (c.requires.in_step whole) c.copy_first.ensures.took_second m told
+
+pub returns-in-Err-clause-quiet : goal.returns-in-Err-clause-quiet
+returns-in-Err-clause-quiet g c = λ whole m told. took_looks g.Q.Port.took (g.P.Port.state c.args.first.now) (g.Q.Port.state c.args.second.now) c.args.second.now c.copy_first.new.second
+    (c.requires.in_step whole) c.copy_first.ensures.took_second m told
