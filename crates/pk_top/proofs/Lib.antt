@@ -10,6 +10,7 @@ mod Images
 mod Runs
 mod Resting
 mod Pairs
+mod PairSessions
 mod Obeyed
 mod Judging
 mod SparedRuns

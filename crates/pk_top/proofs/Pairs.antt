@@ -66,14 +66,14 @@ module _ (task : PairTask) (shape : Shape) (loaded new loaded' new' : BoardState
   FirstFrom flash posted = (m : Map) → Holds shape loaded.pages m → KeptFirst task (EitherUnread loaded new loaded' new') shape (limits_at shape loaded.pages) m flash posted
 
   abbrev SecondFrom : Flash → List ℕ → Type 0
-  SecondFrom flash posted = (m : Map) → Holds shape loaded'.pages m → KeptSecond shape (limits_at shape loaded'.pages) flash posted
+  SecondFrom flash posted = (m : Map) → Holds shape loaded'.pages m → KeptSecond shape (limits_at shape loaded'.pages) m flash posted
 
   -- only reads were made of both
   asks_still : (status : ℕ) → OnlyReading loaded new → OnlyReading loaded' new' → PairOutcome task shape loaded new loaded' new' status → AsksPair task shape loaded new loaded' new' status
   asks_still status only also outcome = record {
     kept = record {
       first = Goes-reading shape loaded new FirstFrom only (λ m holds. record { held = inl holds; same_limits = refl; said = inl refl });
-      second = Goes-reading shape loaded' new' SecondFrom also (λ m holds. record { map = m; held = holds; same_limits = refl; silent = refl });
+      second = Goes-reading shape loaded' new' SecondFrom also (λ m holds. record { map = m; held = holds; others = λ space apart. refl; same_limits = refl; silent = refl });
     };
     first_input = input_still loaded new only;
     second_input = input_still loaded' new' also;
@@ -112,13 +112,19 @@ module _ (task : PairTask) (shape : Shape) (loaded new loaded' new' : BoardState
         let same : start ≡ m = cc in
         subst (λ (s : Map). KeptFirst task (EitherUnread loaded new loaded' new') shape (limits_at shape loaded.pages) s flash posted) same kept
 
+    second-from : (flash : Flash) (posted : List ℕ) → KeptSecond shape (limits_at shape loaded'.pages) other flash posted → SecondFrom flash posted
+    second-from flash posted kept m holds =
+        let held : Holds shape loaded'.pages other = other-held in
+        let same : other ≡ m = cc in
+        subst (λ (s : Map). KeptSecond shape (limits_at shape loaded'.pages) s flash posted) same kept
+
     pub AsksPair-told : (status : ℕ) (end : WordEnd) → status ≡ word_status end
         → PairTold task shape start other (behind_opening shape WORD_FRAMES loaded) new (behind_opening shape WORD_FRAMES loaded') new' end
         → most_pair_roots start other < 4611686018427387904 → first_limit shape loaded.pages ≡ first_limit shape loaded'.pages → AsksPair task shape loaded new loaded' new' status
     AsksPair-told status end tells told few one_limit = record {
       kept = record {
         first = Goes-behind shape WORD_FRAMES loaded new (KeptFirst task (EitherUnread loaded new loaded' new') shape (limits_at shape loaded.pages) start) FirstFrom first-from told.first_kept;
-        second = Goes-behind shape WORD_FRAMES loaded' new' (KeptSecond shape (limits_at shape loaded'.pages)) SecondFrom (λ flash posted kept m holds. kept) told.second_kept;
+        second = Goes-behind shape WORD_FRAMES loaded' new' (KeptSecond shape (limits_at shape loaded'.pages) other) SecondFrom second-from told.second_kept;
       };
       first_input = record { input = told.first_input.input; in_faults = told.first_input.in_faults };
       second_input = record { input = told.second_input.input; in_faults = told.second_input.in_faults };
@@ -277,7 +283,7 @@ still_untouched shape old loaded new found is = subst (λ (s : BoardState). Unto
 
 module _ (task : PairTask) (shape : Shape) (old loaded new old' loaded' new' : BoardState) (found : Loaded old loaded (Some shape)) (found' : Loaded old' loaded' (Some shape)) where
   end_tells : (start other : Map) (end : WordEnd) (status : ℕ) → status ≡ word_status end
-      → PairEnds task shape start (behind_opening shape WORD_FRAMES loaded) new (behind_opening shape WORD_FRAMES loaded') new' end → PairTells old new old' new' status
+      → PairEnds task shape start other (behind_opening shape WORD_FRAMES loaded) new (behind_opening shape WORD_FRAMES loaded') new' end → PairTells old new old' new' status
   end_tells start other Done status is ends = tells_by old new old' new' status 0 is (inl is) (tt, tt, tt, tt, tt)
   end_tells start other Output status is ends =
       tells_by old new old' new' status 5 is (inr (inl is)) (subst (λ (n : ℕ). Rose n new.out_faults) (ap (λ (s : BoardState). s.out_faults) found.rest) ends.0, tt, tt, tt, tt)
@@ -378,21 +384,26 @@ no_lack s shape other old old' loaded loaded' m k one two pages pages' held held
 no_lack s shape other old old' loaded loaded' m k one two pages pages' held held' same (inr (inr (inr differ))) =
     differ (ap (λ (x : Shape). first_limit x old.pages) (sym one) ∙ ap (first_limit s) (sym pages) ∙ same ∙ ap (first_limit s) pages' ∙ ap (λ (x : Shape). first_limit x old'.pages) two)
 
+asks_refused : (task : PairTask) (s : Shape) (old loaded new old' loaded' new' : BoardState) (status : ℕ) → Loaded old loaded (Some s) → Loaded old' loaded' (Some s)
+    → AsksPair task s loaded new loaded' new' status → PairRefused old old' status
+asks_refused task s old loaded new old' loaded' new' status found found' asks shape other has has' lacks = elim asks.outcome [
+  | no_speaker is same same' ↦ inr (inl is)
+  | first_unopened n same' ↦ refused_one status (open_one status n.error n.tells)
+  | second_unopened is n ↦ refused_one status (open_one status n.error n.tells)
+  | limits_differ l ↦ inl l.tells
+  | pair_asked end is asked ↦ absurd (no_lack s shape other old old' loaded loaded' asked.start asked.other
+      (found_shape old loaded s shape has found) (found_shape old' loaded' s other has' found')
+      (found_pages old loaded (Some s) shape has found) (found_pages old' loaded' (Some s) other has' found')
+      asked.holds asked.holds_other asked.one_limit lacks)
+]
+
 pub pair_refused : (task : PairTask) (old new old' new' : BoardState) (status : ℕ) → PairRun task old new old' new' status → PairRefused old old' status
 pair_refused task old new old' new' status (no_pair_memory is same same') shape other has has' lacks = inr (inl is)
 pair_refused task old new old' new' status (first_missing missing same') shape other has has' lacks = refused_one status (not_found_one old new status missing)
 pair_refused task old new old' new' status (second_missing s found missing) shape other has has' lacks = refused_one status (not_found_one old' new' status missing)
 pair_refused task old new old' new' status (shapes_differ o) shape other has has' lacks = inl o.tells
-pair_refused task old new old' new' status (pair_found f) shape other has has' lacks = elim f.asks.outcome [
-  | no_speaker is same same' ↦ inr (inl is)
-  | first_unopened n same' ↦ refused_one status (open_one status n.error n.tells)
-  | second_unopened is n ↦ refused_one status (open_one status n.error n.tells)
-  | limits_differ l ↦ inl l.tells
-  | pair_asked end is asked ↦ absurd (no_lack f.shape shape other old old' f.loaded f.loaded' asked.start asked.other
-      (found_shape old f.loaded f.shape shape has f.found) (found_shape old' f.loaded' f.shape other has' f.found')
-      (found_pages old f.loaded (Some f.shape) shape has f.found) (found_pages old' f.loaded' (Some f.shape) other has' f.found')
-      asked.holds asked.holds_other asked.one_limit lacks)
-]
+pair_refused task old new old' new' status (pair_found f) shape other has has' lacks =
+    asks_refused task f.shape old f.loaded new old' f.loaded' new' status f.found f.found' f.asks shape other has has' lacks
 
 -- ---- where no call fails
 
@@ -413,7 +424,7 @@ module _ (task : PairTask) (old new old' new' : BoardState) (status : ℕ) (shap
   abbrev IsDone : Type 0
   IsDone =
       (status ≡ 0) × (new.posted ≡ longer old.posted (text_by shape limits task m)) × Holds shape new.pages (map_left shape limits task m)
-      × HoldsPart shape new'.pages (in_space 1 (map_left shape limits task m))
+      × HoldsPart shape new'.pages (in_space 1 (map_left shape limits task m)) other
 
   -- the image is there
   none_lost : (o o' : BoardState) (s : ℕ) → o.shape ≡ Some shape → NotFound o o' s → s ≡ 8 → ⊥
@@ -453,15 +464,19 @@ module _ (task : PairTask) (old new old' new' : BoardState) (status : ℕ) (shap
     same_start : (asked : Map) → Holds shape loaded.pages asked → asked ≡ m
     same_start asked holds = let h : ◌≡◌ {A = Result Map Refusal} (Ok asked) (Ok m) = sym holds ∙ holds_loaded in cc
 
-    done_by : (start : Map) → start ≡ m → status ≡ 0 → PairFinished task shape start (behind_opening shape WORD_FRAMES loaded) new (behind_opening shape WORD_FRAMES loaded') new' → IsDone
-    done_by start same is f = elim f.says [
+    same_other : (asked : Map) → Holds shape loaded'.pages asked → asked ≡ other
+    same_other asked holds = let h : ◌≡◌ {A = Result Map Refusal} (Ok asked) (Ok other) = sym holds ∙ holds_loaded' in cc
+
+    done_by : (start start' : Map) → start ≡ m → start' ≡ other → status ≡ 0 → PairFinished task shape start start' (behind_opening shape WORD_FRAMES loaded) new (behind_opening shape WORD_FRAMES loaded') new' → IsDone
+    done_by start start' same same' is f = elim f.says [
       | inl said ↦ (
         is,
         f.posted ∙ ap (λ (o : Option (List ℕ)). longer o f.text) (ap (λ (s : BoardState). s.posted) found.rest) ∙ ap (longer old.posted) (said.text_is ∙ ap (λ (l : List ℕ). text_by shape l task start) limits_same
             ∙ ap (text_by shape limits task) same),
         subst (λ (x : Map). Holds shape new.pages (map_left shape limits task x)) same (subst (λ (l : List ℕ). Holds shape new.pages (map_left shape l task start)) limits_same said.first_holds),
-        subst (λ (x : Map). HoldsPart shape new'.pages (in_space 1 (map_left shape limits task x))) same
-            (subst (λ (l : List ℕ). HoldsPart shape new'.pages (in_space 1 (map_left shape l task start))) limits_same said.second_holds),
+        subst (λ (x : Map). HoldsPart shape new'.pages (in_space 1 (map_left shape limits task m)) x) same'
+            (subst (λ (x : Map). HoldsPart shape new'.pages (in_space 1 (map_left shape limits task x)) start') same
+            (subst (λ (l : List ℕ). HoldsPart shape new'.pages (in_space 1 (map_left shape l task start)) start') limits_same said.second_holds)),
       )
       | inr (unread, line) ↦ absurd (elim unread [
         | inl rose ↦ none.reads (subst (λ (n : ℕ). Rose n new.read_faults) (ap (λ (s : BoardState). s.read_faults) found.rest) rose)
@@ -480,7 +495,7 @@ module _ (task : PairTask) (old new old' new' : BoardState) (status : ℕ) (shap
     ]
       where
         by : (end : WordEnd) → status ≡ word_status end → AskedPair task shape loaded new loaded' new' end → IsDone
-        by Done is asked = done_by asked.start (same_start asked.start asked.holds) is asked.ends
+        by Done is asked = done_by asked.start asked.other (same_start asked.start asked.holds) (same_other asked.other asked.holds_other) is asked.ends
         by Worn is asked = absurd (elim asked.ends.worn [
           | inl w ↦ worn_not old loaded new shape asked.start asked.other has found far none asked.few asked.first_used w.worn
           | inr w ↦ worn_not old' loaded' new' shape asked.start asked.other has' found' far' none' asked.few asked.second_used w.worn
@@ -488,32 +503,68 @@ module _ (task : PairTask) (old new old' new' : BoardState) (status : ℕ) (shap
         by Output is asked = absurd (omega (arith, one, is))
         by FlashFailed is asked = absurd (omega (arith, one, is))
 
+  -- the same of images that were found with some shape
+  found_done : (s : Shape) (loaded loaded' : BoardState) → Loaded old loaded (Some s) → Loaded old' loaded' (Some s) → AsksPair task s loaded new loaded' new' status
+      → (status ≡ 0) ⊎ ((status ≡ 8) ⊎ (status ≡ 10)) → IsDone
+  found_done s loaded loaded' found found' asks one =
+      let same = found_shape old loaded s shape has found in
+      let A : Shape → Type 0 = λ x. AsksPair task x loaded new loaded' new' status in
+      asked_done loaded loaded' (subst (λ (x : Shape). Loaded old loaded (Some x)) same found) (subst (λ (x : Shape). Loaded old' loaded' (Some x)) same found') (subst A same asks) one
+
   run_done : PairRun task old new old' new' status → (status ≡ 0) ⊎ ((status ≡ 8) ⊎ (status ≡ 10)) → IsDone
   run_done (no_pair_memory is same same') one = absurd (omega (arith, one, is))
   run_done (first_missing missing same') one = absurd (none_lost old new status has missing (let fault = not_found_one old new status missing in omega (arith, one, fault)))
   run_done (second_missing s found missing) one = absurd (none_lost old' new' status has' missing (let fault = not_found_one old' new' status missing in omega (arith, one, fault)))
   run_done (shapes_differ o) one = absurd (o.differ (found_shape old new o.shape shape has o.found ∙ sym (found_shape old' new' o.other shape has' o.found')))
-  run_done (pair_found f) one =
-      let same = found_shape old f.loaded f.shape shape has f.found in
-      let A : Shape → Type 0 = λ s. AsksPair task s f.loaded new f.loaded' new' status in
-      asked_done f.loaded f.loaded' (subst (λ (s : Shape). Loaded old f.loaded (Some s)) same f.found) (subst (λ (s : Shape). Loaded old' f.loaded' (Some s)) same f.found') (subst A same f.asks) one
+  run_done (pair_found f) one = found_done f.shape f.loaded f.loaded' f.found f.found' f.asks one
 
-  whole_by : PairRun task old new old' new' status → PairTells old new old' new' status → IsDone ⊎ ((status ≡ 7) × Untouched old new × Untouched old' new')
-  whole_by run tells = elim tells.is_one [
-    | inl e ↦ inl (run_done run (inl e))
+  whole_by : ((status ≡ 0) ⊎ ((status ≡ 8) ⊎ (status ≡ 10)) → IsDone) → PairTells old new old' new' status → IsDone ⊎ ((status ≡ 7) × Untouched old new × Untouched old' new')
+  whole_by done tells = elim tells.is_one [
+    | inl e ↦ inl (done (inl e))
     | inr (inl e) ↦ absurd (none.output (tells.output e))
     | inr (inr (inl e)) ↦ absurd (elim (tells.flash e) [
       | inl stops ↦ elim stops [ inl stop ↦ none.stops stop | inr stop ↦ none'.stops stop ]
       | inr (roses, gives) ↦ elim roses [ inl rose ↦ sound rose | inr rose ↦ sound' rose ]
     ])
     | inr (inr (inr (inl e))) ↦ inr (e, (tells.memory e).0, (tells.memory e).1)
-    | inr (inr (inr (inr (inl e)))) ↦ inl (run_done run (inr (inl e)))
-    | inr (inr (inr (inr (inr e)))) ↦ inl (run_done run (inr (inr e)))
+    | inr (inr (inr (inr (inl e)))) ↦ inl (done (inr (inl e)))
+    | inr (inr (inr (inr (inr e)))) ↦ inl (done (inr (inr e)))
   ]
 
 pub pair_whole : (task : PairTask) (old new old' new' : BoardState) (status : ℕ) → PairRun task old new old' new' status → PairWhole task old new old' new' status
 pair_whole task old new old' new' status run shape m other has has' held held' one_limit far far' none none' sound sound' =
-    whole_by task old new old' new' status shape m other has has' held held' one_limit far far' none none' sound sound' run (pair_tells task old new old' new' status run)
+    whole_by task old new old' new' status shape m other has has' held held' one_limit far far' none none' sound sound'
+    (run_done task old new old' new' status shape m other has has' held held' one_limit far far' none none' sound sound' run) (pair_tells task old new old' new' status run)
+
+-- ---- from the loads on
+
+-- a board that was loaded holds its pages
+loaded_again : (old loaded : BoardState) (shape : Shape) → Loaded old loaded (Some shape) → Loaded loaded loaded (Some shape)
+loaded_again old loaded shape l =
+    record { shape_is = l.shape_is; none_bad = l.none_bad; ready = l.ready; bare = l.bare; held = λ some. (refl, refl); rest = refl }
+
+asks_whole : (task : PairTask) (s : Shape) (old loaded new old' loaded' new' : BoardState) (status : ℕ) → Loaded old loaded (Some s) → Loaded old' loaded' (Some s)
+    → AsksPair task s loaded new loaded' new' status → PairWhole task old new old' new' status
+asks_whole task s old loaded new old' loaded' new' status found found' asks shape m other has has' held held' one_limit far far' none none' sound sound' =
+    whole_by task old new old' new' status shape m other has has' held held' one_limit far far' none none' sound sound'
+    (found_done task old new old' new' status shape m other has has' held held' one_limit far far' none none' sound sound' s loaded loaded' found found' asks)
+    (asks_tells task s old loaded new old' loaded' new' found found' status asks)
+
+pub found_pair : (task : PairTask) (shape : Shape) (old loaded new old' loaded' new' : BoardState) (status : ℕ) → Loaded old loaded (Some shape) → Loaded old' loaded' (Some shape)
+    → AsksPair task shape loaded new loaded' new' status → PairRun task old new old' new' status
+found_pair task shape old loaded new old' loaded' new' status found found' asks =
+    let again = loaded_again old loaded shape found in
+    let again' = loaded_again old' loaded' shape found' in
+    pair_found (record {
+      shape = shape;
+      loaded = loaded;
+      loaded' = loaded';
+      found = found;
+      found' = found';
+      asks = asks;
+      refused = asks_refused task shape loaded loaded new loaded' loaded' new' status again again' asks;
+      complete = asks_whole task shape loaded loaded new loaded' loaded' new' status again again' asks;
+    })
 
 -- ---- the words
 

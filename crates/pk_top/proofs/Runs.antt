@@ -16,7 +16,7 @@ use Rattle.pk_top.specs.Words.{Word, make, serve, ask, word_of}
 use Rattle.pk_wordrun.specs.Tasks.{Task, KeptTask}
 
 -- the marks that a trail records are those that it grew by
-same_marks : (told : Option (List Mark)) (before xs ys : List Mark) → told ≡ Some before → longer told ys ≡ Some (before ++ xs) → xs ≡ ys
+pub same_marks : (told : Option (List Mark)) (before xs ys : List Mark) → told ≡ Some before → longer told ys ≡ Some (before ++ xs) → xs ≡ ys
 same_marks None before xs ys is more = let never : None ≡ Some before = is in cc
 same_marks (Some t) before xs ys is more =
     let t_is : t ≡ before = cc in

@@ -11,6 +11,7 @@ pub mod Asks
 pub mod Makes
 pub mod PairWords
 pub mod PairRuns
+pub mod PairSessions
 pub mod Runs
 pub mod Sessions
 pub mod Spared

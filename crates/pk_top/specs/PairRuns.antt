@@ -1,5 +1,5 @@
 -- A run of a word on a pair of images: the first board from old to new, the second from old' to new'.
-use Rattle.std.specs.Prelude.{◌≡◌, ◌≢◌, ◌⊎◌, ℕ, ◌<◌, Some, None, true}
+use Rattle.std.specs.Prelude.{◌≡◌, ◌≢◌, ◌⊎◌, ℕ, ◌<◌, List, Some, None, true}
 use Rattle.pk_base.{specs.Shape.Shape, specs.Map.Map, specs.Refusal.Refusal}
 use Rattle.pk_nand.{specs.BoardState.BoardState, specs.Calls.Rose, specs.Calls.Loaded, specs.Calls.longer}
 use Rattle.pk_nvme.specs.declared.limits.TheConstants.{NAMESPACE}
@@ -19,10 +19,10 @@ abbrev pub NotFound : BoardState → BoardState → ℕ → Type 0
 NotFound old new status = LoadRefused old new status ⊎ ((status ≡ NO_DRIVE.0) × Loaded old new None)
 
 -- Whatever map the first held: every cut of it holds that map or the one after the word, and what was posted is the word's. Every cut of the second
--- holds a map.
+-- holds a map, of which all namespaces but the first are those that it held.
 pub record KeepsPair (task : PairTask) (shape : Shape) (loaded new loaded' new' : BoardState) : Type 0 where
   pub first : Goes shape loaded new (λ flash posted. (m : Map) → Holds shape loaded.pages m → KeptFirst task (EitherUnread loaded new loaded' new') shape (limits_at shape loaded.pages) m flash posted)
-  pub second : Goes shape loaded' new' (λ flash posted. (m : Map) → Holds shape loaded'.pages m → KeptSecond shape (limits_at shape loaded'.pages) flash posted)
+  pub second : Goes shape loaded' new' (λ flash posted. (m : Map) → Holds shape loaded'.pages m → KeptSecond shape (limits_at shape loaded'.pages) m flash posted)
 
 -- Both drives were opened, their first namespaces have one limit, and the word came to this end.
 pub record AskedPair (task : PairTask) (shape : Shape) (loaded new loaded' new' : BoardState) (end : WordEnd) : Type 0 where
@@ -31,7 +31,7 @@ pub record AskedPair (task : PairTask) (shape : Shape) (loaded new loaded' new' 
   pub other : Map
   pub holds_other : Holds shape loaded'.pages other
   pub one_limit : first_limit shape loaded.pages ≡ first_limit shape loaded'.pages
-  pub ends : PairEnds task shape start (behind_opening shape WORD_FRAMES loaded) new (behind_opening shape WORD_FRAMES loaded') new' end
+  pub ends : PairEnds task shape start other (behind_opening shape WORD_FRAMES loaded) new (behind_opening shape WORD_FRAMES loaded') new' end
   pub first_used : UsedRoots start other loaded new
   pub second_used : UsedRoots start other loaded' new'
   pub few : most_pair_roots start other < far_below
@@ -63,7 +63,42 @@ pub record AsksPair (task : PairTask) (shape : Shape) (loaded new loaded' new' :
   pub second_input : KeepsInput loaded' new'
   pub outcome : PairOutcome task shape loaded new loaded' new' status
 
--- two images of one shape were found
+-- ---- boards that hold their pages
+
+-- the boards hold no pair: their shapes differ, or the flash of one holds no map, or their limits differ
+abbrev pub LacksPair : Shape → Shape → BoardState → BoardState → Type 0
+LacksPair shape other old old' =
+    (shape ≢ other)
+    ⊎ (((refusal : Refusal) × Refuses shape old.pages refusal)
+    ⊎ (((refusal : Refusal) × Refuses other old'.pages refusal) ⊎ (first_limit shape old.pages ≢ first_limit other old'.pages)))
+
+-- Two boards that hold their pages from the start, and no pair: the status is that of a missing drive, unless a flash operation failed before that was
+-- known, or memory ran out.
+abbrev pub PairRefused : BoardState → BoardState → ℕ → Type 0
+PairRefused old old' status =
+    (shape other : Shape) → old.shape ≡ Some shape → old'.shape ≡ Some other → LacksPair shape other old old'
+    → (status ≡ NO_DRIVE.0) ⊎ ((status ≡ MEMORY.0) ⊎ (status ≡ FLASH.0))
+
+-- The word is done on two drives with these limits of the first, of which the first held the map m and the second other: both hold the map after it,
+-- the second its first namespace beside the others that it held, and the text is the definition's; or memory was missing, and nothing was done.
+abbrev pub PairIsDone : PairTask → Shape → List ℕ → Map → Map → BoardState → BoardState → BoardState → BoardState → ℕ → Type 0
+PairIsDone task shape limits m other old new old' new' status =
+    ((status ≡ DONE.0) × (new.posted ≡ longer old.posted (text_by shape limits task m)) × Holds shape new.pages (map_left shape limits task m)
+    × HoldsPart shape new'.pages (in_space NAMESPACE (map_left shape limits task m)) other)
+    ⊎ ((status ≡ MEMORY.0) × Untouched old new × Untouched old' new')
+
+-- On two boards that hold their pages from the start, each a map of one shape, with one limit, far from worn, where no call fails.
+abbrev pub PairWhole : PairTask → BoardState → BoardState → BoardState → BoardState → ℕ → Type 0
+PairWhole task old new old' new' status =
+    (shape : Shape) (m other : Map) → old.shape ≡ Some shape → old'.shape ≡ Some shape → Holds shape old.pages m → Holds shape old'.pages other
+    → first_limit shape old.pages ≡ first_limit shape old'.pages → roots old < far_below → roots old' < far_below → NoneRose old new → NoneRose old' new'
+    → (Rose old.flash_faults new.flash_faults → ⊥) → (Rose old'.flash_faults new'.flash_faults → ⊥)
+    → PairIsDone task shape (limits_at shape old.pages) m other old new old' new' status
+
+-- ---- runs
+
+-- Two images of one shape were found. What is promised of boards that hold their pages from the start is promised of these from their loads on: when
+-- the status is that of a missing drive, and completeness.
 pub record FoundPair (task : PairTask) (old new old' new' : BoardState) (status : ℕ) : Type 0 where
   pub shape : Shape
   pub loaded : BoardState
@@ -71,6 +106,8 @@ pub record FoundPair (task : PairTask) (old new old' new' : BoardState) (status 
   pub found : Loaded old loaded (Some shape)
   pub found' : Loaded old' loaded' (Some shape)
   pub asks : AsksPair task shape loaded new loaded' new' status
+  pub refused : PairRefused loaded loaded' status
+  pub complete : PairWhole task loaded new loaded' new' status
 
 -- two images of different shapes were found
 pub record OtherShapes (old new old' new' : BoardState) (status : ℕ) : Type 0 where
@@ -118,30 +155,3 @@ pub record PairTells (old new old' new' : BoardState) (status : ℕ) : Type 0 wh
   pub memory : status ≡ MEMORY.0 → Untouched old new × Untouched old' new'
   pub no_drive : status ≡ NO_DRIVE.0 → HasNoPair new new' × Untouched old new × Untouched old' new'
   pub worn : status ≡ WORN.0 → ((is_worn new ≡ true) ⊎ (is_worn new' ≡ true)) × (new.posted ≡ old.posted)
-
--- the boards hold no pair: their shapes differ, or the flash of one holds no map, or their limits differ
-abbrev pub LacksPair : Shape → Shape → BoardState → BoardState → Type 0
-LacksPair shape other old old' =
-    (shape ≢ other)
-    ⊎ (((refusal : Refusal) × Refuses shape old.pages refusal)
-    ⊎ (((refusal : Refusal) × Refuses other old'.pages refusal) ⊎ (first_limit shape old.pages ≢ first_limit other old'.pages)))
-
--- Two boards that hold their pages from the start, and no pair: the status is that of a missing drive, unless a flash operation failed before that was
--- known, or memory ran out.
-abbrev pub PairRefused : BoardState → BoardState → ℕ → Type 0
-PairRefused old old' status =
-    (shape other : Shape) → old.shape ≡ Some shape → old'.shape ≡ Some other → LacksPair shape other old old'
-    → (status ≡ NO_DRIVE.0) ⊎ ((status ≡ MEMORY.0) ⊎ (status ≡ FLASH.0))
-
--- ---- completeness
-
--- On two boards that hold their pages from the start, each a map of one shape, with one limit, far from worn, where no call fails: the word is done,
--- both drives hold the map after it, the second its first namespace, and its text is the definition's; or memory was missing, and nothing was done.
-abbrev pub PairWhole : PairTask → BoardState → BoardState → BoardState → BoardState → ℕ → Type 0
-PairWhole task old new old' new' status =
-    (shape : Shape) (m other : Map) → old.shape ≡ Some shape → old'.shape ≡ Some shape → Holds shape old.pages m → Holds shape old'.pages other
-    → first_limit shape old.pages ≡ first_limit shape old'.pages → roots old < far_below → roots old' < far_below → NoneRose old new → NoneRose old' new'
-    → (Rose old.flash_faults new.flash_faults → ⊥) → (Rose old'.flash_faults new'.flash_faults → ⊥)
-    → ((status ≡ DONE.0) × (new.posted ≡ longer old.posted (text_by shape (limits_at shape old.pages) task m)) × Holds shape new.pages (map_left shape (limits_at shape old.pages) task m)
-    × HoldsPart shape new'.pages (in_space NAMESPACE (map_left shape (limits_at shape old.pages) task m)))
-    ⊎ ((status ≡ MEMORY.0) × Untouched old new × Untouched old' new')

@@ -8,6 +8,7 @@
 mod asking;
 pub mod laws;
 mod making;
+pub mod pair_laws;
 mod pair_words;
 mod pairing;
 mod running;
