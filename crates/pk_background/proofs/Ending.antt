@@ -1,6 +1,9 @@
 -- The second program of the commit of a reclaim's moves, stated for the drive.
-use Rattle.std.proofs.Common.{◌≡◌, inl, inr, ℕ, ◌-◌, ◌<◌, refl, sym, ap, subst, ◌∙◌, arith, true, length, Result, Ok, Err}
-use Rattle.pk_base.{specs.Shape.Shape, specs.Page.Flash, specs.Map.Map}
+use Rattle.std.proofs.Common.{◌≡◌, inl, inr, ℕ, ◌+◌, ◌-◌, ◌*◌, ◌<◌, if◌then◌else◌, refl, sym, ap, subst, ◌∙◌, arith, Bool, true, length, Result, Ok, Err}
+use Rattle.pk_base.{specs.Shape.Shape, specs.Shape.IsShape, specs.Shape.epoch_commits, specs.Page.Flash, specs.Page.page_at, specs.Page.page_in, specs.Page.commit_page, specs.Map.Map}
+use Rattle.pk_base.proofs.CommitPages.{within, second}
+use Rattle.pk_jrn.specs.Epochs.{JournalEpoch, pages_of, next_page, before_half}
+use Rattle.pk_call.specs.Half.{HasHalf, MakesPair}
 use Rattle.pk_plan.specs.declared.owner.Owner.TheVariants.{Values}
 use Rattle.pk_rootfmt.specs.Root.{Root}
 use Rattle.pk_nand.{specs.declared.types.Fault.Fault, specs.declared.types.Fault.TheVariants.Reading, specs.declared.types.Fault.TheVariants.Stopped, specs.BoardState.BoardState, specs.Calls.IsReady}
@@ -55,8 +58,8 @@ module _ (d : Parts) (x' : ReclaimParts) (old new : BoardState) (keeps : KeepsLo
   then_drive = over_space d x'
 
   module _ (w : steps.Works (space_of d) old x' new) (m : Map) (h : CommitHere d old.pages m) where
-    whole : MakesWhole h.half.victim (space_of d) x'
-    whole = subst (λ (p : Phase). PairIn p (space_of d) x') h.half.phase w.pair
+    whole : MakesWhole h.half.victim (space_of d) old x' new
+    whole = subst (λ (p : Phase). PairIn p (space_of d) old x' new) h.half.phase w.pair
 
     now : steps.SpaceMoves (space_of d) old h.top h.found m x' new
     now = w.moves h.top h.found m (may_end d old.pages m h)
@@ -94,6 +97,34 @@ module _ (d : Parts) (x' : ReclaimParts) (old new : BoardState) (keeps : KeepsLo
 
     counted : used_by Values x'.pool.states ≡ used_by Values d.pool.states
     counted = ap (λ (p : Blocks). used_by Values p.states) whole.pool
+
+    -- the pair is that of the epoch's last commit
+    abbrev half_is : HasHalf d.log.shape old.pages
+    half_is =
+        let e : JournalEpoch = d.log.epoch in
+        let logs = h.with.index.logs in
+        let made = h.half.half.can.half in
+        let inside : e.used - 1 < epoch_commits e.shape = omega (arith, made.fits.within, made.some) in
+        let pages : pages_of e ≡ 2 * e.used - 1 = ap (λ (b : Bool). if b then 2 * e.used - 1 else 2 * e.used) made.is_half in
+        let next : page_in e.shape e.blocks (2 * (e.used - 1) + 1) ≡ commit_page e.shape e.blocks (e.used - 1) + 1 =
+        second e.shape e.blocks (subst IsShape (sym logs.epoch_shape) logs.is_shape) (e.used - 1) in
+        record {
+          top = h.top;
+          is_newest = logs.is_top;
+          page = next_page (before_half e);
+          under = inr (
+            e.used - 1,
+            subst (λ (s : Shape). e.used - 1 < epoch_commits s) logs.epoch_shape inside,
+            λ i. commit_page (logs.epoch_shape i) (logs.epoch_blocks i) (e.used - 1),
+          );
+          bytes = whole.bytes;
+          first = whole.first;
+          second = ap (page_at old.pages) (sym next)
+              ∙ made.fits.behind made.more (2 * (e.used - 1) + 1) (omega (arith, pages, made.some)) (within e.shape (e.used - 1) inside);
+        }
+
+    pair_made : MakesPair d.log.shape old.pages new.pages
+    pair_made = record { half = half_is; pages = whole.pages; same_root = with_then.committed.is_top ∙ sym h.with.committed.is_top }
 
     -- the reclaim holds a block still
     one_held : length (held_blocks x'.job.phase) ≡ length (held_blocks d.reclaim.phase)
@@ -133,6 +164,7 @@ module _ (d : Parts) (x' : ReclaimParts) (old new : BoardState) (keeps : KeepsLo
           lowers = lowers w m h;
           works = record { no_fault = sound; reads = program.reads; rest = rest };
           program = program;
+          pair = pair_made w m h;
           same_roots = same_roots;
           ready = ready;
         };

@@ -21,6 +21,9 @@ use Rattle.pk_parts.{specs.Parts.Parts, specs.Parts.backlog_of, specs.Parts.fram
 use Rattle.pk_parts.{specs.Moves.StandsFor, specs.Staying.Stays, proofs.Halves.between, proofs.Halves.whole_like, proofs.Standing.reads_as, proofs.Staying.stays_frees, proofs.Staying.stays_same}
 use Rattle.pk_parts.{proofs.Holding.filled_held, proofs.Holding.held_filled, proofs.Holding.last_few, proofs.Holding.last_seen, proofs.Unchanging.agrees_ready}
 use Rattle.pk_background.{proofs.Indexing.agrees_like, proofs.ReadSteps.read_cuts, specs.Filling.FillsSpare, specs.Filling.lacks_frames, specs.Ticking.MayTick, specs.Ticking.Advances}
+use Rattle.pk_background.specs.Ticking.{wants_reclaim}
+use Rattle.pk_background.proofs.Ordering.{fill_due, makes_fill}
+use Rattle.pk_compact.specs.FreezeSteps.{taken_by}
 use Rattle.pk_background.proofs.Ticking.{busy_unfilled, no_merge_is, no_phase, none_left}
 use Rattle.pk_background.proofs.TickSteps.{its_whole, made_advances, read_grows, unread_advances}
 
@@ -202,35 +205,39 @@ module _ (d : Parts) (old : BoardState) (m : MayTick d old) (none_half : is_half
     stays : Stays d after_it
     stays = record { fresh = record { stays = λ e. e; begun = inl refl }; blocks = record { used = refl; open_same = refl } }
 
-    fills_behind : lacks_frames d ≡ true → IsLevels d.levels → AllByRecursion IsKept d.levels.runs → Advances d after_it old (after_read old) Worked
-    fills_behind lacks known kept =
+    fills_behind : (length (taken_by d.schedule.freeze) == 0) ≡ true → wants_reclaim d ≡ false → lacks_frames d ≡ true → IsLevels d.levels
+        → AllByRecursion IsKept d.levels.runs → Advances d after_it old (after_read old) Worked
+    fills_behind frozen reclaimed lacks known kept =
         let here : reading d.log.shape old.pages [] ≡ Ok m.agrees.all =
         subst (λ (es : List Entry). reading d.log.shape old.pages es ≡ Ok m.agrees.all) m.none (reads_as d d.log.shape old.pages m.agrees.all its) in
-        made_advances d old m after_it (after_read old) ready (made_read (refl, refl, refl)) refl (omega arith) no_pair no_pair (inl refl) (busy_unfilled d old m.agrees lacks) m.none
+        made_advances d old m after_it (after_read old) ready (made_read (refl, refl, refl)) refl (omega arith) no_pair no_pair no_pair (inl refl) (busy_unfilled d old m.agrees lacks) m.none
         (record {
           stands = between after_it d.log.shape old.pages m.agrees.all stands_behind;
           cuts = read_cuts d.log.shape (CrashFinds d.log.shape background old.pages m.agrees.all) old (after_read old) refl (refl, here);
         })
-        (refl, refl, refl, refl) same_size refl (stays_frees d after_it stays) (omega arith) (less_behind known kept)
+        (refl, refl, refl, refl) same_size refl (stays_frees d after_it stays) (omega arith) (inl refl) (less_behind known kept)
+        (makes_fill d after_it old (after_read old) none_half merged frozen reclaimed lacks (record { fills = f; rest = refl; stand = stand; arena = arena }))
 
-  pub fills_one : (d' : Parts) (new : BoardState) → FillsSpare d d' old new → IsReady new d.log.shape → lacks_frames d ≡ true → IsLevels d.levels → AllByRecursion IsKept d.levels.runs → Advances d d' old new Worked
-  fills_one d' new is ready lacks known kept =
+  pub fills_one : (d' : Parts) (new : BoardState) → FillsSpare d d' old new → IsReady new d.log.shape
+      → (length (taken_by d.schedule.freeze) == 0) ≡ true → wants_reclaim d ≡ false → lacks_frames d ≡ true → IsLevels d.levels → AllByRecursion IsKept d.levels.runs → Advances d d' old new Worked
+  fills_one d' new is ready frozen reclaimed lacks known kept =
       let read : new ≡ after_read old = is.fills.read in
       let f = subst (λ (b : BoardState). FillsOne d.levels d.arena old d'.levels d'.arena b) read is.fills in
       let made = fills_behind d'.levels d'.arena f (subst (λ (b : BoardState). IsReady b d.log.shape) read ready)
-      (λ ess each. subst (λ (b : BoardState). RunsOnFlash b.pages d'.arena d'.levels.runs ess) read (is.stand ess each)) is.arena lacks known kept in
+      (λ ess each. subst (λ (b : BoardState). RunsOnFlash b.pages d'.arena d'.levels.runs ess) read (is.stand ess each)) is.arena frozen reclaimed lacks known kept in
       subst (λ (e : Parts). Advances d e old new Worked) (sym is.rest)
       (subst (λ (b : BoardState). Advances d (record d { levels = d'.levels; arena = d'.arena }) old b Worked) (sym read) made)
 
   -- ---- the read failed
 
-  pub fills_none : (d' : Parts) (new : BoardState) (page : ℕ) → ReadFailed old new page → d' ≡ d → IsReady new d.log.shape → lacks_frames d ≡ true → Advances d d' old new (Fault false)
-  fills_none d' new page failed same ready lacks =
+  pub fills_none : (d' : Parts) (new : BoardState) (page : ℕ) → ReadFailed old new page → d' ≡ d → IsReady new d.log.shape
+      → (length (taken_by d.schedule.freeze) == 0) ≡ true → wants_reclaim d ≡ false → lacks_frames d ≡ true → Advances d d' old new (Fault false)
+  fills_none d' new page failed same ready frozen reclaimed lacks =
       let rest = failed.rest in
       let only : OnlyReading old new = subst (λ (b : BoardState). OnlyReading old b) (sym rest) refl in
       let flash : OnlyFlash old new = subst (λ (b : BoardState). OnlyFlash old b) (sym rest) refl in
       let as_many : roots new ≡ roots old = ap roots rest in
       subst (λ (e : Parts). Advances d e old new (Fault false)) (sym same)
       (unread_advances d old m d new ready (made_read (ap (λ (b : BoardState). b.reads) rest, ap (λ (b : BoardState). b.programs) rest, ap (λ (b : BoardState). b.erases) rest)) flash
-      (omega (arith, as_many)) no_pair no_pair (read_grows d.log.shape old new only) (busy_unfilled d old m.agrees lacks) m.none refl its only failed.read failed.flash refl refl
-      (stays_frees d d (stays_same d d refl)) (omega arith))
+      (omega (arith, as_many)) no_pair no_pair no_pair (read_grows d.log.shape old new only) (busy_unfilled d old m.agrees lacks) m.none refl its only failed.read failed.flash refl refl
+      (stays_frees d d (stays_same d d refl)) (omega arith) (fill_due d none_half merged frozen reclaimed lacks))

@@ -1,10 +1,11 @@
 -- The second program of the newest root, stated for the drive.
-use Rattle.std.proofs.Common.{◌≡◌, inl, inr, ℕ, ◌-◌, ◌/◌, ◌≤◌, refl, sym, ap, subst, ◌∙◌, true, List, [], length, Result, Ok, Err}
+use Rattle.std.proofs.Common.{◌≡◌, inl, inr, ℕ, ◌+◌, ◌-◌, ◌/◌, ◌%◌, ◌<◌, ◌≤◌, arith, mod-lt, refl, sym, ap, subst, ◌∙◌, true, List, [], length, Result, Ok, Err}
 use Rattle.std.specs.Prelude.{OnOk, OnErr, IfErr}
-use Rattle.pk_base.{specs.Shape.Shape, specs.Page.Flash, specs.Entry.Entry, specs.Map.Map, specs.Refusal.Refusal}
+use Rattle.pk_base.{specs.Shape.Shape, specs.Page.Flash, specs.Page.page_at, proofs.ShapeLemmas.block_pages_positive, specs.Entry.Entry, specs.Map.Map, specs.Refusal.Refusal}
 use Rattle.pk_plan.specs.declared.owner.Owner.TheVariants.{Values}
-use Rattle.pk_rootfmt.specs.Root.{Root}
-use Rattle.pk_root.specs.Installing.{repeats_next}
+use Rattle.pk_rootfmt.specs.Root.{Root, root_bytes}
+use Rattle.pk_root.{specs.declared.next.Next.Next, specs.Installing.repeats_next, specs.Installing.IsPossible, specs.Installing.MayRepeat}
+use Rattle.pk_call.specs.Half.{HasHalf, MakesPair}
 use Rattle.pk_nand.{specs.declared.types.Fault.Fault, specs.declared.types.Fault.TheVariants.Stopped, specs.BoardState.BoardState, specs.Calls.IsReady, proofs.Writing.shape_is}
 use Rattle.pk_nand.specs.Effects.{OneProgram, Works, Stops}
 use Rattle.pk_pool.specs.Blocks.{Blocks, used_by, freed}
@@ -139,6 +140,27 @@ module _ (d : Parts) (log' : LogState) (pool' : Blocks) (old new : BoardState) (
     log_is : log' ≡ record d.log { next = log'.next; epoch = record d.log.epoch { half = log'.epoch.half } }
     log_is = let T : LogState → Type 0 = λ l. l ≡ record d.log { next = l.next; epoch = record d.log.epoch { half = l.epoch.half } } in subst T (sym its.log) refl
 
+    -- the pair has the root in its first page, and its second one is the next of the block
+    repeatable : MayRepeat d.log.shape h.half.index.half.page h.top old.pages
+    repeatable = subst (λ (n : Next). IsPossible d.log.shape n h.top old.pages) h.half.index.half.again h.with.index.logs.installs.possible
+
+    abbrev half_is : HasHalf d.log.shape old.pages
+    half_is =
+        let page : ℕ = h.half.index.half.page in
+        let less : (page + 1) % d.log.shape.block_pages < d.log.shape.block_pages = mod-lt (page + 1) (block_pages_positive d.log.shape h.with.index.logs.is_shape) in
+        record {
+          top = h.top;
+          is_newest = h.with.index.logs.is_top;
+          page = h.top.0;
+          under = inl refl;
+          bytes = root_bytes d.log.shape h.top.1;
+          first = ap (page_at old.pages) repeatable.at_first ∙ repeatable.here;
+          second = ap (λ (p : ℕ). page_at old.pages (p + 1)) repeatable.at_first ∙ repeatable.order.behind (page + 1) (omega arith) (omega (arith, less));
+        }
+
+    pair_made : MakesPair d.log.shape old.pages new.pages
+    pair_made = record { half = half_is; pages = its.pages; same_root = its.under.is_top ∙ sym h.with.committed.is_top }
+
     keeps_active : KeepsActive d.log log'
     keeps_active = let T : LogState → Type 0 = λ l. KeepsActive d.log l in subst T (sym its.log) refl
 
@@ -180,6 +202,7 @@ module _ (d : Parts) (log' : LogState) (pool' : Blocks) (old new : BoardState) (
           lowers = merge_less d then_index (counted m h) (same_shape m h) refl (keeps_active m h) is.less.work;
           works = works;
           program = program;
+          pair = pair_made m h;
           same_roots = same_roots m h may.ready;
           ready = ready;
         };

@@ -13,7 +13,9 @@ pub mod Steps
 pub mod Callings
 pub mod Indexing
 pub mod Remaining
+pub mod Ordering
 pub mod Advancing
+pub mod SeenOrder
 pub mod SameMaps
 pub mod Spacing
 pub mod SpaceSteps

@@ -10,12 +10,15 @@ use Rattle.pk_call.{specs.declared.types.Ticked.TheVariants.Worked, specs.declar
 use Rattle.pk_gc.{specs.declared.reclaimed.Reclaimed.TheVariants.Worked as GoesOn, specs.declared.reclaimed.Reclaimed.TheVariants.Ended}
 use Rattle.pk_gc.{specs.declared.course.Phase.Phase, specs.Standing.held_blocks, specs.Stepping.runs_in}
 use Rattle.pk_gc.specs.declared.course.Phase.TheVariants.{Idle}
-use Rattle.pk_parts.specs.Parts.{Parts, counts_of, sight_of, is_reclaim_due, may_freeze, has_moves, is_half}
+use Rattle.pk_parts.specs.Parts.{Parts, index_of, counts_of, sight_of, is_reclaim_due, may_freeze, has_moves, is_half}
 use Rattle.pk_parts.{specs.Moves.StandsFor, proofs.Unchanging.agrees_ready}
 use Rattle.pk_background.specs.Reclaiming.{MayReclaim, ReclaimHolds, Lessens, DoesReclaim, Waits, CannotRead, FailsAll, is_tight_for}
 use Rattle.pk_background.{specs.Ticking.MayTick, specs.Ticking.Advances, specs.Ticking.WantsReclaim, specs.Ticking.WantsFreeze, proofs.SpaceSteps.leaves_stay, proofs.SpaceSteps.unread_stays}
 use Rattle.pk_background.{proofs.Stored.blocks_between, proofs.Stored.blocks_at, proofs.Ticking.busy_reclaim, proofs.ReclaimWork.worked_less, proofs.ReclaimWork.ended_less}
 use Rattle.pk_background.proofs.TickSteps.{its_whole, whole_fails, made_advances, unread_advances, stop_advances}
+use Rattle.pk_background.proofs.Ordering.{reclaim_due, makes_reclaim}
+use Rattle.pk_compact.specs.FreezeSteps.{taken_by}
+use Rattle.pk_schedule.specs.Steps.{has_no_merge}
 
 and_left : (x y : Bool) → (x && y) ≡ true → x ≡ true
 and_left true y e = refl
@@ -53,7 +56,8 @@ module _ (d : Parts) (old : BoardState) (m : MayTick d old) (none_half : is_half
   may_reclaim = record { may = record { ready = agrees_ready d old m.agrees; stands = (m.agrees.all, its) }; none_pending = m.none; turn = turn_of d wants }
 
   module _ (new : BoardState) (calls : AtMostOneCall old new) (rest : OnlyFlash old new)
-      (same_roots : roots new ≡ roots old) (grows : Grows d.log.shape old.pages new.pages) (ready : IsReady new d.log.shape) where
+      (same_roots : roots new ≡ roots old) (grows : Grows d.log.shape old.pages new.pages) (ready : IsReady new d.log.shape)
+      (merged : has_no_merge (index_of d) ≡ true) (frozen : (length (taken_by d.schedule.freeze) == 0) ≡ true) where
     installs : roots new ≤ roots old + 1
     installs = omega (arith, same_roots)
 
@@ -68,8 +72,9 @@ module _ (d : Parts) (old : BoardState) (m : MayTick d old) (none_half : is_half
         let most = blocks_between d' d.log.shape new.pages m.agrees.all there.stands in
         let least = blocks_full d old.pages m.agrees.all its wants in
         let number = ap (λ (e : Parts). e.log.root.number) made.leaves in
-        made_advances d old m d' new ready calls rest installs no_pair no_pair grows (busy shared) none there sound stays.frames stays.stopped
-        (record { fresh = stays.fresh; no_more = omega (arith, most, least) }) (omega (arith, number)) less
+        made_advances d old m d' new ready calls rest installs no_pair no_pair no_pair grows (busy shared) none there sound stays.frames stays.stopped
+        (record { fresh = stays.fresh; no_more = omega (arith, most, least) }) (omega (arith, number)) (inl number) less
+        (makes_reclaim d d' old new none_half merged frozen wants (record { leaves = made.leaves; falls = made.falls }))
 
     pub goes_on : (d' : Parts) → DoesReclaim d d' old new GoesOn → d'.log.pending ≡ [] → NoFault old new → IsShared d.pool.shape d.pool.states → Advances d d' old new Worked
     goes_on d' made none sound shared = worked_advances d' made.0 none sound shared (worked_less d d' made.0.leaves wants made.0.falls made.1)
@@ -82,13 +87,14 @@ module _ (d : Parts) (old : BoardState) (m : MayTick d old) (none_half : is_half
         let stays = unread_stays d d' old new unread in
         let same = ap (λ (e : Parts). (counts_of e).blocks) unread.rest in
         let number = ap (λ (e : Parts). e.log.root.number) unread.rest in
-        unread_advances d old m d' new ready calls rest installs no_pair no_pair grows (busy shared)
+        unread_advances d old m d' new ready calls rest installs no_pair no_pair no_pair grows (busy shared)
         (ap (λ (e : Parts). e.log.pending) unread.rest ∙ m.none) (ap (λ (e : Parts). sight_of e) unread.rest)
         (unread.stands d.log.shape m.agrees.all its) unread.only unread.read unread.flash stays.frames stays.stopped
-        (record { fresh = stays.fresh; no_more = omega (arith, same) }) (omega (arith, number))
+        (record { fresh = stays.fresh; no_more = omega (arith, same) }) (omega (arith, number)) (reclaim_due d none_half merged frozen wants)
 
     pub stops_so : (d' : Parts) → d'.stopped ≡ true → d'.log.pending ≡ [] → FailsAll d old new → Stops old new → IsShared d.pool.shape d.pool.states → Advances d d' old new (Fault true)
     stops_so d' stopped none fails stops shared = stop_advances d old m d' new ready calls rest installs no_pair (busy shared) none stopped (whole_fails d old m d' new none_half fails) stops
+        (reclaim_due d none_half merged frozen wants)
 
   -- ---- one that needs a freeze
 

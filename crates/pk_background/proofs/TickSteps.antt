@@ -1,18 +1,20 @@
 -- From what one background step did to what a Tick promises.
-use Rattle.std.proofs.Common.{◌≡◌, inl, ◌+◌, ◌<◌, ◌≤◌, sym, ap, subst, ◌∙◌, arith, refl, Bool, true, false, List, [], Ok}
+use Rattle.std.proofs.Common.{◌≡◌, ◌⊎◌, inl, inr, ◌+◌, ◌<◌, ◌≤◌, sym, ap, subst, ◌∙◌, arith, refl, Bool, true, false, List, [], Ok}
 use Rattle.pk_base.{specs.Shape.Shape, specs.Page.Flash, specs.Page.page_at, specs.Entry.Entry, proofs.Logic.not_both}
 use Rattle.pk_rootfmt.specs.Newest.{newest_root}
 use Rattle.pk_nand.{specs.BoardState.BoardState, specs.BoardState.shape_or_none, specs.Calls.IsReady, specs.Calls.Rose}
 use Rattle.pk_nand.specs.Effects.{AtMostOneCall, OneProgram, NoFault, OnlyFlash, OnlyReading, Stops}
 use Rattle.pk_model.{specs.Growth.Grows, specs.Growth.Reaches, specs.Growth.Goes, specs.Wear.roots, specs.Crashes.CrashFinds, specs.Crashes.background, specs.Reading.reading, specs.Spaces.limits_at}
 use Rattle.pk_model.proofs.Growing.{reached_limits}
-use Rattle.pk_call.{specs.Sight.IsIdle, specs.Drive.HoldsMap, specs.declared.types.Ticked.TheVariants.Worked, specs.declared.types.Ticked.TheVariants.Idle}
+use Rattle.pk_call.{specs.Sight.IsIdle, specs.Half.MakesPair, specs.Drive.HoldsMap, specs.declared.types.Ticked.TheVariants.Worked, specs.declared.types.Ticked.TheVariants.Idle}
 use Rattle.pk_call.{specs.declared.types.Ticked.TheVariants.Fault}
-use Rattle.pk_parts.{specs.Parts.Parts, specs.Parts.drive_limits, specs.Parts.frames_of, specs.Parts.sight_of, specs.Parts.is_half, specs.Moves.StandsFor, specs.Moves.StandsBetween}
+use Rattle.pk_parts.{specs.Parts.Parts, specs.Parts.drive_limits, specs.Parts.frames_of, specs.Parts.sight_of, specs.Parts.is_half, specs.Parts.index_of, specs.Parts.settled_parts}
+use Rattle.pk_parts.specs.Moves.{StandsFor, StandsBetween}
 use Rattle.pk_parts.{specs.Staying.StaysOrFrees, proofs.OwnLimits.limits_on, proofs.Unchanging.for_its_map, proofs.Unchanging.agrees_ready, proofs.Halves.stands as whole_stands}
-use Rattle.pk_background.proofs.ReadSteps.{read_cuts}
+use Rattle.pk_background.{proofs.ReadSteps.read_cuts, proofs.Inside.number_is}
 use Rattle.pk_parts.proofs.Standing.{agrees_so, agrees_between, reads_as, reads_between, stands_between}
 use Rattle.pk_background.{specs.Reclaiming.ReclaimHolds, specs.Reclaiming.HoldsAll, specs.Reclaiming.FailsAll, specs.Ticking.MayTick, specs.Ticking.Advances}
+use Rattle.pk_background.specs.Order.{MakesDue, due_step, nothing}
 
 -- ---- answers
 
@@ -48,6 +50,11 @@ module _ (d : Parts) (old : BoardState) (m : MayTick d old) where
   own_limits : limits_at d.log.shape old.pages ≡ drive_limits d
   own_limits = limits_on d old.shape old.pages m.agrees
 
+  -- as many roots were installed as its log counts
+  numbered : (e : Parts) (board : BoardState) → IsReady board d.log.shape → StandsBetween e d.log.shape board.pages m.agrees.all → roots board ≡ e.log.root.number
+  numbered e board ready s =
+      number_is (index_of (settled_parts e)) (frames_of e) board s.top s.found (subst (λ (t : Shape). IsReady board t) (sym s.with.shape_is) ready) s.with.index
+
   -- of a drive of which no pair is half made
   pub whole_holds : (d' : Parts) (new : BoardState) → is_half d ≡ false → HoldsAll d d' old new → ReclaimHolds d' d.log.shape m.agrees.all old new
   whole_holds d' new none holds = holds d.log.shape m.agrees.all (its_whole none)
@@ -60,15 +67,24 @@ module _ (d : Parts) (old : BoardState) (m : MayTick d old) where
     grown : Grows d.log.shape old.pages new.pages → Grows (shape_or_none old.shape) old.pages new.pages
     grown grows = subst (λ o. Grows (shape_or_none o) old.pages new.pages) (sym (agrees_ready d old m.agrees).shape_is) grows
 
+    paired : MakesPair d.log.shape old.pages new.pages → MakesPair (shape_or_none old.shape) old.pages new.pages
+    paired is = subst (λ o. MakesPair (shape_or_none o) old.pages new.pages) (sym (agrees_ready d old m.agrees).shape_is) is
+
+    -- the root is the same, or the pair of another one is half made
+    begun : StandsBetween d' d.log.shape new.pages m.agrees.all → (d'.log.root.number ≡ d.log.root.number) ⊎ (is_half d' ≡ true) → (roots new ≡ roots old) ⊎ (is_half d' ≡ true)
+    begun stands (inl same) = inl (numbered d' new ready stands ∙ same ∙ sym (numbered d old (agrees_ready d old m.agrees) its_stand))
+    begun stands (inr half) = inr half
+
     limits_after : Reaches d.log.shape old new (CrashFinds d.log.shape background old.pages m.agrees.all) → limits_at d.log.shape new.pages ≡ drive_limits d
     limits_after cuts = reached_limits d.log.shape old new (CrashFinds d.log.shape background old.pages m.agrees.all) (agrees_ready d old m.agrees).shape_is cuts ∙ own_limits
 
     -- a step that worked: the map is unchanged, and less work remains
-    pub made_advances : (is_half d ≡ true → is_half d' ≡ false) → Grows d.log.shape old.pages new.pages
+    pub made_advances : (is_half d ≡ true → is_half d' ≡ false) → (is_half d ≡ true → MakesPair d.log.shape old.pages new.pages) → Grows d.log.shape old.pages new.pages
         → (IsIdle d.log.shape old.pages (sight_of d) → ⊥) → d'.log.pending ≡ [] → ReclaimHolds d' d.log.shape m.agrees.all old new
         → NoFault old new → frames_of d' ≡ frames_of d → d'.stopped ≡ d.stopped → StaysOrFrees d d'
-        → d'.log.root.number ≤ d.log.root.number + 1 → (sight_of d').work < (sight_of d).work → Advances d d' old new Worked
-    made_advances finishes grows busy none here sound frames stopped frees number less =
+        → d'.log.root.number ≤ d.log.root.number + 1 → (d'.log.root.number ≡ d.log.root.number) ⊎ (is_half d' ≡ true)
+        → (sight_of d').work < (sight_of d).work → MakesDue (due_step d) d d' old new → Advances d d' old new Worked
+    made_advances finishes pair grows busy none here sound frames stopped frees number begins less makes =
         record {
           ticks = record {
             stands = λ _. for_its_map d old m.agrees (λ s f x. HoldsMap s f new (sight_of d') x)
@@ -93,19 +109,23 @@ module _ (d : Parts) (old : BoardState) (m : MayTick d old) where
           agrees = λ _. agrees_between d' new.shape d.log.shape new.pages m.agrees.all ready.shape_is here.stands;
           moves = λ _. frees;
           repeats = repeats;
+          pair = λ half _. paired (pair half);
           finishes = λ half _. finishes half;
+          begins = λ _. begun here.stands begins;
           number = λ _. number;
           lowers = λ _. less;
           idle = λ e. absurd (worked_idle e);
           busy = λ idle. absurd (busy idle);
+          order = record { made = λ _. makes; idle = (λ e. absurd (worked_idle e), λ none. absurd (subst (λ k. MakesDue k d d' old new) none makes)) };
         }
 
     -- a step of which a read failed: the state of the drive is unchanged
-    pub unread_advances : (is_half d ≡ true → is_half d' ≡ false) → Grows d.log.shape old.pages new.pages → (IsIdle d.log.shape old.pages (sight_of d) → ⊥)
+    pub unread_advances : (is_half d ≡ true → is_half d' ≡ false) → (is_half d ≡ true → MakesPair d.log.shape old.pages new.pages)
+        → Grows d.log.shape old.pages new.pages → (IsIdle d.log.shape old.pages (sight_of d) → ⊥)
         → d'.log.pending ≡ [] → sight_of d' ≡ sight_of d → StandsFor d' d.log.shape old.pages m.agrees.all → OnlyReading old new → Rose old.read_faults new.read_faults
         → Rose old.flash_faults new.flash_faults
-        → frames_of d' ≡ frames_of d → d'.stopped ≡ d.stopped → StaysOrFrees d d' → d'.log.root.number ≤ d.log.root.number + 1 → Advances d d' old new (Fault false)
-    unread_advances finishes grows busy none seen stands only rose flash frames stopped frees number =
+        → frames_of d' ≡ frames_of d → d'.stopped ≡ d.stopped → StaysOrFrees d d' → d'.log.root.number ≤ d.log.root.number + 1 → (due_step d ≡ nothing → ⊥) → Advances d d' old new (Fault false)
+    unread_advances finishes pair grows busy none seen stands only rose flash frames stopped frees number some =
         let counted = m.counted in
         let pages_same : new.pages ≡ old.pages = ap (λ (b : BoardState). b.pages) only in
         let S : Flash → Type 0 = λ f. StandsFor d' d.log.shape f m.agrees.all in
@@ -136,18 +156,21 @@ module _ (d : Parts) (old : BoardState) (m : MayTick d old) where
           agrees = λ _. agrees_so d' new.shape d.log.shape new.pages m.agrees.all ready.shape_is still;
           moves = λ _. frees;
           repeats = repeats;
+          pair = λ half _. paired (pair half);
           finishes = λ half _. finishes half;
+          begins = λ _. inl (ap roots only);
           number = λ _. number;
           lowers = λ e. absurd (stopped_worked false e);
           idle = λ e. absurd (stopped_idle false e);
           busy = λ idle. absurd (busy idle);
+          order = record { made = λ e. absurd (stopped_worked false e); idle = (λ e. absurd (stopped_idle false e), λ none. absurd (some none)) };
         }
 
     -- a step that stopped the drive
     pub stop_advances : (IsIdle d.log.shape old.pages (sight_of d) → ⊥) → d'.log.pending ≡ [] → d'.stopped ≡ true
         → Goes d.log.shape old new (CrashFinds d.log.shape background old.pages m.agrees.all) → Stops old new
-        → Advances d d' old new (Fault true)
-    stop_advances busy none stopped goes stops = record {
+        → (due_step d ≡ nothing → ⊥) → Advances d d' old new (Fault true)
+    stop_advances busy none stopped goes stops some = record {
       ticks = record {
         stands = λ e. absurd (not_both true refl e);
         cuts = λ e. absurd (not_both true refl e);
@@ -170,9 +193,12 @@ module _ (d : Parts) (old : BoardState) (m : MayTick d old) where
       agrees = λ e. absurd (not_both true refl e);
       moves = λ e. absurd (not_both true refl e);
       repeats = repeats;
+      pair = λ half e. absurd (not_both true refl e);
       finishes = λ half e. absurd (not_both true refl e);
+      begins = λ e. absurd (not_both true refl e);
       number = λ e. absurd (not_both true refl e);
       lowers = λ e. absurd (stopped_worked true e);
       idle = λ e. absurd (stopped_idle true e);
       busy = λ idle. absurd (busy idle);
+      order = record { made = λ e. absurd (stopped_worked true e); idle = (λ e. absurd (stopped_idle true e), λ none. absurd (some none)) };
     }

@@ -192,7 +192,7 @@ ready_freed [] = refl
 ready_freed (RootBlock ∷ ss) = omega (arith, ready_freed ss, sum_by-cons {X = BlockState})
 ready_freed (s ∷ ss) = omega (arith, ready_freed ss, sum_by-cons {X = BlockState})
 
-some_free : (states : List BlockState) (b : ℕ) → slice_get states b ≡ Some Free → 1 ≤ count_by is_free states
+pub some_free : (states : List BlockState) (b : ℕ) → slice_get states b ≡ Some Free → 1 ≤ count_by is_free states
 some_free states b free =
     let all = count-set is_free states b Free Ready free in
     omega (arith, all)
@@ -319,7 +319,7 @@ module _ (d : Parts) (old : BoardState) (a : DriveOnFlash d old.shape old.pages)
   blocks_are rests = ap (λ (os : List ℕ). used_by Values d.pool.states - length os) (holds_none d.reclaim.phase rests) ∙ omega arith
 
   -- one is due by what is seen of the drive
-  due_is : ((counts_of d).blocks == data_blocks d.log.shape - 1) && not (has_open_room d.log.shape old.pages (block_if_open d.values.open_block)) ≡ is_reclaim_due d
+  pub due_is : ((counts_of d).blocks == data_blocks d.log.shape - 1) && not (has_open_room d.log.shape old.pages (block_if_open d.values.open_block)) ≡ is_reclaim_due d
   due_is = ap (λ b. ((counts_of d).blocks == data_blocks d.log.shape - 1) && not b) open_room
 
   all_unready : HasNoStep d → runs_in d.reclaim.phase ≡ false → 2 + length (named a.top.1) + (counts_of d).blocks + count_by is_ready d.pool.states ≡ d.log.shape.blocks

@@ -1,5 +1,6 @@
 pub mod Emptying
 pub mod Filling
+pub mod Order
 pub mod Ticking
 pub mod Pairing
 pub mod Reclaiming

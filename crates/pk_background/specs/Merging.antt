@@ -1,9 +1,10 @@
 -- One step of a merge or of a freeze, made by a Tick or by a command that needs room.
-use Rattle.std.specs.Prelude.{◌≡◌, ◌+◌, ◌<◌, ◌≤◌, true, false}
+use Rattle.std.specs.Prelude.{◌≡◌, ◌⊎◌, ◌+◌, ◌<◌, ◌≤◌, true, false}
 use Rattle.pk_base.{specs.Shape.Shape, specs.Map.Map}
 use Rattle.pk_nand.{specs.declared.types.Fault.Fault, specs.declared.types.Fault.TheVariants.Reading, specs.declared.types.Fault.TheVariants.Stopped, specs.BoardState.BoardState, specs.Calls.Rose}
 use Rattle.pk_nand.specs.Effects.{OnlyReading, Stops}
 use Rattle.pk_model.specs.Growth.{Grows}
+use Rattle.pk_root.specs.Installing.{repeats_next}
 use Rattle.pk_schedule.{specs.declared.phase.Stepped.Stepped, specs.declared.phase.Stepped.TheVariants.Worked, specs.declared.phase.Stepped.TheVariants.Idle, specs.Steps.has_no_merge}
 use Rattle.pk_parts.{specs.Parts.Parts, specs.Parts.index_of, specs.Parts.sight_of, specs.Moves.StandsFor}
 use Rattle.pk_background.{specs.Reclaiming.HoldsAll, specs.Reclaiming.FailsAll, specs.Ticking.WantsFreeze}
@@ -13,6 +14,7 @@ pub record Merges (before after : Parts) (old new : BoardState) : Type 0 where
   pub holds : HoldsAll before after old new
   pub grows : Grows before.log.shape old.pages new.pages
   pub busy : has_no_merge (index_of before) ≡ false
+  pub begins : (after.log.root ≡ before.log.root) ⊎ (repeats_next after.log.next ≡ true)
   pub number : after.log.root.number ≤ before.log.root.number + 1
   pub less : (sight_of after).work < (sight_of before).work
 
@@ -46,5 +48,6 @@ FailsMerge before after old new Stopped = (has_no_merge (index_of before) ≡ fa
 pub record FreezesOn (before after : Parts) (old new : BoardState) : Type 0 where
   pub holds : HoldsAll before after old new
   pub grows : Grows before.log.shape old.pages new.pages
+  pub begins : (after.log.root ≡ before.log.root) ⊎ (repeats_next after.log.next ≡ true)
   pub number : after.log.root.number ≤ before.log.root.number + 1
   pub less : WantsFreeze before → (sight_of after).work < (sight_of before).work

@@ -7,6 +7,7 @@ use Rattle.pk_nand.{specs.declared.types.Fault.Fault, specs.declared.types.Fault
 use Rattle.pk_nand.specs.Effects.{OneProgram, Works, Stops}
 use Rattle.pk_model.{specs.Growth.Grows, specs.Growth.Reaches, specs.Growth.Goes, specs.Crashes.CrashFinds, specs.Crashes.background, specs.Wear.roots}
 use Rattle.pk_root.specs.Installing.{repeats_next}
+use Rattle.pk_call.specs.Half.{MakesPair}
 use Rattle.pk_gc.specs.declared.course.Phase.TheVariants.{Commits, GivesBack}
 use Rattle.pk_schedule.specs.Steps.{LessIsLeft}
 use Rattle.pk_reclaim.specs.Space.{Falls, HasRoom as HasSpace}
@@ -26,7 +27,7 @@ pub record Finished (before after : Parts) (shape : Shape) (m : Map) (old new : 
   pub cuts : Reaches shape old new (CrashFinds shape background old.pages m)
   pub grows : Grows shape old.pages new.pages
 
--- The pair is whole, by one program. Of the log no more differs than what its installer does next, and that its epoch is whole; of all else no
+-- The pair is whole, by one program of its second page. Of the log no more differs than what its installer does next, and that its epoch is whole; of all else no
 -- more than the blocks that left, which are free, and how far the reclaim is.
 pub record FinishesHalf (before after : Parts) (old new : BoardState) : Type 0 where
   pub finished : (shape : Shape) (m : Map) → StandsBetween before shape old.pages m → Finished before after shape m old new
@@ -37,6 +38,7 @@ pub record FinishesHalf (before after : Parts) (old new : BoardState) : Type 0 w
   pub lowers : (sight_of after).work < (sight_of before).work
   pub works : Works old new
   pub program : OneProgram old new
+  pub pair : MakesPair before.log.shape old.pages new.pages
   pub same_roots : roots new ≡ roots old
   pub ready : IsReady new before.log.shape
 

@@ -3,7 +3,8 @@ use Rattle.std.specs.Prelude.{◌≡◌, ◌⊎◌, ◌+◌, ◌<◌, ◌≤◌,
 use Rattle.pk_pool.{specs.declared.state.BlockState.TheVariants.Free, specs.Blocks.IsNowhere}
 use Rattle.pk_nand.{specs.BoardState.BoardState, specs.BoardState.shape_of, specs.Calls.Rose, specs.Calls.last_count}
 use Rattle.pk_nand.specs.Effects.{OnlyFlash, OnlyReading, NoFault, AtMostOneCall, OneProgram}
-use Rattle.pk_call.{specs.Sight.Sight, specs.Sight.IsIdle, specs.Call.KeepsMap, specs.Call.CallReaches, specs.Call.CallGoes, specs.Seen.stopped_by, specs.declared.types.Ticked.Ticked}
+use Rattle.pk_call.{specs.Sight.Sight, specs.Sight.IsIdle, specs.Half.MakesPair, specs.Call.KeepsMap, specs.Call.CallReaches, specs.Call.CallGoes, specs.Seen.stopped_by}
+use Rattle.pk_call.specs.declared.types.Ticked.{Ticked}
 use Rattle.pk_call.specs.declared.types.Ticked.TheVariants.{Worked, Idle, Fault}
 use Rattle.pk_model.{specs.Growth.Grows, specs.Wear.roots, specs.Crashes.background}
 use Rattle.pk_compact.specs.FreezeSteps.{taken_by}
@@ -11,7 +12,7 @@ use Rattle.pk_schedule.specs.Steps.{has_no_merge}
 use Rattle.pk_gc.specs.Stepping.{runs_in}
 use Rattle.pk_parts.{specs.Parts.Parts, specs.Parts.index_of, specs.Parts.sight_of, specs.Parts.is_half, specs.Parts.is_reclaim_due, specs.Parts.may_freeze, specs.Agreeing.DriveOnFlash}
 use Rattle.pk_parts.specs.Staying.{StaysOrFrees}
-use Rattle.pk_background.specs.Filling.{lacks_frames}
+use Rattle.pk_background.{specs.Filling.lacks_frames, specs.Order.MadeInOrder}
 
 -- a step asks for a drive that runs and agrees with its board, with nothing pending, and whose next root has a number
 pub record MayTick (d : Parts) (board : BoardState) : Type 0 where
@@ -71,8 +72,13 @@ pub record Advances (d d' : Parts) (old new : BoardState) (answer : Ticked) : Ty
   pub moves : stopped_by answer ≡ false → StaysOrFrees d d'
   -- the second program of a pair that is half made comes first
   pub repeats : is_half d ≡ true → OneProgram old new
+  pub pair : is_half d ≡ true → stopped_by answer ≡ false → MakesPair (shape_of old) old.pages new.pages
   pub finishes : is_half d ≡ true → stopped_by answer ≡ false → is_half d' ≡ false
+  -- a root is installed by the first program of its pair
+  pub begins : stopped_by answer ≡ false → (roots new ≡ roots old) ⊎ (is_half d' ≡ true)
   pub number : stopped_by answer ≡ false → d'.log.root.number ≤ d.log.root.number + 1
   pub lowers : answer ≡ Worked → (sight_of d').work < (sight_of d).work
   pub idle : answer ≡ Idle → HasNoStep d × (d' ≡ d)
   pub busy : IsIdle d.log.shape old.pages (sight_of d) → answer ≡ Idle
+  -- the first step that applies is made
+  pub order : MadeInOrder d d' old new answer

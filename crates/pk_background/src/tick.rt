@@ -108,6 +108,7 @@ fn reclaim_step<B: Nand, A: Region>(parts: &mut Parts<A>, board: &mut B) -> Tick
     requires may { MayTick parts.old (B.state board.old) }
     requires whole { is_half parts.old ≡ false }
     requires merged { has_no_merge (index_of parts.old) ≡ true }
+    requires frozen { (length (taken_by parts.old.schedule.freeze) == 0) ≡ true }
     requires wanted { WantsReclaim parts.old }
     ensures { Advances parts.old parts.new (B.state board.old) (B.state board.new) result }
 {
@@ -144,6 +145,8 @@ fn fill_step<B: Nand, A: Region>(parts: &mut Parts<A>, board: &mut B) -> Ticked
     requires may { MayTick parts.old (B.state board.old) }
     requires whole { is_half parts.old ≡ false }
     requires merged { has_no_merge (index_of parts.old) ≡ true }
+    requires frozen { (length (taken_by parts.old.schedule.freeze) == 0) ≡ true }
+    requires reclaimed { wants_reclaim parts.old ≡ false }
     requires unfilled { lacks_frames parts.old ≡ true }
     ensures { Advances parts.old parts.new (B.state board.old) (B.state board.new) result }
 {

@@ -4,6 +4,7 @@ pub mod Call
 pub mod Meter
 pub mod Exec
 pub mod Commit
+pub mod Half
 pub mod Tick
 pub mod Seen
 pub mod Calling

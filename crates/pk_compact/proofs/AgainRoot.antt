@@ -1,6 +1,6 @@
 -- The second program of a root: its pair is a cut of the flash before the first one.
 use Rattle.std.proofs.Common.{◌≡◌, inl, inr, ℕ, ◌+◌, ◌≤◌, List, [], Some, false, refl, sym, ap, subst, ◌∙◌, arith, Result, Ok, Err, T, true}
-use Rattle.std.specs.Prelude.{OnOk, OnErr, IfErr}
+use Rattle.std.specs.Prelude.{OnOk, OnErr, IfErr, slice_set}
 use Rattle.pk_base.{specs.Shape.Shape, specs.Shape.IsShape, specs.Page.Flash, specs.Page.page_at, specs.Page.whole, specs.Page.SameBehind, specs.Map.Map, specs.Mark.program, specs.Mark.after}
 use Rattle.pk_base.proofs.Logic.{is_true}
 use Rattle.pk_nand.{specs.BoardState.BoardState, specs.Cut.Interrupted, specs.Calls.IsReady, specs.Calls.after_program, specs.Calls.ProgramFailed, specs.Effects.OneProgram, specs.Pairs.IsPairCut}
@@ -110,13 +110,16 @@ module _ (shape : Shape) (is_shape : IsShape shape) (root : Root) (next : Next) 
       let installs : InstallerOnFlash shape next' top new.pages = subst (λ (t : ℕ × Root). InstallerOnFlash shape next' t new.pages) (same_top r.page r.was) r.fits in
       let now = number_of_top shape new.pages top installs.newest in
       let before = number_of_top shape old.pages top can.under.is_top in
+      let program = by_top (λ bs. new ≡ after_program old (r.page + 1) bs) r.program in
       record {
         under = under_behind shape old.pages new.pages top found m is_shape can.under installs.newest behind;
         installs = installs;
         whole = is_whole;
+        pages = ap (λ (b : BoardState). b.pages) program
+            ∙ ap (λ (p : ℕ). slice_set old.pages (p + 1) (whole (root_bytes shape top.1))) (sym (fits r.page r.was).possible.at_first);
         number = now ∙ sym before;
         behind = behind;
-        cuts = again_reaches r.page r.was new (by_top (λ bs. new ≡ after_program old (r.page + 1) bs) r.program);
+        cuts = again_reaches r.page r.was new program;
       }
 
   pub repeat_breaks : (new : BoardState) → FailsToRepeat shape root next old new → Goes shape old new (CrashFinds shape background old.pages m)

@@ -1,8 +1,8 @@
 -- The install of a root that may follow the newest one, in three steps: the erase before it, if one is next, and its two programs.
-use Rattle.std.specs.Prelude.{◌≡◌, ℕ, ◌+◌, [], true, false}
-use Rattle.pk_base.{specs.Shape.Shape, specs.Page.Flash, specs.Page.SameBehind, specs.Map.Map}
+use Rattle.std.specs.Prelude.{◌≡◌, ℕ, ◌+◌, [], slice_set, true, false}
+use Rattle.pk_base.{specs.Shape.Shape, specs.Page.Flash, specs.Page.whole as whole_page, specs.Page.SameBehind, specs.Map.Map}
 use Rattle.pk_nand.specs.BoardState.{BoardState}
-use Rattle.pk_rootfmt.specs.Root.{Root}
+use Rattle.pk_rootfmt.specs.Root.{Root, root_bytes}
 use Rattle.pk_model.{specs.Spaces.limits_at, specs.Found.Found, specs.Growth.Reaches, specs.Growth.Goes, specs.Crashes.CrashFinds, specs.Crashes.background, specs.Wear.root_number}
 use Rattle.pk_root.{specs.declared.next.Next.Next, specs.declared.next.Next.TheVariants.Again}
 use Rattle.pk_root.specs.Installing.{InstallerOnFlash, programs_next, repeats_next, before_pair}
@@ -81,11 +81,13 @@ pub record CanRepeat (shape : Shape) (root : Root) (next : Next) (flash : Flash)
   pub under : IsUnder shape flash [] top found m
   pub half : IsHalf shape next flash m
 
--- The root is the newest one still, with the same map, and its pair is whole. The map is the same, wherever the program is cut.
+-- The root is the newest one still, with the same map, and its pair is whole: the second page has it as well, and no other page differs. The
+-- map is the same, wherever the program is cut.
 pub record IsRepeated (shape : Shape) (old : BoardState) (top : ℕ × Root) (found : Found) (m : Map) (next' : Next) (new : BoardState) : Type 0 where
   pub under : IsUnder shape new.pages [] top found m
   pub installs : InstallerOnFlash shape next' top new.pages
   pub whole : repeats_next next' ≡ false
+  pub pages : new.pages ≡ slice_set old.pages (top.0 + 1) (whole_page (root_bytes shape top.1))
   pub number : root_number shape new.pages ≡ root_number shape old.pages
   pub behind : SameBehind shape old.pages new.pages
   pub cuts : Reaches shape old new (CrashFinds shape background old.pages m)

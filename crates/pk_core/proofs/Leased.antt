@@ -10,7 +10,7 @@ use Rattle.pk_level.{specs.Levels.IsLevels, specs.Levels.AreOfLevels, specs.Leve
 use Rattle.pk_model.specs.Found.{Found}
 use Rattle.pk_law_steps.specs.Under.{IsUnder}
 use Rattle.pk_scan.specs.Opened.{HaveBlocks}
-use Rattle.pk_schedule.{specs.Index.merging, specs.Index.output, proofs.OutputFrames.most_output, proofs.OutputFrames.output_most}
+use Rattle.pk_schedule.{specs.Index.merging, specs.Index.output, proofs.Keeping.idle_leases, proofs.OutputFrames.most_output, proofs.OutputFrames.output_most}
 use Rattle.pk_parts.{specs.Parts.Parts, specs.Parts.frames_of, specs.Parts.index_of, specs.Agreeing.DriveOnFlashWith, proofs.Holding.entries_of, proofs.Holding.pages_are}
 
 module _ (shape : Shape) (flash : Flash) (arena : Frames) where
@@ -64,6 +64,22 @@ module _ (d : Parts) (shape : Shape) (flash : Flash) (top : ℕ × Root) (found 
       let all = counted in
       let here : P d.log.shape d.levels.pinned = omega (arith, own, both, all) in
       subst (λ (s : Shape). P s (pinned s (frames_of d))) agrees.shape_is (subst (P d.log.shape) x.levels_pinned here)
+
+  -- and no page more has one, if no merge runs and no level after the pinned ones has frames
+  pub leased_pinned : IsLevels d.levels → AreBareAbove d.levels.pinned 1 d.levels.runs → merging d.schedule.phase ≡ 0
+      → leased_frames d.arena ≡ sum (map (run_pages shape) (take (pinned shape (frames_of d)) (entries_of d.levels.runs)))
+  leased_pinned known bare none =
+      let x = agrees.index in
+      let P : Shape → ℕ → Type 0 = λ s n. leased_frames d.arena ≤ sum (map (run_pages s) (take n (entries_of d.levels.runs))) in
+      let own = most d.log.shape flash d.arena d.levels.pinned 1 d.levels.pinned d.levels.runs top.1.runs found.runs (omega arith) bare x.run_blocks x.stand in
+      let both = length-append (leases_of d.levels.runs) (output d.schedule).leases in
+      let no_output : length (output d.schedule).leases ≡ 0 = ap (λ (ls : List ℕ). length ls) (idle_leases (index_of d) (frames_of d) flash top found x none) in
+      let all = counted in
+      let here : P d.log.shape d.levels.pinned = omega (arith, own, both, all, no_output) in
+      let few : leased_frames d.arena ≤ sum (map (run_pages shape) (take (pinned shape (frames_of d)) (entries_of d.levels.runs))) =
+      subst (λ (s : Shape). P s (pinned s (frames_of d))) agrees.shape_is (subst (P d.log.shape) x.levels_pinned here) in
+      let some = leased_least known in
+      omega (arith, few, some)
 
   -- besides, only pages of other levels that may have frames have some, and pages of a merge's output
   pub leased_most :

@@ -1,12 +1,13 @@
 -- A drive after the reads of its opening.
 use Rattle.std.proofs.Common.{◌≡◌, ℕ, ◌<◌, ◌≤◌, Some, List, [], length, refl, sym, ap, subst, ◌∙◌, arith}
-use Rattle.pk_base.{specs.Shape.Shape, specs.Shape.IsShape, specs.Shape.page_entries, specs.Page.Flash, specs.Page.page_at, specs.Entry.Entry, specs.Map.Map}
+use Rattle.pk_base.{specs.Shape.Shape, specs.Shape.IsShape, specs.Shape.page_entries, specs.Shape.pinned, specs.Page.Flash, specs.Page.page_at, specs.Entry.Entry, specs.Map.Map}
 use Rattle.pk_rootfmt.specs.Root.{Root}
 use Rattle.pk_model.{specs.Found.Found, specs.Found.found_under, specs.Tree.Tree, specs.Tree.IsTree, specs.Spaces.terms_at}
 use Rattle.pk_nand.{specs.BoardState.BoardState, specs.Calls.IsReady, specs.Counts.after_reads}
-use Rattle.pk_call.{specs.Drive.HoldsMap, specs.Steady.live_blocks}
-use Rattle.pk_parts.{specs.Parts.Parts, specs.Parts.sight_of, specs.Agreeing.DriveOnFlash, specs.Moves.StandsFor, specs.Opening.OpenedOn, proofs.Halves.between, proofs.Standing.agrees_so}
-use Rattle.pk_core.proofs.Standing.{still_stands}
+use Rattle.pk_call.{specs.Sight.entries_of_runs, specs.Drive.HoldsMap, specs.Steady.live_blocks, specs.Steady.pages_of_runs}
+use Rattle.pk_parts.{specs.Parts.Parts, specs.Parts.IsParts, specs.Parts.sight_of, specs.Agreeing.DriveOnFlash, specs.Moves.StandsFor, specs.Opening.OpenedOn}
+use Rattle.pk_parts.{proofs.Halves.between, proofs.Standing.agrees_so}
+use Rattle.pk_core.{proofs.Standing.still_stands, proofs.Steadying.pinned_leased}
 
 -- ---- what contracts say of it
 
@@ -38,3 +39,9 @@ module _ (shape : Shape) (frames reads : ℕ) (old new : BoardState) (d : Parts)
       let top : (was.page_of_root, tree.root) ≡ o.top = let e = sym was.is_newest ∙ o.with.committed.is_top in cc in
       let found : tree.found ≡ o.found = let e = sym was.is_found ∙ ap (λ (t : ℕ × Root). found_under shape (page_at old.pages) t.1) top ∙ o.with.committed.is_found in cc in
       o.blocks_are ∙ ap (λ (f : Found). live_blocks shape f []) (sym found)
+
+  -- the pages of the pinned levels alone have frames
+  pub closed_behind : IsParts d → (sight_of d).counts.leased ≡ pages_of_runs shape (pinned shape frames) (entries_of_runs (sight_of d).counts)
+  closed_behind keeps =
+      subst (λ (n : ℕ). (sight_of d).counts.leased ≡ pages_of_runs shape (pinned shape n) (entries_of_runs (sight_of d).counts)) o.frames_are
+      (pinned_leased d shape old.pages o.top o.found o.all o.all o.with keeps o.closed o.no_merge)

@@ -14,6 +14,7 @@ use Rattle.pk_pool.specs.declared.state.BlockState.TheVariants.{Root as RootBloc
 use Rattle.pk_pool.proofs.Sharing.{behind_roots}
 use Rattle.pk_nand.{specs.Operations.IsErasedBlock, specs.BoardState.BoardState, specs.Effects.OnlyFlash}
 use Rattle.pk_run.specs.Kept.{Kept}
+use Rattle.pk_level.specs.Arenas.{AreBareAbove}
 use Rattle.pk_jrn.proofs.Puts.{firsts-reverse}
 use Rattle.pk_model.{specs.Found.Found, specs.Values.all_pages}
 use Rattle.pk_call.{specs.Sight.Sight, specs.Sight.entries_of_runs, specs.Sight.most_work, specs.Sight.pages_of_each, specs.Exec.IsNextMerge}
@@ -28,7 +29,7 @@ use Rattle.pk_schedule.specs.declared.phase.Phase.TheVariants.{Idle, Running, Re
 use Rattle.pk_schedule.proofs.Backlogs.{index_backlog, four, entries_are}
 use Rattle.pk_parts.{proofs.Reclaiming.reclaim_within, specs.Agreeing.DriveOnFlashWith, specs.Agreeing.DriveOnFlash, proofs.Holding.counts_of_four, proofs.Holding.pinned_all}
 use Rattle.pk_parts.specs.Parts.{Parts, IsParts, sight_of, counts_of, block_if_open, frames_of, index_of, outputs_of, backlog_of, is_reclaim_due, reclaim_left, settled_parts}
-use Rattle.pk_core.{specs.Agreeing.DriveOnFlashBetween, proofs.Leased.leased_least, proofs.Leased.leased_most, proofs.Seen.seen_same}
+use Rattle.pk_core.{specs.Agreeing.DriveOnFlashBetween, proofs.Leased.leased_least, proofs.Leased.leased_pinned, proofs.Leased.leased_most, proofs.Seen.seen_same}
 use Rattle.pk_core.proofs.Places.{blocks_from, many_blocks, has_state, blocks_differ, block_in, all_in}
 
 -- ---- the blocks that are erased
@@ -175,6 +176,13 @@ module _ (d : Parts) (shape : Shape) (flash : Flash) (top : ℕ × Root) (found 
   least_leased : pages_of_runs shape (pinned shape (frames_of d)) (entries_of_runs (counts_of d)) ≤ leased_frames d.arena
   least_leased =
       subst (λ (ns : List ℕ). pages_of_runs shape (pinned shape (frames_of d)) ns ≤ leased_frames d.arena) (sym four_are) (leased_least d shape flash top found without all a keeps.levels)
+
+  -- at opening no page more has a frame
+  pub pinned_leased : AreBareAbove d.levels.pinned 1 d.levels.runs → merging d.schedule.phase ≡ 0
+      → leased_frames d.arena ≡ pages_of_runs shape (pinned shape (frames_of d)) (entries_of_runs (counts_of d))
+  pinned_leased bare none =
+      subst (λ (ns : List ℕ). leased_frames d.arena ≡ pages_of_runs shape (pinned shape (frames_of d)) ns) (sym four_are)
+      (leased_pinned d shape flash top found without all a keeps.levels bare none)
 
   most_leased : leased_frames d.arena ≤ pages_of_runs shape (adapted shape (frames_of d) (pages_of_each shape (counts_of d))) (entries_of_runs (counts_of d)) + output_frames shape (counts_of d)
   most_leased =

@@ -1,17 +1,18 @@
 //! A drive is opened.
 ghost use Rattle.std.specs.Prelude.{◌≡◌, ◌≤◌, ◌<◌, [], length, false, None, IfOk, IfErr, OnOk};
-ghost use Rattle.pk_base.specs.Shape.{page_entries};
+ghost use Rattle.pk_base.specs.Shape.{page_entries, pinned};
 ghost use Rattle.pk_base.specs.Map.{Map};
 ghost use Rattle.pk_nand.specs.Calls.{IsReady};
 ghost use Rattle.pk_nand.specs.Counts.{after_reads};
 ghost use Rattle.pk_model.specs.Spaces.{terms_at};
 ghost use Rattle.pk_call.specs.Drive.{HoldsMap};
+ghost use Rattle.pk_call.specs.Sight.{entries_of_runs};
 ghost use Rattle.pk_scan.specs.Reads.{opening_reads};
 ghost use Rattle.pk_scan.specs.Opening.{NotOpened};
 ghost use Rattle.pk_nand.specs.Effects.{OnlyReading};
 ghost use Rattle.pk_parts.specs.Parts.{sight_of};
 ghost use Rattle.pk_parts.specs.Agreeing.{DriveOnFlash};
-ghost use Rattle.pk_call.specs.Steady.{IsSteady, live_blocks};
+ghost use Rattle.pk_call.specs.Steady.{IsSteady, live_blocks, pages_of_runs};
 ghost use Rattle.pk_model.specs.Tree.{Tree, IsTree};
 
 use crate::drive::Drive;
@@ -53,6 +54,11 @@ impl<A: Region> Drive<A> {
         ensures none { IfOk result (λ d. d.log.pending ≡ []) }
         ensures fresh { IfOk result (λ d. d.log.epoch.takes_more ≡ false) }
         ensures closed { IfOk result (λ d. d.values.open_block ≡ None) }
+
+        // No pair is half made, and the pages of the pinned levels alone have frames.
+        ensures whole { IfOk result (λ d. (sight_of d).half ≡ false) }
+        ensures closed_levels { IfOk result (λ d. (sight_of d).counts.leased
+            ≡ pages_of_runs shape (pinned shape frames) (entries_of_runs (sight_of d).counts)) }
 
         // The board.
         ensures reads { OnOk result (B.state board.new ≡ after_reads (opening_reads shape

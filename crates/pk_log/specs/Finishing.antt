@@ -1,8 +1,8 @@
 -- The second program of the newest root.
-use Rattle.std.specs.Prelude.{◌≡◌, ℕ, [], false}
-use Rattle.pk_base.{specs.Page.Flash, specs.Page.SameBehind, specs.Map.Map}
+use Rattle.std.specs.Prelude.{◌≡◌, ℕ, ◌+◌, [], slice_set, false}
+use Rattle.pk_base.{specs.Page.Flash, specs.Page.whole as whole_page, specs.Page.SameBehind, specs.Map.Map}
 use Rattle.pk_nand.specs.BoardState.{BoardState}
-use Rattle.pk_rootfmt.specs.Root.{Root}
+use Rattle.pk_rootfmt.specs.Root.{Root, root_bytes}
 use Rattle.pk_root.specs.Installing.{repeats_next}
 use Rattle.pk_model.{specs.Found.Found, specs.Growth.Reaches, specs.Growth.Goes, specs.Crashes.CrashFinds, specs.Crashes.background, specs.Wear.root_number}
 use Rattle.pk_law_steps.specs.Under.{IsUnder}
@@ -15,10 +15,12 @@ pub record MayFinish (log : LogState) (flash : Flash) (top : ℕ × Root) (found
   pub under : IsUnder log.shape flash [] top found m
   pub half : IsHalf log.shape log.next flash m
 
--- The pair is whole, and the log is as before, but for what its installer does next. The map is the same wherever the program is cut.
+-- The pair is whole: its second page has the root as well, and no other page differs. The log is as before, but for what its installer does
+-- next. The map is the same wherever the program is cut.
 pub record LogFinished (log : LogState) (old : BoardState) (top : ℕ × Root) (found : Found) (m : Map) (log' : LogState) (new : BoardState) : Type 0 where
   pub same_log : log' ≡ record log { next = log'.next }
   pub whole : repeats_next log'.next ≡ false
+  pub pages : new.pages ≡ slice_set old.pages (top.0 + 1) (whole_page (root_bytes log.shape top.1))
   pub logs : LogOnFlash log' new.pages top found
   pub under : IsUnder log.shape new.pages [] top found m
   pub number : root_number log.shape new.pages ≡ root_number log.shape old.pages

@@ -345,12 +345,15 @@ module _ {task : PairTask} {shape : Shape} {m other : Map} {p p' q q' : Standing
       → PairSaid (BothWalked task shape p p' q q') task (seen shape p.on p.faults) (seen shape p'.on p'.faults) (seen shape q.on q.faults) (seen shape q'.on q'.faults) (in_space 1 m) text
       → PairSaid (BothUnworn task shape m other p.on.board q.on.board q'.on.board) task (seen shape p.on p.faults) (seen shape p'.on p'.faults) (seen shape q.on q.faults) (seen shape q'.on q'.faults) (in_space 1 m) text
   unworn none nor text (inl (asked, done)) =
-      inl (record {
-        first = unworn_by shape m p p' h.has h.holds h.begun h.going h.first none asked.first;
-        second = unworn_by shape other q q' h.has' h.holds' h.begun' h.going' h.second nor asked.second;
-        whole = all_unworn (WholeOnSecond task m other) shape q asked.whole.0 q'
-            (asked.whole.1 (in_space 1 m) (in_space 1 other) (ap part_of h.holds) (ap part_of h.holds')) nor asked.whole.2;
-      }, done)
+      inl (
+        record {
+          first = unworn_by shape m p p' h.has h.holds h.begun h.going h.first none asked.first;
+          second = unworn_by shape other q q' h.has' h.holds' h.begun' h.going' h.second nor asked.second;
+          whole = all_unworn (WholeOnSecond task m other) shape q asked.whole.0 q'
+              (asked.whole.1 (in_space 1 m) (in_space 1 other) (ap part_of h.holds) (ap part_of h.holds')) nor asked.whole.2;
+        },
+        done,
+      )
   unworn none nor text (inr unread) = inr unread
 
   pub tells-posted : end_by p'.halt q'.halt ≡ None → (text : List ℕ)

@@ -9,7 +9,7 @@ use Rattle.pk_pool.specs.Blocks.{Blocks, used_by}
 use Rattle.pk_level.{specs.Arenas.HasArena, specs.Levels.HaveBlocks}
 use Rattle.pk_merge.specs.Jobs.{IsIdle}
 use Rattle.pk_compact.specs.declared.freezing.FreezeJob.TheVariants.{Idle as NoFreeze}
-use Rattle.pk_schedule.{specs.declared.phase.Phase.TheVariants.Idle, specs.Index.Schedule, specs.Index.IndexOnFlash, specs.Index.index, proofs.Keeping.IsFound, proofs.Keeping.index_opens}
+use Rattle.pk_schedule.{specs.declared.phase.Phase.TheVariants.Idle, specs.Index.Schedule, specs.Index.IndexOnFlash, specs.Index.index, specs.Index.merging, proofs.Keeping.IsFound, proofs.Keeping.index_opens}
 use Rattle.pk_model.specs.Found.{Found}
 use Rattle.pk_law_steps.specs.Under.{IsUnder, places}
 use Rattle.pk_log.{specs.State.LogState, specs.State.opened, specs.Logs.LogOnFlash, specs.Logs.Opens}
@@ -109,4 +109,6 @@ module _ {A : Type 0} (shape : Shape) (flash : Flash) (frames : ℕ) (f : Opened
         none_open = ap (λ (s : ValuesState). s.open_block) space_is;
         blocks_are = ap (λ (p : Phase). used_by for_values f.pool.states - length (held_blocks p)) rests.1 ∙ (omega arith ∙ was.blocks.values_are);
         rests = ap runs_in rests.1;
+        closed = was.lists.closed;
+        no_merge = ap merging idle.0;
       }

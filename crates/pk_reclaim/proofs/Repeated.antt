@@ -167,8 +167,11 @@ module _ (log : LogState) (values : ValuesState) (pool : Blocks) (victim : ℕ) 
         subst (λ (l : LogState). HasRoom (reclaim_parts l values' pool' job')) (sym log_then)
         (subst (λ (d : ValuesState). HasRoom (reclaim_parts then_log d pool' job')) (sym parts.values) (subst (λ (q : Blocks). HasRoom (reclaim_parts then_log values q job')) (sym parts.pool) half.room))
 
-    pub repeat_whole : MakesWhole victim before (reclaim_parts log' values' pool' job')
+    pub repeat_whole : MakesWhole victim before old (reclaim_parts log' values' pool' job') new
     repeat_whole = record {
+      bytes = bytes;
+      first = half.can.half.here;
+      pages = pages_are;
       phase = ap (λ (j : JobState). j.phase) g.job_is;
       log = log_then;
       values = parts.values;

@@ -1,13 +1,13 @@
 -- What a step of a reclaim does to the space of a drive, and what it leaves of the flash.
-use Rattle.std.specs.Prelude.{◌≡◌, ◌≢◌, ℕ, ◌+◌, ◌/◌, ◌<◌, List, [], ◌++◌, length, slice_get, true, false, Some, Result, Err}
-use Rattle.pk_base.{specs.Key.Key, specs.Shape.Shape, specs.Shape.root_pages, specs.Page.Flash, specs.Page.page_at, specs.Entry.Entry, specs.Entry.Place, specs.Map.Map}
+use Rattle.std.specs.Prelude.{◌≡◌, ◌≢◌, ℕ, ◌+◌, ◌/◌, ◌<◌, List, [], ◌++◌, length, slice_get, slice_set, true, false, Some, Result, Err}
+use Rattle.pk_base.{specs.Key.Key, specs.Shape.Shape, specs.Shape.root_pages, specs.Page.Flash, specs.Page.page_at, specs.Page.whole as whole_page, specs.Entry.Entry, specs.Entry.Place, specs.Map.Map}
 use Rattle.pk_law_work.specs.Backlog.{is_tight}
 use Rattle.pk_nand.{specs.BoardState.BoardState, specs.Calls.Rose, specs.Effects.OneProgram, specs.Effects.OnlyReading, specs.declared.types.Fault.Fault}
 use Rattle.pk_nand.specs.declared.types.Fault.TheVariants.{Reading}
 use Rattle.pk_plan.specs.declared.owner.Owner.TheVariants.{Journal, Meta, Values}
 use Rattle.pk_pool.{specs.declared.state.BlockState.TheVariants.Owned, specs.Blocks.Blocks, specs.Blocks.used_by}
 use Rattle.pk_rootfmt.specs.Root.{Root}
-use Rattle.pk_jrn.specs.Epochs.{left_of}
+use Rattle.pk_jrn.specs.Epochs.{left_of, next_page, before_half}
 use Rattle.pk_model.{specs.Found.Found, specs.Laws.AnyByRecursion, specs.Growth.Reaches, specs.Growth.Goes, specs.Crashes.CrashFinds, specs.Crashes.background}
 use Rattle.pk_law_steps.specs.Under.{places}
 use Rattle.pk_law_moves.specs.Moves.{entries_of, moved}
@@ -73,18 +73,22 @@ RoomIn (Copies c) x = Unit {0}
 RoomIn (Commits victim) x = HasRoom x
 RoomIn (GivesBack victim) x = HasRoom x
 
--- The second program leaves all but the epoch, which is whole then, and the phase and the page of the reclaim.
-pub record MakesWhole (victim : ℕ) (x x' : ReclaimParts) : Type 0 where
+-- The second program gives the second page of the epoch's last commit the bytes of the first, and leaves all but the epoch, which is whole
+-- then, and the phase and the page of the reclaim.
+pub record MakesWhole (victim : ℕ) (x : ReclaimParts) (old : BoardState) (x' : ReclaimParts) (new : BoardState) : Type 0 where
+  pub bytes : List ℕ
+  pub first : page_at old.pages (next_page (before_half x.log.epoch)) ≡ whole_page bytes
+  pub pages : new.pages ≡ slice_set old.pages (next_page (before_half x.log.epoch) + 1) (whole_page bytes)
   pub phase : x'.job.phase ≡ GivesBack victim
   pub log : x'.log ≡ record x.log { epoch = record x.log.epoch { half = false } }
   pub values : x'.values ≡ x.values
   pub pool : x'.pool ≡ x.pool
 
-abbrev pub PairIn : Phase → ReclaimParts → ReclaimParts → Type 0
-PairIn Idle x x' = Unit {0}
-PairIn (Copies c) x x' = Unit {0}
-PairIn (Commits victim) x x' = MakesWhole victim x x'
-PairIn (GivesBack victim) x x' = Unit {0}
+abbrev pub PairIn : Phase → ReclaimParts → BoardState → ReclaimParts → BoardState → Type 0
+PairIn Idle x old x' new = Unit {0}
+PairIn (Copies c) x old x' new = Unit {0}
+PairIn (Commits victim) x old x' new = MakesWhole victim x old x' new
+PairIn (GivesBack victim) x old x' new = Unit {0}
 
 -- a commit that is half made is made whole by its second program alone, whether or not it fails
 abbrev pub RepeatsIn : Phase → BoardState → BoardState → Result Reclaimed Fault → Type 0
@@ -107,7 +111,7 @@ pub record Works (x : ReclaimParts) (old : BoardState) (x' : ReclaimParts) (new 
   pub runs : runs_in x'.job.phase ≡ true
   pub log : LogIn x'.job.phase x x'
   pub room : RoomIn x'.job.phase x'
-  pub pair : PairIn x.job.phase x x'
+  pub pair : PairIn x.job.phase x old x' new
 
 -- if the moves were committed before, the log is the same, and values are where they were; otherwise there is room for every value
 abbrev pub RoomBehind : Phase → ReclaimParts → ReclaimParts → Type 0

@@ -62,7 +62,7 @@ kept_wanted pins old new bytes (Some lease) keeps = sym keeps.0
 -- ---- the arena of an opening
 
 -- no run after the pinned levels has frames
-bare_of : (pinned last level : ℕ) (rs : List Kept) (counts : List ℕ) → pinned ≤ last → HaveFrames pinned level rs counts → AreBareAbove last level rs
+pub bare_of : (pinned last level : ℕ) (rs : List Kept) (counts : List ℕ) → pinned ≤ last → HaveFrames pinned level rs counts → AreBareAbove last level rs
 bare_of pinned last level [] [] low have = tt
 bare_of pinned last level (r ∷ rs) (count ∷ counts) low have = (
   λ above. subst (λ (b : Bool). IsPinnedIf b r) (lt-leb level pinned (omega (arith, above, low))) have.1,

@@ -22,7 +22,7 @@ use Rattle.pk_scan.{specs.OpeningParts.PartNotOpened, specs.OpeningParts.HoldsFo
 use Rattle.pk_scan.specs.Memory.{FoundNothing, IsUnread, AwaitsLists, HoldsLists, LoadsLists, FindsLists, AwaitsValues}
 use Rattle.pk_scan.specs.declared.errors.OpenError.TheVariants.{NotFormatted, Damaged}
 use Rattle.pk_scan.{specs.Opened.FoundOnFlash, specs.Reads.opening_reads, specs.Reads.reads_under, specs.Reads.list_reads, specs.Reads.value_reads, specs.Reads.pages_of_runs, specs.Reads.run_reads}
-use Rattle.pk_scan.{proofs.Boards.reads_sum, proofs.RunReads.run_reads_are, specs.declared.errors.OpenError.OpenError, proofs.Leasing.arena_opened, proofs.Room.frames_enough, specs.Used.IsUseOf}
+use Rattle.pk_scan.{proofs.Boards.reads_sum, proofs.RunReads.run_reads_are, specs.declared.errors.OpenError.OpenError, proofs.Leasing.arena_opened, proofs.Leasing.bare_of, proofs.Room.frames_enough, specs.Used.IsUseOf}
 use Rattle.pk_scan.{proofs.Opened.behind_reads, proofs.Under.visible_places, proofs.Under.found_refuses, proofs.Under.values_refuse, proofs.Under.stands_under}
 use Rattle.pk_space.specs.Uses.{Use}
 
@@ -166,6 +166,7 @@ module _ {A : Type 0} {shape : Shape} {frames : ℕ} {before f : Opened A} {foun
           run_blocks = held_here.run_blocks;
           arena_is = arena_opened shape frames before.arena f.arena f.levels f.root.root.counts finds.held.run_frames
               (finds.levels_shape ∙ unread.root_shape) pinned_here unread.page_bytes unread.all_free finds.more;
+          closed = bare_of f.levels.pinned f.levels.pinned 1 f.levels.runs f.root.root.counts (omega arith) finds.held.run_frames;
         };
         blocks = record {
           lives = values.lives;

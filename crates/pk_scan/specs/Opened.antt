@@ -5,7 +5,7 @@ use Rattle.pk_plan.specs.declared.owner.Owner.TheVariants.{Values as for_values}
 use Rattle.pk_pool.specs.Blocks.{used_by}
 use Rattle.pk_rootfmt.specs.Root.{is_root, named}
 use Rattle.pk_jrn.{specs.Epochs.EpochOnFlash, specs.Replays.buffer_of}
-use Rattle.pk_level.{specs.Levels.RunsOnFlash, specs.Arenas.HasArena}
+use Rattle.pk_level.{specs.Levels.RunsOnFlash, specs.Arenas.HasArena, specs.Arenas.AreBareAbove}
 use Rattle.pk_model.{specs.Found.Found as FoundLists, specs.Values.all_pages, specs.Values.blocks_with}
 use Rattle.pk_law_steps.specs.Under.{IsUnder, IsValuePage, places}
 pub use Rattle.pk_scan.specs.OpeningParts.{HaveBlocks}
@@ -13,7 +13,7 @@ use Rattle.pk_scan.{specs.OpeningParts.IsFoundEpoch, specs.Used.IsUseOf, specs.A
 use Rattle.pk_live.specs.Lives.{Lives}
 
 -- The lists under the newest root are in memory: the newest epoch in the active buffer, the older one in the frozen buffer, the
--- runs in the levels, of which the upper ones have frames, and nothing else has some.
+-- runs in the levels, of which the pinned ones have frames, and nothing else has some.
 pub record ListsOnFlash {A : Type 0} (shape : Shape) (flash : Flash) (frames : ℕ) (f : Found A) (lists : FoundLists) (map : Map) : Type 0 where
   pub shape_is : f.root.shape ≡ shape
   pub grammar : is_root shape f.root.root ≡ true
@@ -28,6 +28,7 @@ pub record ListsOnFlash {A : Type 0} (shape : Shape) (flash : Flash) (frames : �
   pub stand : RunsOnFlash flash f.arena f.levels.runs lists.runs
   pub run_blocks : HaveBlocks shape f.levels.runs f.root.root.runs
   pub arena_is : HasArena shape frames f.levels f.arena []
+  pub closed : AreBareAbove f.levels.pinned 1 f.levels.runs
 
 -- The live map represents the values of the keys that exist, and each block has the owner that it is found to have: the values' are
 -- those with a page of a value.

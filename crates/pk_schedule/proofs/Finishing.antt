@@ -64,6 +64,7 @@ module _ (x : Index) (frames : ℕ) (old : BoardState) (top : ℕ × Root) (foun
     index_settles = record {
       stands = stands_then;
       settles = record { whole = f.whole; none_leaves = none_leaves x.pool };
+      pages = f.pages;
       log = refl;
       rest = refl;
       under = f.under;

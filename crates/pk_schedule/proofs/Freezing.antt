@@ -313,6 +313,7 @@ module _ (x : Index) (frames : ℕ) (old : BoardState) (top : ℕ × Root) (foun
             under = under;
             same_places = same_places found none_older;
             values = values_over;
+            begins = inr (ap repeats_next f.half.again);
             numbers = (let e : x.log.root.number ≡ top.1.number = ap (λ (r : Root). r.number) may.stands.logs.root_is in omega (arith, e));
             grows = inr (record {
               from = tree_of top.1 found;

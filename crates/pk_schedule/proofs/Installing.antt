@@ -268,6 +268,7 @@ module _ (x : Index) (frames : ℕ) (old : BoardState) (top : ℕ × Root) (foun
       under = under;
       same_places = next.same_places;
       values = values_then;
+      begins = inr (ap repeats_next f.half.again);
       numbers = (let same : x.log.root.number ≡ root.number = ap (λ (r : Root). r.number) may.stands.logs.root_is in omega (arith, same));
       grows = inr (installed shape old.pages new.pages [] top f.page found then_root then_found m may.stands.logs.is_shape tt may.under next under.is_top f.behind).1;
       cuts = f.cuts;

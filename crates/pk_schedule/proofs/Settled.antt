@@ -38,6 +38,7 @@ whole_moves x frames old top found m may x' new settles stands same_shape same_r
   under = under;
   same_places = refl;
   values = values_settled x' x.log.shape x.pool old.pages new.pages settles values;
+  begins = inl same_root;
   numbers = (let same = ap (λ (r : Root). r.number) same_root in omega (arith, same));
   grows = inl (under.is_top ∙ sym may.under.is_top);
   cuts = cuts;

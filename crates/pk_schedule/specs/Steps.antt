@@ -1,10 +1,10 @@
 -- What a step of the jobs asks of an index and its flash, and what it leaves.
-use Rattle.std.specs.Prelude.{◌≡◌, ◌⊎◌, ℕ, ◌+◌, ◌/◌, ◌<◌, ◌≤◌, [], length, map, Bool, true, false, ◌==◌, ◌&&◌, if◌then◌else◌, slice_get, Option, Some, None}
-use Rattle.pk_base.{specs.Shape.Shape, specs.Page.Flash, specs.Page.page_at, specs.Map.Map}
+use Rattle.std.specs.Prelude.{◌≡◌, ◌⊎◌, ℕ, ◌+◌, ◌/◌, ◌<◌, ◌≤◌, [], length, map, Bool, true, false, ◌==◌, ◌&&◌, if◌then◌else◌, slice_get, slice_set, Option, Some, None}
+use Rattle.pk_base.{specs.Shape.Shape, specs.Page.Flash, specs.Page.page_at, specs.Page.whole as whole_page, specs.Map.Map}
 use Rattle.pk_law_work.{specs.Backlog.Backlog, specs.Backlog.due_level, specs.Rest.Lowers, specs.Work.work, specs.Work.merging_left}
 use Rattle.pk_nand.{specs.BoardState.BoardState, specs.Calls.IsReady, specs.Calls.Rose, specs.Effects.AtMostOneCall, specs.Effects.OnlyFlash, specs.Effects.OnlyReading}
 use Rattle.pk_plan.specs.declared.owner.Owner.TheVariants.{Values}
-use Rattle.pk_rootfmt.specs.Root.{Root, last_number}
+use Rattle.pk_rootfmt.specs.Root.{Root, last_number, root_bytes}
 use Rattle.pk_pool.{specs.declared.state.BlockState.TheVariants.Owned, specs.Blocks.Blocks, specs.Blocks.used_by, specs.Blocks.freed, specs.Unready.unready}
 use Rattle.pk_root.{specs.declared.next.Next.Next, specs.Installing.repeats_next}
 use Rattle.pk_run.specs.Kept.{most_pages, most_blocks}
@@ -98,6 +98,7 @@ pub record IndexMoves (x : Index) (frames : ℕ) (old : BoardState) (found : Fou
   pub under : IsUnder x.log.shape new.pages [] then_top then_found m
   pub same_places : places then_found [] ≡ places found []
   pub values : KeepsValues x.log.shape x.pool old.pages (freed x'.pool) new.pages
+  pub begins : (x'.log.root ≡ x.log.root) ⊎ (repeats_next x'.log.next ≡ true)
   pub numbers : x'.log.root.number ≤ x.log.root.number + 1
   pub grows : Grows x.log.shape old.pages new.pages
   pub cuts : Reaches x.log.shape old new (CrashFinds x.log.shape background old.pages m)
@@ -170,12 +171,14 @@ pub record MaySettle (x : Index) (frames : ℕ) (flash : Flash) (top : ℕ × Ro
   pub values : (k : ℕ) → IsValuePage x.log.shape (places found []) k
       → slice_get (freed x.pool).states (k / x.log.shape.block_pages) ≡ Some (Owned Values)
 
--- The pair is whole, and the blocks that left are free; of the log no more differs than what its installer does next. The index matches the
--- flash under the same root, with the same map, wherever the program is cut. Less remains then.
+-- The pair is whole: its second page has the root as well, and no other page differs. The blocks that left are free; of the log no more
+-- differs than what its installer does next. The index matches the flash under the same root, with the same map, wherever the program is cut.
+-- Less remains then.
 pub record IndexSettles (x : Index) (frames : ℕ) (old : BoardState) (top : ℕ × Root) (found : Found)
     (m : Map) (x' : Index) (new : BoardState) : Type 0 where
   pub stands : IndexOnFlash x' frames new.pages top found
   pub settles : IsSettled x'
+  pub pages : new.pages ≡ slice_set old.pages (top.0 + 1) (whole_page (root_bytes x.log.shape top.1))
   pub log : x'.log ≡ record x.log { next = x'.log.next }
   pub rest : x' ≡ record (settled x) { log = x'.log }
   pub under : IsUnder x.log.shape new.pages [] top found m

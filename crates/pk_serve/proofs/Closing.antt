@@ -12,7 +12,7 @@ use Rattle.pk_serve.specs.declared.end.End.TheVariants.{Done, Truncated, Input, 
 use Rattle.pk_call.{specs.Sight.Sight, specs.Meter.meter}
 use Rattle.pk_serve.{specs.Ends.IsFault, specs.Serving.KeptAt, specs.Serving.Flushed, specs.Serving.ServingBroken, specs.Answered.Answered}
 use Rattle.pk_serve.{specs.Input.Spells, specs.Input.IsPart, specs.Input.script_after, specs.Loop.Finished, specs.Loop.Failed, specs.Loop.Finish, specs.Loop.Ends, specs.Script.Runs}
-use Rattle.pk_serve.{specs.Calling.calls_of, specs.Calling.most_calls_of_all, specs.declared.end.End.End, proofs.Counting.metered-roots, proofs.Counting.metered-unworn, proofs.Counting.few_unworn}
+use Rattle.pk_serve.{specs.Calling.calls_of, specs.Calling.most_calls_of_all, specs.declared.end.End.End}
 use Rattle.pk_serve.{proofs.Serves.kept-more, proofs.Commanding.answered-more, proofs.Calling.most_calls-append, proofs.Calling.most_calls-front, proofs.Scripts.IsPart-entry}
 
 -- ---- what is held is posted at the end
@@ -142,11 +142,9 @@ module _ (shape : Shape) (terms : Terms) (start : Map) (a b : BoardState) (d : S
         holds = rw none at w.stands.map_is;
         few_faults = w.few_faults;
         metered = w.metered;
-        few_roots = metered-roots f.all (meter a) (meter b) w.metered;
         few_calls = (let so_far = w.few_calls in omega (arith, so_far));
         no_faults = w.no_faults;
         few = omega (arith, f.few, size_of part f);
-        unworn = λ some. few_unworn a (metered-unworn f.all (meter a) (meter b) (λ none. some (ap commands none)) w.metered);
       }
 
   served_as : (cs ds : List Command) → cs ≡ ds → Served shape terms start a b cs → Served shape terms start a b ds

@@ -4,9 +4,9 @@ use Rattle.pk_base.{specs.Shape.Shape, specs.Map.Map}
 use Rattle.pk_nvme.specs.Command.{Command}
 use Rattle.pk_nand.{specs.BoardState.BoardState, specs.Calls.Rose, specs.Calls.longer, specs.Calls.AtEnd}
 use Rattle.pk_model.{specs.Run.Exchange, specs.Run.RunWithin, specs.Run.commands, specs.Run.records, specs.Run.faults, specs.Reading.Holds, specs.Kept.AtMost, specs.Kept.rise, specs.Script.script}
-use Rattle.pk_model.{specs.Wear.is_worn, specs.Wear.roots, specs.Growth.Goes, specs.Spaces.Terms}
+use Rattle.pk_model.{specs.Wear.is_worn, specs.Growth.Goes, specs.Spaces.Terms}
 use Rattle.pk_call.{specs.Sight.Sight, specs.Drive.HoldsMap, specs.Meter.meter, specs.Meter.MeteredAll}
-use Rattle.pk_serve.{specs.Ends.NoFaults, specs.Serving.KeptAt, specs.Answered.Answered, specs.Answered.installs, specs.Calling.calls_of, specs.Calling.most_calls_of_all, specs.declared.end.End.End}
+use Rattle.pk_serve.{specs.Ends.NoFaults, specs.Serving.KeptAt, specs.Answered.Answered, specs.Calling.calls_of, specs.Calling.most_calls_of_all, specs.declared.end.End.End}
 use Rattle.pk_serve.specs.declared.end.End.TheVariants.{Done, Truncated, Input, Output, Flash, Worn}
 use Rattle.pk_serve.specs.Further.{most_entries, TakesMore}
 
@@ -28,7 +28,7 @@ CallsWithin a b before =
     (shape : Shape) (terms : Terms) (start : Map) → HoldsMap shape terms a before start → before.pending ≡ []
     → (input : List ℕ) → a.input ≡ Some input → calls_of b ≤ calls_of a + most_calls_of_all shape (script input).0
 
--- These, no more than a run takes, were served from a drive that was not worn, with exactly their records posted, and the flash holds the map after them.
+-- These, no more than a run takes, were served, each from a drive that was not worn, with exactly their records posted, and the flash holds the map after them.
 pub record Served (shape : Shape) (terms : Terms) (start : Map) (a b : BoardState) (cs : List Command) : Type 0 where
   pub served : List Exchange
   pub are : commands served ≡ cs
@@ -38,11 +38,9 @@ pub record Served (shape : Shape) (terms : Terms) (start : Map) (a b : BoardStat
   pub holds : Holds shape b.pages left
   pub few_faults : AtMost (rise a.read_faults b.read_faults) (faults served)
   pub metered : MeteredAll (meter a) served (meter b)
-  pub few_roots : roots b ≤ roots a + installs cs
   pub few_calls : calls_of b ≤ calls_of a + most_calls_of_all shape cs
   pub no_faults : NoFaults a b
   pub few : length cs ≤ most_entries
-  pub unworn : cs ≢ [] → is_worn a ≡ false
 
 -- Which commands were served, by the end: all of the script; all of it, and more bytes; those whole in the bytes that were taken; those before
 -- another one that begins; those before the one in which a call failed, or a prefix of them.

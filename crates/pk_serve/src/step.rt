@@ -1,5 +1,5 @@
 //! The serving step: a command is executed, and its record is held until it is committed.
-ghost use Rattle.std.specs.Prelude.{◌≡◌, ◌≤◌, ◌<◌, ℕ, List, [], ◌++◌, length, take, true, OnOk, IfErr};
+ghost use Rattle.std.specs.Prelude.{◌≡◌, ◌≤◌, ◌<◌, ℕ, List, [], ◌++◌, length, take, true, false, OnOk, IfErr};
 ghost use Rattle.pk_nvme.specs.Reply.{reply_record};
 ghost use Rattle.pk_nvme.specs.Seen.{command_of};
 ghost use Rattle.pk_queue.specs.Queue.{bytes_of};
@@ -7,6 +7,8 @@ ghost use Rattle.pk_call.specs.Seen.{reply_of};
 ghost use Rattle.pk_call.specs.Exec.{IsValue};
 ghost use Rattle.pk_serve.specs.Ends.{NoFaults};
 ghost use Rattle.pk_call.specs.Running.{DriveRuns, CanServe, PassesValue};
+ghost use Rattle.pk_call.specs.Settling.{may_raise};
+ghost use Rattle.pk_nvme.specs.declared.status.TheConstants.{SUCCESSFUL_COMPLETION};
 ghost use Rattle.pk_serve.specs.Part.{HasRoom, KeepsRunning, Faulted, TakesNone, InstallsNone, OnlyGives, SameRoom};
 ghost use Rattle.pk_serve.specs.Serving.{Flushed, FailsHolding, Posts, PostBreaks, Keeps, CommandServed, CommandStops};
 ghost use Rattle.pk_serve.specs.Further.{most_entries};
@@ -115,6 +117,8 @@ pub fn prepare<D: Engine, B: Board>(
     ensures runs_on { OnOk result (KeepsRunning (D.agrees drive.new) (D.sight drive.new)
         (B.state board.old) (B.state board.new)) }
     ensures tick { OnOk result (request.now.opcode ≡ TICK → (D.sight drive.new).pending ≡ []) }
+    ensures first { OnOk result (may_raise request.now.opcode ≡ false
+        → ((D.sight drive.new).pending ≡ []) × (held.new.heads ≡ [])) }
     ensures rest { InstallsNone (B.state board.old) (B.state board.new) }
 
     // The records.
@@ -141,6 +145,8 @@ pub fn is_held<D: Engine>(
     request: &Request,
     outcome: &Outcome,
 ) -> bool
+    ensures changes { result ≡ true → may_raise request.now.opcode ≡ true }
+    ensures done { result ≡ true → outcome.now.status ≡ SUCCESSFUL_COMPLETION }
     ensures room { result ≡ true → length held.now.heads < held.now.room }
     ensures none { result ≡ true → outcome.now.data_len ≡ 0 }
 {

@@ -1,7 +1,8 @@
 -- Runs of words on a pair one after another: each begins from what the one before it left of both drives.
 use Rattle.std.proofs.Common.{◌≡◌, ◌⊎◌, inl, inr, ℕ, List, [], ◌∷◌, ◌++◌, Option, Some, IsSome, refl, sym, ◌∙◌, ap, subst}
 use Rattle.pk_base.{specs.Shape.Shape, specs.Page.Flash, specs.Mark.Mark, specs.Map.Map}
-use Rattle.pk_nand.{specs.BoardState.BoardState, specs.BoardState.shape_of, specs.BoardState.shape_or_none, specs.Calls.longer, specs.Calls.Loaded, specs.Calls.Rose, specs.Cut.Cut, proofs.Reaching.longer-nil}
+use Rattle.pk_nand.{specs.BoardState.BoardState, specs.BoardState.shape_of, specs.BoardState.shape_or_none, specs.Calls.longer, specs.Calls.Loaded, specs.Calls.Rose}
+use Rattle.pk_nand.{specs.Cut.Cut, proofs.Reaching.longer-nil}
 use Rattle.pk_model.{specs.Spaces.limits_at, specs.Spaces.limit_of, specs.Reading.reading, specs.Reading.Holds}
 use Rattle.pk_mirrorwords.specs.PairTasks.{map_left}
 use Rattle.pk_mirrorrun.specs.PairTold.{EitherUnread, KeptFirst, KeptSecond}

@@ -467,7 +467,8 @@ module _ (task : PairTask) (old new old' new' : BoardState) (status : ℕ) (shap
     same_other : (asked : Map) → Holds shape loaded'.pages asked → asked ≡ other
     same_other asked holds = let h : ◌≡◌ {A = Result Map Refusal} (Ok asked) (Ok other) = sym holds ∙ holds_loaded' in cc
 
-    done_by : (start start' : Map) → start ≡ m → start' ≡ other → status ≡ 0 → PairFinished task shape start start' (behind_opening shape WORD_FRAMES loaded) new (behind_opening shape WORD_FRAMES loaded') new' → IsDone
+    done_by : (start start' : Map) → start ≡ m → start' ≡ other → status ≡ 0
+        → PairFinished task shape start start' (behind_opening shape WORD_FRAMES loaded) new (behind_opening shape WORD_FRAMES loaded') new' → IsDone
     done_by start start' same same' is f = elim f.says [
       | inl said ↦ (
         is,

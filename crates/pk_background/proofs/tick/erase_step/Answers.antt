@@ -10,8 +10,10 @@ erase_spare-requires-clause-fits g c = unfreed_fits c.args.parts.now.pool (g.B.N
 pub returns-in-Ok-true : goal.returns-in-Ok-true
 returns-in-Ok-true g c =
     let e = c.erase_spare.ensures in
+    let r = c.requires in
     let is = c.in-Ok-true in
-    erase_advances _ _ _ c.requires.may c.requires.whole _ (rw is.field-0-test at is.ensures.erased) is.ensures.rest e.shared e.ready e.owned e.fits
+    erase_advances _ _ _ r.may r.whole _ (rw is.field-0-test at is.ensures.erased) is.ensures.rest e.shared e.ready e.owned e.fits
+    r.merged r.frozen r.reclaimed r.filled
 
 pub returns-in-Ok-false : goal.returns-in-Ok-false
 returns-in-Ok-false g c =
@@ -21,7 +23,8 @@ returns-in-Ok-false g c =
 
 pub returns-in-Err : goal.returns-in-Err
 returns-in-Err g c =
+    let r = c.requires in
     let e = c.in-Err.ensures in
     rw (c.stop.ensures.stopped, c.stop.ensures.value)
-    (erase_failed _ _ _ c.requires.may c.requires.whole (record c.erase_spare.new.parts { stopped = true }) e.failed (ap (λ (d : Parts). record d { stopped = true }) e.kept)
-    c.erase_spare.ensures.shared c.erase_spare.ensures.ready)
+    (erase_failed _ _ _ r.may r.whole (record c.erase_spare.new.parts { stopped = true }) e.failed (ap (λ (d : Parts). record d { stopped = true }) e.kept)
+    c.erase_spare.ensures.shared c.erase_spare.ensures.ready r.merged r.frozen r.reclaimed r.filled)

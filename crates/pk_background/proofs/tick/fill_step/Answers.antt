@@ -10,10 +10,10 @@ returns-in-Ok g c =
     let r = c.requires in
     let levels = subst (λ (d : Parts). IsLevels d.levels) c.parts.view_is c.known.ensures.levels in
     let runs = subst (λ (d : Parts). AllByRecursion IsKept d.levels.runs) c.parts.view_is c.known.ensures.runs in
-    fills_one _ _ r.may r.whole r.merged _ _ c.in-Ok.ensures.fills c.fill_once.ensures.ready r.unfilled levels runs
+    fills_one _ _ r.may r.whole r.merged _ _ c.in-Ok.ensures.fills c.fill_once.ensures.ready r.frozen r.reclaimed r.unfilled levels runs
 
 pub returns-in-Err : goal.returns-in-Err
 returns-in-Err g c =
     let r = c.requires in
     let e = c.in-Err.ensures in
-    fills_none _ _ r.may r.whole r.merged _ _ e.err.0 e.err.1 e.kept c.fill_once.ensures.ready r.unfilled
+    fills_none _ _ r.may r.whole r.merged _ _ e.err.0 e.err.1 e.kept c.fill_once.ensures.ready r.frozen r.reclaimed r.unfilled

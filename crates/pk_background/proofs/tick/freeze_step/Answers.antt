@@ -10,12 +10,12 @@ freeze_once-requires-clause-may g c = may_empty _ _ c.requires.may c.requires.wh
 pub returns-in-Ok : goal.returns-in-Ok
 returns-in-Ok g c =
     let r = c.requires in
-    tick_frozen _ _ r.may r.whole _ _ (rw c.in-Ok.is at c.freeze_once.ensures.once) c.in-Ok.ensures.does r.wanted
+    tick_frozen _ _ r.may r.whole _ _ (rw c.in-Ok.is at c.freeze_once.ensures.once) c.in-Ok.ensures.does r.merged r.wanted
     (subst (λ (d : Parts). IsShared d.pool.shape d.pool.states) c.parts.view_is c.known.ensures)
 
 pub returns-in-Err : goal.returns-in-Err
 returns-in-Err g c =
     let r = c.requires in
     rw (c.stop.ensures.stopped, c.stop.ensures.value)
-    (tick_unfrozen _ _ r.may r.whole c.freeze_once.new.parts _ _ (rw c.in-Err.is at c.freeze_once.ensures.once) c.in-Err.ensures.fails r.wanted
+    (tick_unfrozen _ _ r.may r.whole c.freeze_once.new.parts _ _ (rw c.in-Err.is at c.freeze_once.ensures.once) c.in-Err.ensures.fails r.merged r.wanted
     (subst (λ (d : Parts). IsShared d.pool.shape d.pool.states) c.parts.view_is c.known.ensures))

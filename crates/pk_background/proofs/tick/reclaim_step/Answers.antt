@@ -11,14 +11,15 @@ pub returns-in-Ok-Worked : goal.returns-in-Ok-Worked
 returns-in-Ok-Worked g c =
     let r = c.requires in
     let e = c.reclaim_once.ensures in
-    goes_on _ _ r.may r.whole r.wanted _ e.calls e.rest e.same_roots e.grows e.ready _ (rw c.in-Ok-Worked.field-0-is at c.in-Ok-Worked.ensures.does) e.none c.in-Ok-Worked.ensures.sound
+    goes_on _ _ r.may r.whole r.wanted _ e.calls e.rest e.same_roots e.grows e.ready r.merged r.frozen _
+    (rw c.in-Ok-Worked.field-0-is at c.in-Ok-Worked.ensures.does) e.none c.in-Ok-Worked.ensures.sound
     (subst (λ (d : Parts). IsShared d.pool.shape d.pool.states) c.parts.view_is c.known.ensures)
 
 pub returns-in-Ok-Ended : goal.returns-in-Ok-Ended
 returns-in-Ok-Ended g c =
     let r = c.requires in
     let e = c.reclaim_once.ensures in
-    ends_so _ _ r.may r.whole r.wanted _ e.calls e.rest e.same_roots e.grows e.ready _ (rw c.in-Ok-Ended.field-0-is at c.in-Ok-Ended.ensures.does) e.none c.in-Ok-Ended.ensures.sound
+    ends_so _ _ r.may r.whole r.wanted _ e.calls e.rest e.same_roots e.grows e.ready r.merged r.frozen _ (rw c.in-Ok-Ended.field-0-is at c.in-Ok-Ended.ensures.does) e.none c.in-Ok-Ended.ensures.sound
     (subst (λ (d : Parts). IsShared d.pool.shape d.pool.states) c.parts.view_is c.known.ensures)
 
 pub freeze_step-requires : goal.freeze_step-requires
@@ -41,7 +42,7 @@ pub returns-in-Err-Reading : goal.returns-in-Err-Reading
 returns-in-Err-Reading g c =
     let r = c.requires in
     let e = c.reclaim_once.ensures in
-    unread_so _ _ r.may r.whole r.wanted _ e.calls e.rest e.same_roots e.grows e.ready _ (rw c.in-Err-Reading.field-0-is at c.in-Err-Reading.ensures.fails)
+    unread_so _ _ r.may r.whole r.wanted _ e.calls e.rest e.same_roots e.grows e.ready r.merged r.frozen _ (rw c.in-Err-Reading.field-0-is at c.in-Err-Reading.ensures.fails)
     (subst (λ (d : Parts). IsShared d.pool.shape d.pool.states) c.parts.view_is c.known.ensures)
 
 pub returns-in-Err-Stopped : goal.returns-in-Err-Stopped
@@ -50,5 +51,5 @@ returns-in-Err-Stopped g c =
     let e = c.reclaim_once.ensures in
     let broken = rw c.in-Err-Stopped.field-0-is at c.in-Err-Stopped.ensures.fails in
     rw (c.stop.ensures.stopped, c.stop.ensures.value)
-    (stops_so _ _ r.may r.whole r.wanted _ e.calls e.rest e.same_roots e.grows e.ready (record c.reclaim_once.new.parts { stopped = true }) refl e.none broken.0 broken.1
+    (stops_so _ _ r.may r.whole r.wanted _ e.calls e.rest e.same_roots e.grows e.ready r.merged r.frozen (record c.reclaim_once.new.parts { stopped = true }) refl e.none broken.0 broken.1
     (subst (λ (d : Parts). IsShared d.pool.shape d.pool.states) c.parts.view_is c.known.ensures))

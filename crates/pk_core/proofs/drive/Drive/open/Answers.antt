@@ -1,6 +1,7 @@
 use Rattle.std.proofs.Common.{ap, ◌∙◌, rules}
 use Rattle.pk_nand.specs.BoardState.{BoardState}
-use Rattle.pk_core.{proofs.Steadying.between_steady, proofs.Opening.agrees_behind, proofs.Opening.stands_behind, proofs.Opening.blocks_behind}
+use Rattle.pk_core.{proofs.Steadying.between_steady, proofs.Opening.agrees_behind, proofs.Opening.stands_behind, proofs.Opening.blocks_behind, proofs.Opening.closed_behind}
+use Rattle.pk_parts.proofs.Halves.{is_whole}
 use Rattle.pk_core.proofs.drive.Drive.open.Goals as goal
 
 pub returns-in-Ok-over : goal.returns-in-Ok-over
@@ -17,6 +18,9 @@ returns-in-Ok-over g c =
       none = o.none_pending;
       fresh = o.takes_none;
       closed = o.none_open;
+      whole = is_whole c.in-Ok-over.parts o.whole;
+      closed_levels = closed_behind c.args.shape c.args.frames _ (g.B.Nand.state c.args.board.now) new c.in-Ok-over.parts c.known.ensures c.requires.ready c.in-Ok.ensures.reads o
+          c.known-in-Ok-over.ensures;
       reads = search rules;
       err = search rules;
       rest = search rules;

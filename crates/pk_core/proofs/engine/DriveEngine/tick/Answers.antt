@@ -30,7 +30,7 @@ returns g c = rw (← c.self.view_is) (
         no_stop = t.no_stop;
         installs = t.installs;
       };
-      settles = record { lowers = e.lowers; repeats = e.repeats; finishes = e.finishes };
+      settles = e.settles;
       shows = record {
         steady = λ runs. steadies c.step-answer.new.parts (g.B.Nand.state c.args.board.now) new (sight_of c.self.inside.parts) (between runs) t.rest c.known.ensures;
         merge = λ runs. merges_next c.step-answer.new.parts new (between runs) c.known.ensures;
