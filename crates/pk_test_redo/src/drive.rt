@@ -4,6 +4,7 @@ ghost use Rattle.pk_base.specs.Fields.{padded};
 ghost use Rattle.pk_base.specs.Shape as spec;
 ghost use Rattle.pk_image.specs.Image.{byte_of, page_by};
 ghost use Rattle.pk_image.specs.declared.tag.PageTag.TheVariants.{Torn};
+ghost use Rattle.pk_test_redo.specs.declared.drive.TheConstants.{PAGE, FRONT};
 
 use pk_base::{Shape, put_padded};
 use pk_image::PageTag;
@@ -30,6 +31,8 @@ pub struct Drive {
 }
 
 impl Pages for Drive {
+    ghost use Rattle.pk_test_redo.specs.declared.drive.TheConstants.{PAGE, FRONT};
+
     ghost shape_of = { λ d. d.shape };
 
     ghost page_of = { λ d k. page_by (byte_of (get_or d.tags.items k Torn))
