@@ -1,9 +1,10 @@
 #!/usr/bin/env python3
-"""Lists the wrong bodies of the repository, by the line `body:` with which each edit begins.
+"""Lists the wrong bodies of the repository. docs/wrong-bodies.txt says of each edit what its body does: a line `CRATE NAME: ..`, which goes
+on "a body that".
 
   docs/wrong_bodies.py            prints all: who tries it (the gate, or bench/wrong.sh by hand), its crate, its name, what it does
   docs/wrong_bodies.py --write    puts the table of those that the gate tries into docs/WRONG-BODIES.md
-  docs/wrong_bodies.py --check    fails if that table is another one, or an edit does not say what is wrong
+  docs/wrong_bodies.py --check    fails if that table is another one, an edit has no line, or a line no edit
 """
 from __future__ import annotations
 
@@ -14,6 +15,7 @@ from dataclasses import dataclass
 
 TOP = pathlib.Path(__file__).resolve().parent.parent
 PAGE = TOP / "docs" / "WRONG-BODIES.md"
+LINES = TOP / "docs" / "wrong-bodies.txt"
 BEGIN, END = "<!-- gate -->", "<!-- end of gate -->"
 
 
@@ -31,13 +33,24 @@ def order() -> dict[str, int]:
     return {line.split(":")[0].split()[0]: place for place, line in enumerate(lines) if line[:1].isalpha()}
 
 
+def bodies() -> dict[tuple[str, str], str]:
+    """What each wrong body does, by its crate and name."""
+    found = {}
+    for line in LINES.read_text(encoding="utf-8").split("\n"):
+        place, _, body = line.partition(": ")
+        if body:
+            crate, name = place.split(" ")
+            found[crate, name] = body
+    return found
+
+
 def edits() -> list[Edit]:
-    found = []
+    found, said = [], bodies()
     for by, pattern in (("gate", "crates/*/must-fail/*.edit"), ("hand", "bench/wrong-bodies/*/*.edit")):
         for path in TOP.glob(pattern):
-            first = path.read_text(encoding="utf-8").split("\n")[0]
             crate = path.parent.parent.name if by == "gate" else path.parent.name
-            found.append(Edit(by, crate, path.stem, first[6:] if first.startswith("body: ") else ""))
+            found.append(Edit(by, crate, path.stem, said.pop((crate, path.stem), "")))
+    found += [Edit("nobody", crate, name, body) for (crate, name), body in said.items()]
     places = order()
     return sorted(found, key=lambda edit: (edit.by, places.get(edit.crate, 0), edit.name))
 
@@ -63,7 +76,8 @@ def main() -> int:
     if args.write:
         PAGE.write_text(new, encoding="utf-8")
         return 0
-    faults = [f"{edit.crate}: the first line of {edit.name} does not say what is wrong (body: ..)" for edit in found if not edit.body]
+    faults = [f"docs/wrong-bodies.txt: nothing says what the wrong body {edit.name} of {edit.crate} does" for edit in found if not edit.body]
+    faults += [f"docs/wrong-bodies.txt: {edit.crate} has no wrong body {edit.name}" for edit in found if edit.by == "nobody"]
     if new != page:
         faults.append("docs/WRONG-BODIES.md: its table is not the one that docs/wrong_bodies.py --write makes")
     print("\n".join(faults), end="\n" if faults else "", file=sys.stderr)

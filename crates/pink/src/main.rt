@@ -29,7 +29,8 @@ fn words_of(rt: &HostRuntime) -> Result<Vec<String>, Status> {
     Ok(words)
 }
 
-/// Whether each change has to be on the disk before its answer leaves: `PINK_SYNC` is in the environment, and is not 0.
+/// Whether each change has to be on the disk before its answer leaves: `PINK_SYNC` is in the
+/// environment, and is not 0.
 fn is_durable(rt: &HostRuntime) -> bool {
     match env::var(rt, "PINK_SYNC") {
         Ok(value) => value.as_str() != "0",
@@ -55,8 +56,9 @@ fn run_on(rt: &HostRuntime, image: &str, words: &[&str]) -> Status {
     }
 }
 
-/// Does over the image file of this path, which has spare blocks, what these words ask for; the first of them says so. A block is moved
-/// when a program of it fails, so each page is written by its program.
+/// Does over the image file of this path, which has spare blocks, what these words ask for; the
+/// first of them says so. A block is moved when a program of it fails, so each page is written by
+/// its program.
 fn run_on_spared(rt: &HostRuntime, image: &str, words: &[&str]) -> Status {
     let board = board_over(rt, image, PageWrites::Direct);
     let (status, remap) = run_spared(rt.alloc(), words, board, 0);
@@ -80,8 +82,9 @@ fn run_on_one(rt: &HostRuntime, image: &str, words: &[&str]) -> Status {
     }
 }
 
-/// Does over the two image files of these paths what the other words ask for. Texts go out over the first, so nothing would make the pages
-/// of the second leave before an answer: each is written by its program.
+/// Does over the two image files of these paths what the other words ask for. Texts go out over the
+/// first, so nothing would make the pages of the second leave before an answer: each is written by
+/// its program.
 fn run_on_pair(rt: &HostRuntime, image: &str, other: &str, words: &[&str]) -> Status {
     if image == other || image == PAIR || other == PAIR {
         return Status::WORDS;
@@ -96,7 +99,8 @@ fn run_on_pair(rt: &HostRuntime, image: &str, other: &str, words: &[&str]) -> St
     }
 }
 
-/// Does what the words ask for: of a pair, after its name and the paths of both image files; else after the path of one.
+/// Does what the words ask for: of a pair, after its name and the paths of both image files; else
+/// after the path of one.
 fn obey_texts(rt: &HostRuntime, words: &[&str]) -> Status {
     match words.split_first() {
         Some((image, rest)) if *image == PAIR => match rest.split_first() {

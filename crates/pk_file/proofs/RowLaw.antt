@@ -8,7 +8,8 @@ use Rattle.pk_image.specs.declared.tag.TheConstants.{WHOLE, TORN}
 use Rattle.pk_file.{specs.Content.Content, specs.Content.Follows, specs.Content.After, specs.Content.During, specs.Content.Shows}
 use Rattle.pk_file.{specs.FileSteps.FileStep, specs.FileSteps.states_set, specs.FileSteps.bytes_written, specs.FileSteps.synced, specs.FileSteps.row_steps}
 use Rattle.pk_file.{specs.Pieces.Right, specs.Pieces.AllRight, specs.Pieces.Written}
-use Rattle.pk_file.{specs.RowSteps.wanted, specs.RowSteps.bytes_of_page, specs.RowSteps.BytesOfRow, specs.RowSteps.ZerosBehind, specs.RowSteps.RowShown, specs.RowSteps.RowProgrammed, specs.RowSteps.RowWritten}
+use Rattle.pk_file.{specs.RowSteps.wanted, specs.RowSteps.bytes_of_page, specs.RowSteps.BytesOfRow, specs.RowSteps.ZerosBehind, specs.RowSteps.RowShown, specs.RowSteps.RowProgrammed}
+use Rattle.pk_file.{specs.RowSteps.RowWritten}
 
 -- ---- steps after others
 

@@ -67,8 +67,9 @@ fn ends_pair(slots: &Vec<Slot>, page: u32, kept: &Trimmed) -> bool
     }
 }
 
-/// Programs a page in memory, and adds it to those that wait for the file. They are written before, if it is not the next of them; and
-/// after it, if it ends a pair or is not to wait. Without memory for the page nothing is done.
+/// Programs a page in memory, and adds it to those that wait for the file. They are written before,
+/// if it is not the next of them; and after it, if it ends a pair or is not to wait. Without memory
+/// for the page nothing is done.
 fn program_page(
     alloc: Global,
     file: &mut Option<ImageFile>,
@@ -168,8 +169,8 @@ fn write_last(
     write_waiting(file, shape, slots, row)
 }
 
-/// Erases a block in the file and in memory, after the pages that wait were written. A write or sync that fails erases the pages whose
-/// state bytes were set.
+/// Erases a block in the file and in memory, after the pages that wait were written. A write or
+/// sync that fails erases the pages whose state bytes were set.
 fn erase_block(
     file: &mut Option<ImageFile>,
     shape: &Option<Shape>,
@@ -207,16 +208,18 @@ fn erase_block(
 }
 
 impl<'a> FileBoard<'a> {
-    /// A board whose image is the file at this path. Nothing is opened before `load` or `make`. Pages that were programmed are gathered
-    /// and written before a post, and the system brings them to the disk when it likes.
+    /// A board whose image is the file at this path. Nothing is opened before `load` or `make`.
+    /// Pages that were programmed are gathered and written before a post, and the system brings
+    /// them to the disk when it likes.
     pub fn new(rt: &'a HostRuntime, path: &'a str) -> FileBoard<'a>
         ensures { result.shape ≡ None }
     {
         FileBoard::with(rt, path, false, PageWrites::Gathered)
     }
 
-    /// The same. If it is to be durable, what was programmed and erased is on the disk before a post, or when its call returns if
-    /// pages are written at once; and the file and its name when a `make` returns.
+    /// The same. If it is to be durable, what was programmed and erased is on the disk before a
+    /// post, or when its call returns if pages are written at once; and the file and its name when
+    /// a `make` returns.
     pub fn with(
         rt: &'a HostRuntime,
         path: &'a str,
@@ -250,8 +253,9 @@ impl<'a> FileBoard<'a> {
         }
     }
 
-    /// Writes the pages that wait, and sends what was posted and has not left: the end of a run, which is lost without this call. A
-    /// write that failed, now or after the last post, is reported here; one of pages that failed before was reported then.
+    /// Writes the pages that wait, and sends what was posted and has not left: the end of a run,
+    /// which is lost without this call. A write that failed, now or after the last post, is
+    /// reported here; one of pages that failed before was reported then.
     pub fn finish(&mut self) -> Result<(), HostFault>
         ensures ok { OnOk result (self.new.out_faults ≡ self.old.out_faults) }
         ensures err { OnErr result (Rose self.old.out_faults self.new.out_faults) }

@@ -88,7 +88,8 @@ impl Piece {
             && self.gap <= MOST_BYTES - need - len
     }
 
-    /// Adds zeros up to the place of the next page, these bytes of it, and zeros up to `need` bytes.
+    /// Adds zeros up to the place of the next page, these bytes of it, and zeros up to `need`
+    /// bytes.
     fn append(&mut self, front: &[u8], need: usize, size: usize) -> bool
         requires room { length self.old.bytes.items + self.old.gap + need ≤ MOST_BYTES }
         requires front { length front.now ≤ need }
@@ -113,8 +114,9 @@ impl Piece {
         true
     }
 
-    /// Adds the bytes of the next page: these, and zeros as far as its place in the file may need them. Only zeros follow these in the
-    /// page. What cannot be in one write with them is written before.
+    /// Adds the bytes of the next page: these, and zeros as far as its place in the file may need
+    /// them. Only zeros follow these in the page. What cannot be in one write with them is written
+    /// before.
     pub fn add<F: PageFile>(
         &mut self,
         file: &mut F,

@@ -38,7 +38,8 @@ pub struct Row {
     /// Whether what is written has to be on the disk.
     is_durable: bool,
     writes: PageWrites,
-    /// A write of pages that waited failed: the pages in memory are ahead of the file from now on, and nothing more is written.
+    /// A write of pages that waited failed: the pages in memory are ahead of the file from now on,
+    /// and nothing more is written.
     is_lost: bool,
     ghost few: { length extents.items ≤ MOST_BLOCK_PAGES },
     ghost sector: { is_durable ≡ true → InOneSector first (length extents.items) },
@@ -111,7 +112,8 @@ impl Row {
         self.extents.is_empty()
     }
 
-    /// Whether a page may be the next of the row. If a loss of power may leave some of its state bytes, they are within a sector.
+    /// Whether a page may be the next of the row. If a loss of power may leave some of its state
+    /// bytes, they are within a sector.
     fn takes(&self, shape: &Shape, page: u32) -> bool
         requires { page < spec.page_count shape.now }
         ensures next { result ≡ true
@@ -130,7 +132,8 @@ impl Row {
     }
 
     #[tactic(auto, using(crate::proofs::Sectoring::sector_more, crate::proofs::Sectoring::sector_one))]
-    /// Adds a page, at whose place the file has zeros from the extent on. A row that it does not belong to is written before.
+    /// Adds a page, at whose place the file has zeros from the extent on. A row that it does not
+    /// belong to is written before.
     pub fn add<F: PageFile>(
         &mut self,
         file: &mut F,
@@ -164,8 +167,9 @@ impl Row {
         self.extents.push(extent).is_ok()
     }
 
-    /// Writes the pages to the file. The first of them counts as Torn until their bytes are written, and on the disk if they have to be,
-    /// and the others as Erased; then all of them become Whole, in their order.
+    /// Writes the pages to the file. The first of them counts as Torn until their bytes are
+    /// written, and on the disk if they have to be, and the others as Erased; then all of them
+    /// become Whole, in their order.
     pub fn write<F: PageFile>(&mut self, file: &mut F, shape: &Shape, slots: &Vec<Slot>) -> bool
         requires count { length slots.now.items ≡ spec.page_count shape.now }
         requires fit { AllFit shape.now slots.now.items }
@@ -240,7 +244,8 @@ impl Row {
     }
 }
 
-/// How many bytes of a page have to be written, if it ends in zeros after its front, and its place in the file from the extent on.
+/// How many bytes of a page have to be written, if it ends in zeros after its front, and its place
+/// in the file from the extent on.
 fn needed(front: usize, extent: usize, size: usize) -> usize
     ensures front { front ≤ result }
     ensures extent { (extent ≤ result) ⊎ (size ≤ result) }

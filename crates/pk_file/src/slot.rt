@@ -38,7 +38,8 @@ impl Slot {
         }
     }
 
-    /// The page when a program of these bytes broke off, of which only zeros follow the first `front`.
+    /// The page when a program of these bytes broke off, of which only zeros follow the first
+    /// `front`.
     pub fn torn(&self, bytes: &[u8], front: usize) -> Slot
         requires { ZerosFrom front bytes.now }
         ensures page { slot_page result ≡ torn }

@@ -1,14 +1,17 @@
 -- Which commands of a resync change the second drive's map.
-use Rattle.std.proofs.Common.{◌≡◌, ◌≢◌, inl, inr, ℕ, suc, ◌+◌, ◌-◌, ◌⊎◌, ◌≤◌, ◌==◌, cond, if◌then◌else◌, List, [], ◌∷◌, ◌++◌, length, Contains, take, Bool, true, false, not, MatchBool, Option, Some, None, is_some, refl, sym, ap, subst, ◌∙◌, arith}
+use Rattle.std.proofs.Common.{◌≡◌, ◌≢◌, inl, inr, ℕ, suc, ◌+◌, ◌-◌, ◌⊎◌, ◌≤◌, ◌==◌, cond, if◌then◌else◌, List, [], ◌∷◌, ◌++◌, length, Contains, take, Bool, true, false, not, MatchBool, Option}
+use Rattle.std.proofs.Common.{Some, None, is_some, refl, sym, ap, subst, ◌∙◌, arith}
 use Rattle.std.proofs.lemmas.List.{append_assoc, append-nil}
-use Rattle.std.{specs.List.AllByRecursion, specs.Ordering.is_eq, specs.Ordering.eq_by_cmp, specs.Cmp.tied_itself, specs.FinMap.get, specs.FinMap.insert, specs.FinMap.remove, specs.FinMap.len, specs.FinMap.contains_key, specs.FinMap.len-remove}
+use Rattle.std.{specs.List.AllByRecursion, specs.Ordering.is_eq, specs.Ordering.eq_by_cmp, specs.Cmp.tied_itself, specs.FinMap.get, specs.FinMap.insert, specs.FinMap.remove, specs.FinMap.len}
+use Rattle.std.{specs.FinMap.contains_key, specs.FinMap.len-remove}
 use Rattle.pk_base.{specs.Key.Key, specs.Key.key_cmp, specs.Map.Map, proofs.Logic.some_same}
 use Rattle.pk_nvme.{specs.Command.Command, specs.Command.key, specs.declared.opcode.TheConstants.STORE, specs.declared.opcode.TheConstants.DELETE}
 use Rattle.pk_model.proofs.MapLemmas.{key_total}
 use Rattle.pk_host.{specs.Port.PortState, specs.Port.Took, specs.Calls.delete_of, specs.Calls.store_of, specs.declared.types.StoreRule.TheVariants.Any}
 use Rattle.pk_host.specs.Outcomes.{TookSome, Fetches, Deletes, Tests, Leaves}
 use Rattle.pk_mirror.{specs.Agreement.NoOther, specs.Agreement.HaveSame, specs.Agreement.AreAny, specs.Agreement.IsPart, specs.Visits.Visits, specs.Visits.VisitsAll}
-use Rattle.pk_mirror.specs.Spending.{OnlyLooks, LooksOr, LooksOrChanges, IsCopy, opcode_count, keys_of, AreOnce, EachOnce, ToDelete, ToStore, ToCopy, OnlyDiffering, AllDiffering, AreOfResync, AreWholeResync, Changed, Spent, Spending, Deleted, Deleting, Stored, Storing}
+use Rattle.pk_mirror.specs.Spending.{OnlyLooks, LooksOr, LooksOrChanges, IsCopy, opcode_count, named_keys, AreOnce, EachOnce, ToDelete, ToStore, ToCopy, OnlyDiffering, AllDiffering, AreOfResync}
+use Rattle.pk_mirror.specs.Spending.{AreWholeResync, Changed, Spent, Spending, Deleted, Deleting, Stored, Storing}
 use Rattle.pk_mirror.proofs.MapLemmas.{by_key, get_removed, get_removed_other, get_inserted, get_inserted_other, some_len}
 use Rattle.pk_mirror.proofs.KeyLemmas.{found_none, found_some}
 
@@ -35,19 +38,19 @@ one_if b = if b then 1 else 0
 
 -- ---- the keys that they name
 
-keys_of_both : (opcode : ℕ) (cs ds : List Command) → keys_of opcode (cs ++ ds) ≡ keys_of opcode cs ++ keys_of opcode ds
+keys_of_both : (opcode : ℕ) (cs ds : List Command) → named_keys opcode (cs ++ ds) ≡ named_keys opcode cs ++ named_keys opcode ds
 keys_of_both opcode [] ds = refl
 keys_of_both opcode (c ∷ cs) ds =
     let mine : List Key = if c.opcode == opcode then key c ∷ [] else [] in
-    ap (λ (ks : List Key). mine ++ ks) (keys_of_both opcode cs ds) ∙ sym (append_assoc mine (keys_of opcode cs) (keys_of opcode ds))
+    ap (λ (ks : List Key). mine ++ ks) (keys_of_both opcode cs ds) ∙ sym (append_assoc mine (named_keys opcode cs) (named_keys opcode ds))
 
 key_if : Bool → Key → List Key
 key_if b k = if b then k ∷ [] else []
 
-keys_none : (opcode : ℕ) (cs : List Command) → AllByRecursion (IsOther opcode) cs → keys_of opcode cs ≡ []
+keys_none : (opcode : ℕ) (cs : List Command) → AllByRecursion (IsOther opcode) cs → named_keys opcode cs ≡ []
 unfolding key_if
 keys_none opcode [] h = refl
-keys_none opcode (c ∷ cs) h = ap (λ b. key_if b (key c) ++ keys_of opcode cs) h.0 ∙ keys_none opcode cs h.1
+keys_none opcode (c ∷ cs) h = ap (λ b. key_if b (key c) ++ named_keys opcode cs) h.0 ∙ keys_none opcode cs h.1
 
 one_named : (b : Bool) (k : Key) (ks : List Key) → one_if b + length ks ≡ length (key_if b k ++ ks)
 unfolding one_if key_if
@@ -55,11 +58,11 @@ one_named true k ks = omega arith
 one_named false k ks = omega arith
 
 -- each of them names one
-counted : (opcode : ℕ) (cs : List Command) → opcode_count opcode cs ≡ length (keys_of opcode cs)
+counted : (opcode : ℕ) (cs : List Command) → opcode_count opcode cs ≡ length (named_keys opcode cs)
 unfolding one_if key_if
 counted opcode [] = refl
 counted opcode (c ∷ cs) =
-    ap (λ n. one_if (c.opcode == opcode) + n) (counted opcode cs) ∙ one_named (c.opcode == opcode) (key c) (keys_of opcode cs)
+    ap (λ n. one_if (c.opcode == opcode) + n) (counted opcode cs) ∙ one_named (c.opcode == opcode) (key c) (named_keys opcode cs)
 
 once_both : (W : Key → Type 0) (ks ls : List Key) → AreOnce ks → AreOnce ls → AllByRecursion (λ k. W k → ⊥) ks → AllByRecursion W ls → AreOnce (ks ++ ls)
 once_both W [] ls h g gone each = g
@@ -232,7 +235,7 @@ module _ (Keeps : Map → Map → Type 0) (Wanted : Map → Map → Key → Type
     changed = λ a b b' ea eb eb' keeps.
         let (b1, e1, k1) = goes a b ea eb keeps in
         subst (Changed Wanted a b b') (sym (keys_of_both opcode cs ds))
-        (changed_more Wanted a b b1 b' (keys_of opcode cs) (keys_of opcode ds) (h.changed a b b1 ea eb e1 keeps) (g.changed a b1 b' (same ∙ ea) e1 eb' k1));
+        (changed_more Wanted a b b1 b' (named_keys opcode cs) (named_keys opcode ds) (h.changed a b b1 ea eb e1 keeps) (g.changed a b1 b' (same ∙ ea) e1 eb' k1));
     lessens = λ deletes a b b' ea eb eb' keeps.
         let (b1, e1, k1) = goes a b ea eb keeps in part_through b b1 b' (h.lessens deletes a b b1 ea eb e1 keeps) (g.lessens deletes a b1 b' (same ∙ ea) e1 eb' k1);
     copies = λ a ea. both_only (IsCopy a) cs ds (h.copies a ea) (g.copies a (same ∙ ea));
@@ -245,7 +248,7 @@ module _ (Keeps : Map → Map → Type 0) (Wanted : Map → Map → Key → Type
     were = λ a b ea eb keeps.
         let (b1, e1, k1) = goes a b ea eb keeps in
         subst (EachOnce (Wanted a b)) (sym (keys_of_both opcode cs ds))
-        (were_more Wanted a b b1 (keys_of opcode cs) (keys_of opcode ds) (h.changed a b b1 ea eb e1 keeps) (g.were a b1 (same ∙ ea) e1 k1));
+        (were_more Wanted a b b1 (named_keys opcode cs) (named_keys opcode ds) (h.changed a b b1 ea eb e1 keeps) (g.were a b1 (same ∙ ea) e1 k1));
     copies = λ a ea. both_only (IsCopy a) cs ds (h.copies a ea) (g.copies a (same ∙ ea));
   }
 
@@ -383,16 +386,16 @@ of_store c (inl looks) = inl (inl looks)
 of_store c (inr own) = inr own
 
 -- no more commands than the map has keys
-few_commands : (opcode : ℕ) (W : Key → Type 0) (m : Map) → ((k : Key) → W k → contains_key m k ≡ true) → (cs : List Command) → EachOnce W (keys_of opcode cs) → opcode_count opcode cs ≤ len m
+few_commands : (opcode : ℕ) (W : Key → Type 0) (m : Map) → ((k : Key) → W k → contains_key m k ≡ true) → (cs : List Command) → EachOnce W (named_keys opcode cs) → opcode_count opcode cs ≤ len m
 few_commands opcode W m in_map cs h =
-    let few = few_keys m (keys_of opcode cs) (only_map W (λ q. contains_key m q ≡ true) in_map (keys_of opcode cs) h.each) h.once in
+    let few = few_keys m (named_keys opcode cs) (only_map W (λ q. contains_key m q ≡ true) in_map (named_keys opcode cs) h.each) h.once in
     let same = counted opcode cs in
     omega (arith, few, same)
 
-few_deleted : (a b : Map) (cs : List Command) → EachOnce (ToDelete a b) (keys_of DELETE cs) → opcode_count DELETE cs ≤ len b
+few_deleted : (a b : Map) (cs : List Command) → EachOnce (ToDelete a b) (named_keys DELETE cs) → opcode_count DELETE cs ≤ len b
 few_deleted a b cs h = few_commands DELETE (ToDelete a b) b (λ k w. w.0) cs h
 
-few_stored : (a b : Map) (cs : List Command) → EachOnce (ToCopy a b) (keys_of STORE cs) → opcode_count STORE cs ≤ len a
+few_stored : (a b : Map) (cs : List Command) → EachOnce (ToCopy a b) (named_keys STORE cs) → opcode_count STORE cs ≤ len a
 few_stored a b cs h = few_commands STORE (ToCopy a b) a (λ k w. w.0) cs h
 
 -- what the second lacks once the others are deleted, it lacked or had with another value
@@ -405,20 +408,20 @@ to_copy a b b1 ks ls h g = record {
 
 module _ (first first1 second second1 : PortState) (same : first1.map ≡ first.map) (goes : (a b : Map) → first.map ≡ Some a → second.map ≡ Some b → (b1 : Map) × (second1.map ≡ Some b1) × IsPart a b1)
     (cs ds : List Command) (h : Deleted first second second1 cs) (g : Storing first1 second1 ds) (a b : Map) (ea : first.map ≡ Some a) (eb : second.map ≡ Some b) where
-  both_deleted : EachOnce (ToDelete a b) (keys_of DELETE (cs ++ ds))
+  both_deleted : EachOnce (ToDelete a b) (named_keys DELETE (cs ++ ds))
   both_deleted =
       let (b1, e1, part) = goes a b ea eb in
       let none = keys_none DELETE ds (only_map (LooksOr STORE) (IsOther DELETE) no_delete ds g.only) in
-      let are : keys_of DELETE (cs ++ ds) ≡ keys_of DELETE cs = keys_of_both DELETE cs ds ∙ ap (λ (ks : List Key). keys_of DELETE cs ++ ks) none ∙ append-nil (keys_of DELETE cs) in
+      let are : named_keys DELETE (cs ++ ds) ≡ named_keys DELETE cs = keys_of_both DELETE cs ds ∙ ap (λ (ks : List Key). named_keys DELETE cs ++ ks) none ∙ append-nil (named_keys DELETE cs) in
       subst (EachOnce (ToDelete a b)) (sym are) (h.changed a b b1 ea eb e1 tt).were
 
-  both_stored : EachOnce (ToCopy a b) (keys_of STORE (cs ++ ds))
+  both_stored : EachOnce (ToCopy a b) (named_keys STORE (cs ++ ds))
   both_stored =
       let (b1, e1, part) = goes a b ea eb in
       let none = keys_none STORE cs (only_map (LooksOr DELETE) (IsOther STORE) no_store cs h.only) in
-      let are : keys_of STORE (cs ++ ds) ≡ keys_of STORE ds = keys_of_both STORE cs ds ∙ ap (λ (ks : List Key). ks ++ keys_of STORE ds) none in
+      let are : named_keys STORE (cs ++ ds) ≡ named_keys STORE ds = keys_of_both STORE cs ds ∙ ap (λ (ks : List Key). ks ++ named_keys STORE ds) none in
       subst (EachOnce (ToCopy a b)) (sym are)
-      (to_copy a b b1 (keys_of DELETE cs) (keys_of STORE ds) (h.changed a b b1 ea eb e1 tt) (g.were a b1 (same ∙ ea) e1 part))
+      (to_copy a b b1 (named_keys DELETE cs) (named_keys STORE ds) (h.changed a b b1 ea eb e1 tt) (g.were a b1 (same ∙ ea) e1 part))
 
   both_differ : OnlyDiffering a b (cs ++ ds)
   both_differ = record {
@@ -443,7 +446,7 @@ resync_both first first1 second second1 same goes cs ds h g = record {
 pub resync_first : (first second : PortState) (cs : List Command) → Deleting first second cs → AreOfResync first second cs
 resync_first first second cs h =
     let none = keys_none STORE cs (only_map (LooksOr DELETE) (IsOther STORE) no_store cs h.only) in
-    let stored : (a b : Map) → EachOnce (ToCopy a b) (keys_of STORE cs) = λ a b. subst (EachOnce (ToCopy a b)) (sym none) (none_once (ToCopy a b)) in
+    let stored : (a b : Map) → EachOnce (ToCopy a b) (named_keys STORE cs) = λ a b. subst (EachOnce (ToCopy a b)) (sym none) (none_once (ToCopy a b)) in
     record {
       only = only_map (LooksOr DELETE) LooksOrChanges of_delete cs h.only;
       known = λ a b ea eb. record {
@@ -509,13 +512,13 @@ module _ (first first1 second second1 second' : PortState) (same : first1.map �
       let (b', eb', keeps, all) = come a b1 (same ∙ ea) e1 part in
       let no_deletes = keys_none DELETE ds (only_map (LooksOr STORE) (IsOther DELETE) no_delete ds g.only) in
       let no_stores = keys_none STORE cs (only_map (LooksOr DELETE) (IsOther STORE) no_store cs h.only) in
-      let deleted : keys_of DELETE (cs ++ ds) ≡ keys_of DELETE cs = keys_of_both DELETE cs ds ∙ ap (λ (ks : List Key). keys_of DELETE cs ++ ks) no_deletes ∙ append-nil (keys_of DELETE cs) in
-      let stored : keys_of STORE (cs ++ ds) ≡ keys_of STORE ds = keys_of_both STORE cs ds ∙ ap (λ (ks : List Key). ks ++ keys_of STORE ds) no_stores in
+      let deleted : named_keys DELETE (cs ++ ds) ≡ named_keys DELETE cs = keys_of_both DELETE cs ds ∙ ap (λ (ks : List Key). named_keys DELETE cs ++ ks) no_deletes ∙ append-nil (named_keys DELETE cs) in
+      let stored : named_keys STORE (cs ++ ds) ≡ named_keys STORE ds = keys_of_both STORE cs ds ∙ ap (λ (ks : List Key). ks ++ named_keys STORE ds) no_stores in
       record {
         differing = both_differ first first1 second second1 same (goes_all first second second1 gone) cs ds h storing a b ea eb;
-        all_deleted = λ k w. subst (λ (ks : List Key). Contains ks k) (sym deleted) (went a b b1 (keys_of DELETE cs) (h.changed a b b1 ea eb e1 tt) part k w);
+        all_deleted = λ k w. subst (λ (ks : List Key). Contains ks k) (sym deleted) (went a b b1 (named_keys DELETE cs) (h.changed a b b1 ea eb e1 tt) part k w);
         all_stored = λ k w. subst (λ (ks : List Key). Contains ks k) (sym stored)
-            (came a b b1 b' (keys_of STORE ds) (h.lessens refl a b b1 ea eb e1 tt) (g.changed a b1 b' (same ∙ ea) e1 eb' part) all k w);
+            (came a b b1 b' (named_keys STORE ds) (h.lessens refl a b b1 ea eb e1 tt) (g.changed a b1 b' (same ∙ ea) e1 eb' part) all k w);
       }
 
   resync_all : AreWholeResync first second (cs ++ ds)
@@ -548,8 +551,8 @@ only_looks (c ∷ cs) h no_deletes no_stores = (
 -- if both drives have the same map, a resync deletes nothing and stores nothing
 pub looks_alone : (m : Map) (cs : List Command) → AllByRecursion LooksOrChanges cs → OnlyDiffering m m cs → AllByRecursion OnlyLooks cs
 looks_alone m cs only differing =
-    let deletes = no_keys (ToDelete m m) (λ k w. w.1 refl) (keys_of DELETE cs) differing.deletes_once in
-    let stores = no_keys (ToCopy m m) (λ k w. w.1 refl) (keys_of STORE cs) differing.stores_once in
+    let deletes = no_keys (ToDelete m m) (λ k w. w.1 refl) (named_keys DELETE cs) differing.deletes_once in
+    let stores = no_keys (ToCopy m m) (λ k w. w.1 refl) (named_keys STORE cs) differing.stores_once in
     only_looks cs only (counted DELETE cs ∙ ap (λ (ks : List Key). length ks) deletes) (counted STORE cs ∙ ap (λ (ks : List Key). length ks) stores)
 
 pub in_step_looks : (first second : PortState) (cs : List Command) → second.map ≡ first.map → AreOfResync first second cs → (m : Map) → first.map ≡ Some m → AllByRecursion OnlyLooks cs

@@ -29,9 +29,9 @@ opcode_count opcode [] = 0
 opcode_count opcode (c ∷ cs) = (if c.opcode == opcode then 1 else 0) + opcode_count opcode cs
 
 -- the keys that the commands of this opcode name
-abbrev pub keys_of : ℕ → List Command → List Key
-keys_of opcode [] = []
-keys_of opcode (c ∷ cs) = (if c.opcode == opcode then key c ∷ [] else []) ++ keys_of opcode cs
+abbrev pub named_keys : ℕ → List Command → List Key
+named_keys opcode [] = []
+named_keys opcode (c ∷ cs) = (if c.opcode == opcode then key c ∷ [] else []) ++ named_keys opcode cs
 
 -- no key is named twice
 abbrev pub AreOnce : List Key → Type 0
@@ -64,8 +64,8 @@ IsCopy m c = c.opcode ≡ STORE → get m (key c) ≡ Some c.value
 -- or had with another value, each once and with the first's value. So it deletes at most as many keys as the second has, and stores at most as
 -- many as the first has.
 pub record OnlyDiffering (a b : Map) (cs : List Command) : Type 0 where
-  pub deletes_once : EachOnce (ToDelete a b) (keys_of DELETE cs)
-  pub stores_once : EachOnce (ToCopy a b) (keys_of STORE cs)
+  pub deletes_once : EachOnce (ToDelete a b) (named_keys DELETE cs)
+  pub stores_once : EachOnce (ToCopy a b) (named_keys STORE cs)
   pub copies : AllByRecursion (IsCopy a) cs
   pub deletes : opcode_count DELETE cs ≤ len b
   pub stores : opcode_count STORE cs ≤ len a
@@ -74,8 +74,8 @@ pub record OnlyDiffering (a b : Map) (cs : List Command) : Type 0 where
 -- the keys of the first that the second lacked or had with another value.
 pub record AllDiffering (a b : Map) (cs : List Command) : Type 0 where
   pub differing : OnlyDiffering a b cs
-  pub all_deleted : (k : Key) → ToDelete a b k → Contains (keys_of DELETE cs) k
-  pub all_stored : (k : Key) → ToCopy a b k → Contains (keys_of STORE cs) k
+  pub all_deleted : (k : Key) → ToDelete a b k → Contains (named_keys DELETE cs) k
+  pub all_stored : (k : Key) → ToCopy a b k → Contains (named_keys STORE cs) k
 
 -- What a resync asks of the second drive, at any exit: it looks, deletes and stores, and if the maps are known, what differs.
 pub record AreOfResync (first second : PortState) (cs : List Command) : Type 0 where
@@ -102,14 +102,14 @@ module _ (Keeps : Map → Map → Type 0) (Wanted : Map → Map → Key → Type
   -- All was done: the commands of this opcode changed wanted keys, and Deletes left a part.
   pub record Spent (first second second' : PortState) (cs : List Command) : Type 0 where
     pub only : AllByRecursion (LooksOr opcode) cs
-    pub changed : (a b b' : Map) → first.map ≡ Some a → second.map ≡ Some b → second'.map ≡ Some b' → Keeps a b → Changed Wanted a b b' (keys_of opcode cs)
+    pub changed : (a b b' : Map) → first.map ≡ Some a → second.map ≡ Some b → second'.map ≡ Some b' → Keeps a b → Changed Wanted a b b' (named_keys opcode cs)
     pub lessens : opcode ≡ DELETE → (a b b' : Map) → first.map ≡ Some a → second.map ≡ Some b → second'.map ≡ Some b' → Keeps a b → IsPart b b'
     pub copies : (a : Map) → first.map ≡ Some a → AllByRecursion (IsCopy a) cs
 
   -- At any exit: they name wanted keys, each once.
   pub record Spending (first second : PortState) (cs : List Command) : Type 0 where
     pub only : AllByRecursion (LooksOr opcode) cs
-    pub were : (a b : Map) → first.map ≡ Some a → second.map ≡ Some b → Keeps a b → EachOnce (Wanted a b) (keys_of opcode cs)
+    pub were : (a b : Map) → first.map ≡ Some a → second.map ≡ Some b → Keeps a b → EachOnce (Wanted a b) (named_keys opcode cs)
     pub copies : (a : Map) → first.map ≡ Some a → AllByRecursion (IsCopy a) cs
 
 abbrev pub Deleted : PortState → PortState → PortState → List Command → Type 0

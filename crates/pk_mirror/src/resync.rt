@@ -23,9 +23,9 @@ use pk_host::{Host, KeyPage, Port};
 
 impl Mirror {
     /// Deletes from the second each key that the first lacks or has with another value, then stores
-    /// on it each key that it lacks, and deletes and stores nothing else: the second is asked for
-    /// nothing but looks where both maps were the same. The pair is in step then. `Refused` if a read failed, `Port`
-    /// if a port failed: the pair is split then, and never in step in between.
+    /// on it each key that it lacks, and deletes and stores nothing else: where both maps were the
+    /// same it only looks. The pair is in step then. `Refused` if a read failed, `Port` if a port
+    /// failed: the pair is split then, and never in step in between.
     pub fn resync<P: Port, Q: Port>(
         &mut self,
         first: &mut P,

@@ -15,7 +15,8 @@ told_both shape a c m n h g = ap is_some (ap part_of g) ∙ sym (ap is_some (ap 
 
 -- two boards of one shape that hold maps, and a mirror that is split
 pub told_pair : (mirror : Mirrored) (shape : Shape) (a c : Mounted) (f g : ℕ)
-    → mirror ≡ record { shape = shape; split = true } → limit_of c.terms.limits 1 ≡ limit_of a.terms.limits 1 → limit_of a.terms.limits 1 ≤ limit shape → (m n : Map) → Holds shape a.board.pages m → Holds shape c.board.pages n
+    → mirror ≡ record { shape = shape; split = true } → limit_of c.terms.limits 1 ≡ limit_of a.terms.limits 1 → limit_of a.terms.limits 1 ≤ limit shape → (m n : Map)
+    → Holds shape a.board.pages m → Holds shape c.board.pages n
     → IsToldPair mirror (seen shape a f) (seen shape c g)
 told_pair mirror shape a c f g is one most m n h k = record {
   pair = record {

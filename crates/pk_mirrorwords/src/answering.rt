@@ -214,8 +214,9 @@ fn ask_pair<P: Port, Q: Port>(
     }
 }
 
-/// Makes the second drive equal to the first, does what a word asks, and says the answer. An error when a port failed. Each port took
-/// at least one command when the text is the definition's, and the second a Delete or a Store of exactly the keys that differed.
+/// Makes the second drive equal to the first, does what a word asks, and says the answer. An error
+/// when a port failed. Each port took at least one command when the text is the definition's, and
+/// the second a Delete or a Store of exactly the keys that differed.
 pub fn answer_pair<P: Port, Q: Port>(
     mirror: &mut Mirror,
     first: &mut P,

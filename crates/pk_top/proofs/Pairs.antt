@@ -143,7 +143,8 @@ module _ (task : PairTask) (shape : Shape) (loaded new loaded' new' : BoardState
     }
 
     -- and their limits differ
-    pub AsksPair-differ : (status : ℕ) → status ≡ 8 → new ≡ behind_opening shape WORD_FRAMES loaded → new' ≡ behind_opening shape WORD_FRAMES loaded' → OnlyReading loaded new → OnlyReading loaded' new'
+    pub AsksPair-differ : (status : ℕ) → status ≡ 8 → new ≡ behind_opening shape WORD_FRAMES loaded → new' ≡ behind_opening shape WORD_FRAMES loaded' → OnlyReading loaded new
+        → OnlyReading loaded' new'
         → first_limit shape loaded.pages ≢ first_limit shape loaded'.pages → AsksPair task shape loaded new loaded' new' status
     AsksPair-differ status tells is is' only also differ = asks_still status only also (limits_differ (
         record {

@@ -5,7 +5,8 @@ use Rattle.pk_mirror.{specs.declared.error.Side.TheVariants.First, specs.declare
 use Rattle.pk_mirror.{proofs.ReplyLemmas.retrieved_tells, proofs.AskLemmas.retrieve_unread}
 use Rattle.pk_mirror.proofs.KeyLemmas.{fetched_as, fits_told, no_other_none, no_other_same, first_cause, second_cause, side_unread, retrieve_keeps}
 use Rattle.pk_mirror.proofs.visiting.has_other.Goals.{After-retrieve, After-retrieve-in-Ok-Some, In-Ok-Some}
-use Rattle.pk_mirror.{proofs.SpendLemmas.other_lacked, proofs.SpendLemmas.other_differs, proofs.SpendLemmas.looks_no_delete, proofs.VisitLemmas.asking_none, proofs.VisitLemmas.asking_one, proofs.VisitLemmas.looked_fails}
+use Rattle.pk_mirror.{proofs.SpendLemmas.other_lacked, proofs.SpendLemmas.other_differs, proofs.SpendLemmas.looks_no_delete, proofs.VisitLemmas.asking_none, proofs.VisitLemmas.asking_one}
+use Rattle.pk_mirror.{proofs.VisitLemmas.looked_fails}
 use Rattle.pk_mirror.proofs.visiting.has_other.Given as given
 use Rattle.pk_mirror.proofs.visiting.has_other.Goals as goal
 
