@@ -71,7 +71,7 @@ def try_cli():
     piped = subprocess.run(['redis-cli', '-s', path, '--pipe'], input=mass, capture_output=True, timeout=120).stdout.decode()
     check('--pipe', 'errors: 0, replies: 20' in piped)
     full = ''.join(f'SET f{i} x\n' for i in range(100))
-    check('a full drive is refused with the limit', 'OOM no space' in cli(path, text=full) and 'at most 492' in cli(path, 'SET', 'more', 'x'))
+    check('a full drive is refused with the limit', 'ERR no space' in cli(path, text=full) and 'at most 492' in cli(path, 'SET', 'more', 'x'))
     count = cli(path, 'DBSIZE')
     check('--bigkeys', f'Sampled {count} keys' in cli(path, '--bigkeys'))
     check('INFO', 'report_live:492' in cli(path, 'INFO'))
