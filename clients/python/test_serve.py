@@ -464,6 +464,42 @@ class Copies(OnServer):
         self.assertIn("--backups FOLDER", str(self.connect().do("BGSAVE", "x")))
 
 
+class FullDisk(unittest.TestCase):
+    def test_reads_go_on(self):
+        with tempfile.TemporaryDirectory() as folder:
+            disk = os.path.join(folder, "disk")
+            os.mkdir(disk)
+            if subprocess.run(["mount", "-t", "tmpfs", "-o", "size=2m", "none", disk], stderr=subprocess.DEVNULL).returncode:
+                self.skipTest("a file system of its own cannot be mounted here")
+            try:
+                self.fill(os.path.join(disk, "drive.img"), os.path.join(folder, "socket"), disk)
+            finally:
+                subprocess.run(["umount", disk], check=True)
+
+    def fill(self, image, path, disk):
+        pinkdrive.make(image, 4096, 64, 512)
+        words = [sys.executable, "-m", "pinkctl", "serve", image, "--socket", path]
+        server = subprocess.Popen(words, cwd=HERE, stdout=subprocess.PIPE, stderr=subprocess.PIPE, text=True)
+        try:
+            server.stdout.readline()
+            c, reader = Connection(path), Connection(path)
+            done, reply = 0, "OK"
+            while reply == "OK":
+                reply = c.do("SET", "k%d" % done, "v" * 3000)
+                done += reply == "OK"
+            self.assertIn("no space left on the disk", str(reply))
+            self.assertEqual(reader.do("GET", "k0"), b"v" * 3000)
+            self.assertGreaterEqual(reader.do("DBSIZE"), done)
+            self.assertIn("the drive is only read", str(c.do("SET", "a", "1")))
+            self.assertEqual(c.do("GET", "k1"), b"v" * 3000)
+            subprocess.run(["mount", "-o", "remount,size=8m", disk], check=True)
+            self.assertEqual(c.do("SET", "a", "1"), "OK")
+            self.assertEqual(reader.do("GET", "a"), b"1")
+        finally:
+            server.send_signal(signal.SIGTERM)
+            server.communicate(timeout=30)
+
+
 class Fairness(OnServer):
     """Whatever some clients do, the others are served, and memory is bounded."""
 
