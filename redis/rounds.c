@@ -163,13 +163,17 @@ static void replicate_batch(Ctx *ctx) {
     it.batch.length = 0;
 }
 
+void settle(Ctx *ctx) {
+    if (it.count && !AvoidReplicaTraffic()) send_held();
+    pipe_finish();
+    replicate_batch(ctx);
+}
+
 void end_round(Ctx *ctx) {
     it.asleep = 1;
     it.answered = 0;
     name_the_stream_anew(ctx);
-    if (it.count && !AvoidReplicaTraffic()) send_held();
-    pipe_finish();
-    replicate_batch(ctx);
+    settle(ctx);
 }
 
 void after_sleep(void) { it.asleep = 0; }

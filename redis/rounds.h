@@ -46,6 +46,9 @@ Entry entry_of(const Part *part);
 
 /* The end of a round. */
 void end_round(Ctx *ctx);
+/* Does what was gathered so far, unless clients are paused: before a pause begins that a client asked for, in which the slots of what is
+ * held may go to another server. */
+void settle(Ctx *ctx);
 void after_sleep(void);
 /* The server has become a replica: what is held is not done. */
 void drop_held(void);
