@@ -105,6 +105,9 @@ class Answer(NamedTuple):
 
 
 Then = Callable[[Answer], None]
+Command = Tuple[int, bytes, int, Optional[Then], int, bytes, int, int]
+"""A command of a request that has begun: opcode, key, size, who takes the record, options, value, namespace and
+the bytes that it counts as."""
 Waiting = Tuple[Optional[Then], Optional["Client"], int]
 """Who takes the record of a command, whose command it is, and how many bytes it counts as."""
 
@@ -295,6 +298,7 @@ class Client:
         self.number = number
         self.name = b""
         self.space = 1
+        self.asked = Asked(server, self, 1)
         self.is_known = server.password is None
         self.requests = resp.Requests()
         self.pending: Optional[List[bytes]] = None  # a request that has to wait
@@ -320,15 +324,13 @@ class Client:
 
     def has_room(self) -> bool:
         """Whether it may begin one more command, or, if none is in the queue, one more request."""
-        if self.is_changing():
-            return True  # a connection that takes no replies does not keep the others from a copy
-        if len(self.out) + self.owed >= CLIENT_BYTES:
-            return False
-        return bool(self.queue) or len(self.slots) < CLIENT_REPLIES
+        if len(self.out) + self.owed < CLIENT_BYTES and (self.queue or len(self.slots) < CLIENT_REPLIES):
+            return True
+        return self.is_changing()  # a connection that takes no replies does not keep the others from a copy
 
     def is_changing(self) -> bool:
         """Whether a request that changes has begun, and not all of its commands are sent."""
-        return self.is_busy or bool(self.queue) and self.queue[0].opcode in (STORE, DELETE)
+        return self.is_busy or bool(self.queue) and self.queue[0][0] in (STORE, DELETE)
 
     def receive(self) -> None:
         try:
@@ -352,23 +354,21 @@ class Client:
     def work(self) -> None:
         """Has a turn: goes on with the requests that have come."""
         self.is_held = self.is_stopped = False
-        link = self.server.link
+        link, requests = self.server.link, self.requests
         self.turn_end = link.sent + TURN_COMMANDS
-        for _ in range(TURN_COMMANDS):
-            if not self.queue and (self.is_busy or self.ending):
-                break
-            if link.sent >= self.turn_end or link.is_ahead():
+        turns = TURN_COMMANDS
+        while self.queue or not (self.is_busy or self.ending):
+            if not turns or link.sent >= self.turn_end or link.is_ahead():
                 self.server.hold(self)
                 break
             if not self.has_room():
                 self.is_stopped = True
                 break
+            turns -= 1
             if self.queue:
-                self._send(self.queue.popleft())
-            elif not self._next_request():
+                self._send(*self.queue.popleft())
+            elif not self._next_request() or requests.is_empty():
                 break
-        else:
-            self.server.hold(self)
         if self.is_held or self.is_stopped or self.events != selectors.EVENT_READ:
             self.server.to_write.add(self)
 
@@ -376,7 +376,7 @@ class Client:
         """Does the next request; False if there is none yet, or it has to wait."""
         try:
             words = self.pending or self.requests.next()
-            if words is None and len(self.requests._data) - self.requests._at > REQUEST_BYTES:
+            if words is None and self.requests.length() > REQUEST_BYTES:
                 raise resp.ProtocolError(f"a request has at most {REQUEST_BYTES} bytes")
         except resp.ProtocolError as fault:
             self.say(error(f"ERR Protocol error: {fault}"))
@@ -402,27 +402,37 @@ class Client:
         value: bytes = b"",
     ) -> None:
         """A command for the drive: sent now, or when it is the connection's turn again."""
-        command = Command(opcode, key, size, then, options, value, self.space)
-        server = self.server
-        if server.is_grouped or self._may_send():
-            self._send(command)
-            return
-        self.queue.append(command)
-        if not self.is_stopped:
-            server.hold(self)
-
-    def _may_send(self) -> bool:
-        if self.queue or len(self.out) + self.owed >= CLIENT_BYTES:
-            return False
-        return self.server.link.sent < self.turn_end and not self.server.link.is_ahead()
-
-    def _send(self, command: "Command") -> None:
-        opcode, key, size, then, options, value, space = command
         cost = COMMAND_BYTES + len(value)
         if opcode == RETRIEVE and size:
             cost += self.server.greatest
         elif opcode == LIST:
             cost += size
+        link = self.server.link
+        if self.server.is_grouped or (
+            link.sent < self.turn_end
+            and not self.queue
+            and len(self.out) + self.owed < CLIENT_BYTES
+            and not link.is_ahead()
+        ):
+            self.owed += cost
+            link.send(opcode, key, size, then, options, value, self.space, self, cost)
+            return
+        self.queue.append((opcode, key, size, then, options, value, self.space, cost))
+        if not self.is_stopped:
+            self.server.hold(self)
+
+    def _send(
+        self,
+        opcode: int,
+        key: bytes,
+        size: int,
+        then: Optional[Then],
+        options: int,
+        value: bytes,
+        space: int,
+        cost: int,
+    ) -> None:
+        """Sends a command of the queue."""
         self.owed += cost
         self.server.link.send(opcode, key, size, then, options, value, space, self, cost)
 
@@ -471,18 +481,6 @@ class Client:
         reads = not self.ending and not has_more
         events = selectors.EVENT_READ * reads | selectors.EVENT_WRITE * bool(self.out)
         self.server.watch(self, events)
-
-
-class Command(NamedTuple):
-    """A command for the drive, of a request that has begun."""
-
-    opcode: int
-    key: bytes
-    size: int
-    then: Optional[Then]
-    options: int
-    value: bytes
-    space: int
 
 
 class Group:
@@ -541,7 +539,7 @@ class Server:
         self.cursors: "collections.OrderedDict[int, bytes]" = collections.OrderedDict()
         self.last_cursor = 0
         self.connections = 0
-        self.calls: "collections.Counter[str]" = collections.Counter()
+        self.calls: "collections.Counter[bytes]" = collections.Counter()
         self.began = time.time()
         self.ending = False
         self._pipe_events = 0
@@ -774,26 +772,28 @@ class Server:
     def do(self, client: Client, words: List[bytes]) -> None:
         """Does a request: its reply is known immediately, or a slot waits for it."""
         name = words[0].upper()
-        fault = self._fault_of(client, name, words)
-        if fault is not None:
-            client.say(fault)
-            if client.group:
-                client.group.fault = client.group.fault or fault
-        elif client.group and name not in (b"EXEC", b"DISCARD", b"MULTI", b"QUIT"):
-            queue_up(self, client, name, words)
-        else:
-            COMMANDS[name][0](self, client, words)
+        known = COMMANDS.get(name)
+        self.calls[name if known else b"UNKNOWN"] += 1
+        fault = None if known and client.is_known and not self.is_full_disk else self._fault_of(client, name, words)
+        if known and fault is None:
+            handler, least, most = known
+            if least <= len(words) and (most is None or len(words) <= most):
+                if client.group and name not in (b"EXEC", b"DISCARD", b"MULTI", b"QUIT"):
+                    queue_up(self, client, name, words)
+                else:
+                    handler(self, client, words)
+                return
+            text = name.decode().lower()
+            fault = error(f"ERR wrong number of arguments for '{text}' command")
+        assert fault
+        client.say(fault)
+        if client.group:
+            client.group.fault = client.group.fault or fault
 
     def _fault_of(self, client: Client, name: bytes, words: List[bytes]) -> Optional[bytes]:
-        """Why a request is refused before anything of it is done."""
-        known = COMMANDS.get(name)
-        self.calls[name.decode() if known else "unknown"] += 1
-        if known is None:
+        """Why a request is refused whatever its words are."""
+        if name not in COMMANDS:
             return self._unknown(client, name, words[0])
-        _, least, most = known
-        if len(words) < least or (most is not None and len(words) > most):
-            text = name.decode().lower()
-            return error(f"ERR wrong number of arguments for '{text}' command")
         if not client.is_known and name not in (b"AUTH", b"HELLO", b"QUIT"):
             return error("NOAUTH Authentication required.")
         if self.is_full_disk and name in CHANGES:
@@ -845,13 +845,9 @@ class Asked(NamedTuple):
         return NIL if answer.status == NO_KEY else self.refusal(answer.status, RETRIEVE, key, size)
 
 
-def asked_by(server: Server, client: Client) -> Asked:
-    return Asked(server, client, client.space)
-
-
 @command("GET", 2, 2)
 def get(server: Server, client: Client, words: List[bytes]) -> None:
-    key, slot, asked = words[1], client.slot(), asked_by(server, client)
+    key, slot, asked = words[1], client.slot(), client.asked
     client.ask(
         RETRIEVE,
         key,
@@ -863,7 +859,7 @@ def get(server: Server, client: Client, words: List[bytes]) -> None:
 @command("MGET", 2, None)
 def get_many(server: Server, client: Client, words: List[bytes]) -> None:
     """The values are sent as they come, so that they are not all in memory."""
-    asked = asked_by(server, client)
+    asked = client.asked
     for key in words[1:]:
         if not 1 <= len(key) <= KEY_BYTES:
             client.say(asked.refusal(0x86, RETRIEVE, key, 0))
@@ -901,9 +897,9 @@ def set_value(server: Server, client: Client, words: List[bytes]) -> None:
             return
         options, before = parsed
     if before:
-        store_and_get(asked_by(server, client), key, value, options)
+        store_and_get(client.asked, key, value, options)
     else:
-        store(asked_by(server, client), key, value, options, OK, NIL)
+        store(client.asked, key, value, options, OK, NIL)
 
 
 def store(
@@ -940,7 +936,7 @@ def store_and_get(asked: Asked, key: bytes, value: bytes, options: int) -> None:
 
 @command("SETNX", 3, 3)
 def set_absent(server: Server, client: Client, words: List[bytes]) -> None:
-    store(asked_by(server, client), words[1], words[2], IF_ABSENT, integer(1), integer(0))
+    store(client.asked, words[1], words[2], IF_ABSENT, integer(1), integer(0))
 
 
 class Sum:
@@ -962,7 +958,7 @@ class Sum:
 
 def count(server: Server, client: Client, opcode: int, keys: List[bytes]) -> None:
     """How many of these keys a command succeeds for."""
-    total = Sum(asked_by(server, client), opcode, len(keys))
+    total = Sum(client.asked, opcode, len(keys))
     for key in keys:
         client.ask(opcode, key, 0, functools.partial(total.take, key, 0))
 
@@ -988,7 +984,7 @@ def set_many(server: Server, client: Client, words: List[bytes]) -> None:
     if len(words) % 2 == 0:
         client.say(error("ERR wrong number of arguments for 'mset' command"))
         return
-    total = Sum(asked_by(server, client), STORE, len(words) // 2, OK)
+    total = Sum(client.asked, STORE, len(words) // 2, OK)
     for key, value in zip(words[1::2], words[2::2]):
         then = functools.partial(total.take, key, len(value))
         client.ask(STORE, key, len(value), then, 0, value)
@@ -1000,7 +996,7 @@ def delete_all(server: Server, client: Client, words: List[bytes]) -> None:
     if len(words) > 1 and words[1].upper() not in (b"SYNC", b"ASYNC"):
         client.say(error("ERR syntax error"))
         return
-    slot, asked = client.slot(), asked_by(server, client)
+    slot, asked = client.slot(), client.asked
 
     def listed(answer: Answer) -> None:
         keys = pinkdrive._keys_in(answer.data) if answer.status == SUCCESS else []
@@ -1021,7 +1017,7 @@ def delete_all(server: Server, client: Client, words: List[bytes]) -> None:
 
 @command("TYPE", 2, 2)
 def type_of(server: Server, client: Client, words: List[bytes]) -> None:
-    slot, key, asked = client.slot(), words[1], asked_by(server, client)
+    slot, key, asked = client.slot(), words[1], client.asked
     replies = {SUCCESS: b"+string\r\n", NO_KEY: b"+none\r\n"}
     client.ask(
         EXIST,
@@ -1035,7 +1031,7 @@ def type_of(server: Server, client: Client, words: List[bytes]) -> None:
 
 @command("STRLEN", 2, 2)
 def length(server: Server, client: Client, words: List[bytes]) -> None:
-    slot, key, asked = client.slot(), words[1], asked_by(server, client)
+    slot, key, asked = client.slot(), words[1], client.asked
 
     def found(answer: Answer) -> None:
         if answer.status in (SUCCESS, NO_KEY):
@@ -1093,7 +1089,7 @@ def scan(server: Server, client: Client, words: List[bytes]) -> None:
     if isinstance(parsed, str):
         client.say(error(parsed))
         return
-    asked, by = parsed, asked_by(server, client)
+    asked, by = parsed, client.asked
     slot, size = client.slot(), 4 + KEY_ROOM * asked.most
     prefix = resp.fixed_prefix(asked.pattern)
 
@@ -1115,7 +1111,7 @@ def scan(server: Server, client: Client, words: List[bytes]) -> None:
 
 def report(server: Server, client: Client, told: Callable[[Report], bytes]) -> None:
     """A reply from the drive's numbers in the namespace."""
-    slot, asked = client.slot(), asked_by(server, client)
+    slot, asked = client.slot(), client.asked
 
     def found(answer: Answer) -> None:
         if answer.status == SUCCESS:
@@ -1180,7 +1176,8 @@ def info_text(server: Server, numbers: Report, wanted: Set[str], database: int) 
             **{f"report_{name}": number for name, number in numbers._asdict().items()},
         },
         "Commandstats": {
-            f"cmdstat_{name.lower()}": f"calls={calls}" for name, calls in server.calls.items()
+            f"cmdstat_{name.decode().lower()}": f"calls={calls}"
+            for name, calls in server.calls.items()
         },
         "Keyspace": (
             {f"db{database}": f"keys={numbers.keys},expires=0,avg_ttl=0"} if numbers.keys else {}
@@ -1215,6 +1212,7 @@ def select(server: Server, client: Client, words: List[bytes]) -> None:
         client.say(error(f"ERR DB index is out of range: there is {told}"))
         return
     client.space = int(words[1]) + 1
+    client.asked = Asked(server, client, client.space)
     client.say(OK)
 
 
