@@ -1,5 +1,6 @@
 """Tries replicas and a cluster of drives: what bench/cluster.sh says."""
 
+import binascii
 import glob
 import os
 import random
@@ -164,7 +165,7 @@ def child_of(process):
         for word in file.read().split():
             try:
                 with open(f'/proc/{word}/cmdline') as line:
-                    if 'redis' in line.read():
+                    if line.read().startswith('redis'):
                         return int(word)
             except OSError:
                 pass
@@ -186,25 +187,6 @@ def try_killed_children(primary, replica):
         replica.link().sure('REPLICAOF', 'NO', 'ONE')
         replica.link().sure('SET', f'again{turn}', 'x')
     check('children were killed', killed)
-
-
-def try_pause(folder):
-    """What was begun when CLIENT PAUSE comes is done before it, or not at all until the pause ends."""
-    server = Server(folder, 'pause', PORT)
-    links, looks = [server.link() for _ in range(8)], server.link()
-    for turn in range(20):
-        calls = int(fields(looks.sure('INFO', 'commandstats')).get('cmdstat_pink.set', 'calls=0').split('=')[1].split(',')[0])
-        os.kill(server.process.pid, signal.SIGSTOP)
-        for number, it in enumerate(links):
-            it.send(*(('SET', f'k{number}', turn) if number != turn % 8 else ('CLIENT', 'PAUSE', 300, 'WRITE')))
-        os.kill(server.process.pid, signal.SIGCONT)
-        check('the pause begins', links[turn % 8].reply() == 'OK')
-        told = fields(looks.sure('INFO', 'commandstats')).get('cmdstat_pink.set', 'calls=0')
-        done = sum(looks.sure('GET', f'k{number}') == b'%d' % turn for number in range(8))
-        check('all that had begun is done', done == int(told.split('=')[1].split(',')[0]) - calls, done, told, calls)
-        looks.sure('CLIENT', 'UNPAUSE')
-        check('the others are done after it', [it.reply() for number, it in enumerate(links) if number != turn % 8] == ['OK'] * 7)
-    end(server)
 
 
 # The cluster.
@@ -408,12 +390,14 @@ def try_moves(cluster, kills):
         nonlocal killed, moved
         for turn in range(kills):
             source, target = random.sample(sorted(cluster.primaries()), 2)
-            slots = [first for first, last in cluster.primaries()[source].slots][:1]
-            first = random.randrange(*cluster.primaries()[source].slots[0]) if len(slots) else 0
-            last = min(first + 15, next(b for a, b in cluster.primaries()[source].slots if a <= first <= b))
+            first, end = random.choice(cluster.primaries()[source].slots)
+            first = random.randint(first, end)
+            last = min(first + 15, end)
             words = [TOP + '/pinkctl', 'cluster', 'move-slots', cluster.folder]
             tool = subprocess.Popen([*words, str(source), str(target), f'{first}-{last}'], stdout=subprocess.DEVNULL)
-            time.sleep(0.1 + random.random() * 0.6)
+            while tool.poll() is None and not os.path.exists(cluster.folder + '/move.json'):
+                time.sleep(0.01)
+            time.sleep(random.random() * random.choice([0.05, 0.5, 1]))
             tool.kill()
             killed += tool.wait() == -signal.SIGKILL
             if os.path.exists(cluster.folder + '/move.json'):
@@ -433,12 +417,50 @@ def try_moves(cluster, kills):
     return f'move-slots killed {killed} of {kills} times, {moved} slots moved: {answered} changes, {keys} keys looked at, none lost, no read wrong'
 
 
+def try_changes_of_a_pause(cluster, turns):
+    """A change that was begun when a pause came is refused if its slot was given away in the pause."""
+    held = 0
+    port, target = sorted(cluster.primaries())[:2]
+    slot = 0
+    while not cluster.primaries()[port].has(slot):
+        slot += 100
+    key = next(f'{{p{i}}}' for i in range(10**6) if slot_of(f'p{i}') == slot)
+    with Node(port) as source, Node(target) as other:
+        ids = source.id(), other.id()
+        for turn in range(turns):
+            links = [Link(port) for _ in range(8)]
+            os.kill(cluster.process(port), signal.SIGSTOP)
+            for number, it in enumerate(links):
+                it.send(*(('SET', f'{key}{number}', turn) if number != turn % 8 else ('CLIENT', 'PAUSE', 5000, 'WRITE')))
+            os.kill(cluster.process(port), signal.SIGCONT)
+            check('the pause begins', links[turn % 8].reply() == 'OK')
+            before = [source.do('PINK.VALUE', f'{key}{number}') for number in range(8)]
+            source.do('CLUSTER', 'SETSLOT', slot, 'NODE', ids[1])
+            source.do('CLIENT', 'UNPAUSE')
+            for number, it in enumerate(links):
+                if number == turn % 8:
+                    continue
+                reply = str(it.reply())
+                held += reply.startswith('TRYAGAIN')
+                done = before[number] == b'%d' % turn
+                check('done before, or refused', done if reply == 'OK' else reply.startswith(('MOVED', 'TRYAGAIN')) and not done, reply, before)
+                check('nothing was done after it', source.do('PINK.VALUE', f'{key}{number}') == before[number])
+                it.close()
+            source.do('CLUSTER', 'SETSLOT', slot, 'NODE', ids[0])
+    check('changes were held', held)
+    return f'{turns} pauses in which a slot was given away: {held} changes that had begun were refused'
+
+
+def slot_of(name):
+    return binascii.crc_hqx(name.encode(), 0) % 16384
+
+
 def try_cluster(folder, kills):
     cluster = Cluster(folder)
     try:
         refused = subprocess.run(['redis-cli', '-p', str(PORT), 'CLUSTER', 'SETSLOT', '1', 'MIGRATING', '0' * 40], capture_output=True, text=True).stdout
         check('slots are not moved by redis-cli', 'unknown command' in refused, refused)
-        told = [try_failures(cluster, kills), try_planned(cluster, kills), try_moves(cluster, 2 * kills)]
+        told = [try_changes_of_a_pause(cluster, kills), try_moves(cluster, 2 * kills), try_planned(cluster, kills), try_failures(cluster, kills)]
     finally:
         pinkctl('stop', cluster.folder)
     told_of = pinkctl('check', cluster.folder)
@@ -451,7 +473,7 @@ def main(kills):
     module()
     random.seed(kills)
     with tempfile.TemporaryDirectory() as folder:
-        for part in (try_wait, try_dump, try_smaller, try_pause, try_broken_copies):
+        for part in (try_wait, try_dump, try_smaller, try_broken_copies):
             part(folder)
             print(f'{part.__name__}: {checks} checks so far', flush=True)
             for image in glob.glob(folder + '/*.img*'):

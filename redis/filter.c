@@ -25,7 +25,7 @@ static const char *const passing[] = {
 };
 enum { PASSING = sizeof passing / sizeof *passing };
 
-static String *cluster_name, *pause_name, *refuse_name;
+static String *cluster_name, *refuse_name;
 
 static void rename_to(FilterCtx *ctx, String *name) {
     RetainString(NULL, name);
@@ -65,7 +65,6 @@ static void filter(FilterCtx *ctx) {
     if (!strncasecmp(word, "pink.", 5)) return;
     if (!bsearch(word, passing, PASSING, sizeof *passing, is_before)) refuse(ctx);
     else if (!strcasecmp(word, "cluster")) filter_cluster(ctx);
-    else if (!strcasecmp(word, "client") && is_word(ctx, 1, "pause")) rename_to(ctx, pause_name);
     else if (!strcasecmp(word, "memory") && is_word(ctx, 1, "usage")) refuse(ctx);
 }
 
@@ -95,7 +94,6 @@ int register_filter(Ctx *ctx) {
     if (CreateCommand(ctx, "pink.refuse", refuse_command, "", 0, 0, 0) != API_OK) return API_ERR;
     for (int i = 0; i < RENAMED; i++) renamed[i].string = named(renamed[i].name);
     cluster_name = named("pink.cluster");
-    pause_name = named("pink.pause");
     refuse_name = named("pink.refuse");
     return RegisterCommandFilter(ctx, filter, FILTER_NOT_OWN_CALLS) ? API_OK : API_ERR;
 }

@@ -14,7 +14,8 @@ enum {
     NO_KEY = 0x87,
     READ_FAILED = 0x88,
     KEY_IS_THERE = 0x89,
-    OTHER_NAME = 0x100 /* of this module: another name has the same hash (names.h) */
+    OTHER_NAME = 0x100, /* of this module: another name has the same hash (names.h), */
+    MOVED_AWAY = 0x101  /* the slot of the key went to another server while clients were paused (rounds.h) */
 };
 enum { IF_EXISTS = 1, IF_ABSENT = 2 };
 enum {

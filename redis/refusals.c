@@ -108,6 +108,8 @@ void refusal_text(Bytes *text, const Part *part) {
 }
 
 int reply_refusal(Ctx *ctx, const Part *part) {
+    if (part->status == MOVED_AWAY)
+        return ReplyWithError(ctx, "TRYAGAIN the slot of the key went to another server while clients were paused: nothing was done");
     Bytes text = {0};
     say(&text, "ERR ");
     refusal_text(&text, part);

@@ -11,6 +11,7 @@ static struct {
     size_t count, room;
     Bytes batch;  /* the entries of changes that are done and not replicated yet */
     int checking; /* the names of changes are being compared */
+    int paused;   /* a round ended in a pause, and what is held is of that round */
     int asleep, armed, answered;
 } it;
 
@@ -112,9 +113,19 @@ static void hold(Part *part) {
     if (names_are_hashed && is_change(part)) compare_name(part);
 }
 
-static void send_held(void) {
+/* Redis looked up the slots of these changes before the pause. It looks up those of the commands that a module calls, too. */
+static void look_up_slots(Ctx *ctx) {
+    for (size_t i = 0; i < it.count; i++) {
+        CallReply *reply = Call(ctx, "PINK.OWNS", "s", it.held[i]->name);
+        if (reply) FreeCallReply(reply);
+        else it.held[i]->status = MOVED_AWAY;
+    }
+}
+
+static void send_held(Ctx *ctx) {
     if (it.checking) pipe_finish();
-    it.checking = 0;
+    if (it.paused) look_up_slots(ctx);
+    it.checking = it.paused = 0;
     for (size_t i = 0; i < it.count; i++) {
         Part *part = it.held[i];
         Entry entry = entry_of(part);
@@ -127,7 +138,7 @@ static void send_held(void) {
 
 void drop_held(void) {
     if (it.checking) pipe_finish();
-    it.checking = 0;
+    it.checking = it.paused = 0;
     for (size_t i = 0; i < it.count; i++) come(it.held[i]);
     it.numbers.dropped += it.count;
     it.count = 0;
@@ -163,17 +174,15 @@ static void replicate_batch(Ctx *ctx) {
     it.batch.length = 0;
 }
 
-void settle(Ctx *ctx) {
-    if (it.count && !AvoidReplicaTraffic()) send_held();
-    pipe_finish();
-    replicate_batch(ctx);
-}
-
 void end_round(Ctx *ctx) {
     it.asleep = 1;
     it.answered = 0;
     name_the_stream_anew(ctx);
-    settle(ctx);
+    int is_paused = it.count && AvoidReplicaTraffic();
+    if (is_paused) it.paused = 1;
+    else if (it.count) send_held(ctx);
+    pipe_finish();
+    replicate_batch(ctx);
 }
 
 void after_sleep(void) { it.asleep = 0; }
@@ -199,7 +208,7 @@ static int on_reply(Ctx *ctx, String **argv, int argc) {
 
 /* Reads alone may come while the clients that write are paused: then the changes that are held stay so. */
 static int run_at_once(Ctx *ctx, Request *request) {
-    if (request->changes) send_held();
+    if (request->changes) send_held(ctx);
     pipe_finish();
     replicate_batch(ctx);
     request->say(ctx, request);

@@ -3,7 +3,8 @@
  * The commands of a round are gathered, and their clients are blocked. Before the loop sleeps, the changes follow the reads, a Flush ends
  * the group, all records are taken, the changes are replicated as one command, and the clients are answered. So no change is under way
  * while the server does anything else: it forks, changes its role, or pauses its clients. Changes of a round that ends in a pause
- * are held until the pause is over; they are dropped, not done and not answered, if the server becomes a replica in it. */
+ * are held until the pause is over. If the server becomes a replica in it they are dropped, not done and not answered; if their slot went
+ * to another server in it, as slots are moved in pauses, they are refused (MOVED_AWAY). */
 #ifndef PINK_ROUNDS_H
 #define PINK_ROUNDS_H
 
@@ -46,9 +47,6 @@ Entry entry_of(const Part *part);
 
 /* The end of a round. */
 void end_round(Ctx *ctx);
-/* Does what was gathered so far, unless clients are paused: before a pause begins that a client asked for, in which the slots of what is
- * held may go to another server. */
-void settle(Ctx *ctx);
 void after_sleep(void);
 /* The server has become a replica: what is held is not done. */
 void drop_held(void);

@@ -104,13 +104,8 @@ int raw_command(Ctx *ctx, String **argv, int argc) {
     return reply_text(ctx, "ERR PINK.RAW has SET and DEL");
 }
 
-/* PINK.PAUSE PAUSE milliseconds [WRITE|ALL]: CLIENT PAUSE, after all that was gathered before it is done. */
-int pause_command(Ctx *ctx, String **argv, int argc) {
-    if (argc != 3 && argc != 4) return reply_arity(ctx, "client|pause");
-    settle(ctx);
-    CallReply *reply = argc == 4 ? Call(ctx, "CLIENT", "sss", argv[1], argv[2], argv[3]) : Call(ctx, "CLIENT", "ss", argv[1], argv[2]);
-    if (!reply) return reply_text(ctx, "ERR wrong arguments for CLIENT PAUSE");
-    ReplyWithCallReply(ctx, reply);
-    FreeCallReply(reply);
-    return API_OK;
+/* PINK.OWNS key: refused by Redis if the slot of the key belongs to another server. */
+int owns_command(Ctx *ctx, String **argv, int argc) {
+    (void)argv;
+    return argc == 2 ? ReplyWithSimpleString(ctx, "OK") : reply_arity(ctx, "pink.owns");
 }
