@@ -282,13 +282,16 @@ class Router:
 class Writer(threading.Thread):
     """A client of the cluster that changes keys of its own, and notes what was answered, by the server and by WAIT 1."""
 
+    acts = 0  # so that no act has the keys of another
+
     def __init__(self, ports, number, wait):
         super().__init__(daemon=True)
-        self.it, self.draw, self.number, self.wait = Router(list(ports)), random.Random(number), number, wait
+        self.it, self.draw, self.wait = Router(list(ports)), random.Random(number), wait
+        self.front = f'{Writer.acts}:{number}'
         self.held, self.doubt, self.answered, self.failed, self.wrong, self.stop = {}, {}, 0, 0, 0, False
 
     def step(self):
-        key = f'{self.number}:{self.draw.randrange(60)}'
+        key = f'{self.front}:{self.draw.randrange(60)}'
         what = self.draw.random()
         if what < 0.2 and key not in self.doubt:
             self.wrong += self.it.do(key, 'GET', key) != self.held.get(key)
@@ -324,6 +327,7 @@ class Writer(threading.Thread):
 
 def with_writers(cluster, count, wait, act):
     """Runs `act` under writers; then every answered change is looked for."""
+    Writer.acts += 1
     writers = [Writer(cluster.ports, number, wait) for number in range(count)]
     for it in writers:
         it.start()
@@ -371,8 +375,14 @@ def try_planned(cluster, turns):
             until('the cluster is whole', cluster.is_whole, 90)
             replica, primary = random.choice(sorted(cluster.replicas().items()))
             with Node(replica) as node:
-                node.do('CLUSTER', 'FAILOVER')
-                until('the replica takes over', lambda: node.info('replication')['role'] == 'master')
+                for _ in range(20):  # a busy machine may be too slow for the votes: then Redis gives up
+                    node.do('CLUSTER', 'FAILOVER')
+                    last = time.monotonic() + 8
+                    while node.info('replication')['role'] != 'master' and time.monotonic() < last:
+                        time.sleep(0.02)
+                    if node.info('replication')['role'] == 'master':
+                        break
+                check('the replica takes over', node.info('replication')['role'] == 'master')
             print(f'\r{turn + 1} of {turns} planned failovers', end='', file=sys.stderr)
             time.sleep(0.5)
         print(file=sys.stderr)

@@ -230,22 +230,24 @@ class Link:
             self.over = True
             return
         self.received += len(data)
-        data, at, records = self._data + data if self._data else data, 0, 0
-        while len(data) - at >= RECORD.size:
-            result, _, _, marks, _, length = RECORD.unpack_from(data, at)
-            end = at + RECORD.size + length
+        data, at = self._data + data if self._data else data, 0
+        waiting, unpack, head = self.waiting, RECORD.unpack_from, RECORD.size
+        before = self.sent - len(waiting)
+        while len(data) - at >= head:
+            result, _, _, marks, _, length = unpack(data, at)
+            end = at + head + length
             if end > len(data):
                 break
-            then, client, cost = self.waiting.popleft()
+            then, client, cost = waiting.popleft()
             if client:
                 client.owed -= cost
                 if client.is_stopped:
                     client.server.to_write.add(client)
-            records += 1
             if then:
-                then(Answer(marks >> 17 & 0xFF, result, data[at + RECORD.size : end]))
+                then(Answer(marks >> 17 & 0xFF, result, data[at + head : end]))
             at = end
         self._data = data[at:]
+        records = self.sent - len(waiting) - before
         if records:
             self._set_window(at, records)
 
@@ -309,11 +311,13 @@ class Client:
         self.out = bytearray()
         self.owed = 0  # bytes of the answers that have not come, at their most
         self.turn_end = 0  # in commands that were sent
+        self.may_send = False  # there was room for a request, and none of its commands is sent
         self.is_held = False  # it waits for its turn
         self.is_stopped = False  # it goes on when its replies have been taken
         self.ending = False  # no more requests are taken, and it is closed after the last reply
         self.closed = False
         self.events = selectors.EVENT_READ
+        self.may_read = True  # its next request is waited for, and nothing else
 
     def collect(self) -> None:
         """Moves the replies that have come, up to the first that has not."""
@@ -367,9 +371,13 @@ class Client:
             turns -= 1
             if self.queue:
                 self._send(*self.queue.popleft())
-            elif not self._next_request() or requests.is_empty():
+                continue
+            self.may_send = True
+            if not self._next_request() or requests.is_empty():
                 break
-        if self.is_held or self.is_stopped or self.events != selectors.EVENT_READ:
+        self.may_send = False
+        if self.is_held or self.is_stopped or self.is_busy or self.pending or not self.may_read:
+            self.may_read = False
             self.server.to_write.add(self)
 
     def _next_request(self) -> bool:
@@ -407,19 +415,21 @@ class Client:
             cost += self.server.greatest
         elif opcode == LIST:
             cost += size
-        link = self.server.link
-        if self.server.is_grouped or (
-            link.sent < self.turn_end
-            and not self.queue
-            and len(self.out) + self.owed < CLIENT_BYTES
-            and not link.is_ahead()
-        ):
+        if self.may_send or self.server.is_grouped or self._has_turn():
+            self.may_send = False
             self.owed += cost
-            link.send(opcode, key, size, then, options, value, self.space, self, cost)
+            send = self.server.link.send
+            send(opcode, key, size, then, options, value, self.space, self, cost)
             return
         self.queue.append((opcode, key, size, then, options, value, self.space, cost))
         if not self.is_stopped:
             self.server.hold(self)
+
+    def _has_turn(self) -> bool:
+        """Whether one more command of the request that has begun may be sent now."""
+        if self.queue or len(self.out) + self.owed >= CLIENT_BYTES:
+            return False
+        return self.server.link.sent < self.turn_end and not self.server.link.is_ahead()
 
     def _send(
         self,
@@ -471,6 +481,8 @@ class Client:
             pass
         except OSError:
             self.leave()
+        if self.may_read and not self.out and not (self.ending or self.is_held or self.is_stopped):
+            return  # the most common case: nothing to wait for but its next request
         if self.ending and not self.out and not self.slots and not self.queue:
             self.server.drop(self)
             return
@@ -481,6 +493,7 @@ class Client:
         reads = not self.ending and not has_more
         events = selectors.EVENT_READ * reads | selectors.EVENT_WRITE * bool(self.out)
         self.server.watch(self, events)
+        self.may_read = events == selectors.EVENT_READ
 
 
 class Group:
@@ -598,6 +611,7 @@ class Server:
         if client.is_held or client.closed:
             return
         client.is_held = True
+        client.may_read = False
         self.held.append(client)
         self.to_write.add(client)
 
