@@ -43,8 +43,8 @@ def follow(replica, primary):
     until('the replica has a link', lambda: replica.info('replication').get('master_link_status') == 'up')
 
 
-def pair(folder, name, port):
-    primary, replica = (Server(folder, f'{name}{i}', port + i) for i in range(2))
+def pair(folder, name, port, words=()):
+    primary, replica = (Server(folder, f'{name}{i}', port + i, words=words) for i in range(2))
     follow(replica, primary)
     return primary, replica
 
@@ -109,6 +109,29 @@ def try_smaller(folder):
     check('it does not begin again', replica.process.wait(30) == 1)
     check('its log says what to do', "Put a drive with the primary's room in its place" in replica.last_lines(), replica.last_lines())
     end(primary, replica)
+
+
+def try_hashed(folder):
+    """A pair with names of any length; a replica whose names are plain ends."""
+    primary, replica = pair(folder, 'hashed', PORT, ('names', 'hashed'))
+    it = primary.link()
+    for number in range(300):
+        it.sure('SET', f'user:{number}@example.org' * (1 + number % 3), number)
+    it.sure('DEL', 'user:7@example.org' * 2, 'none')
+    third = Server(folder, 'third', PORT + 2, words=('names', 'hashed'))
+    follow(third, primary)
+    check('both replicas are equal', equal(primary, replica) and equal(primary, third) and it.sure('DBSIZE') == 299)
+    third.kill()
+    replica.link().sure('REPLICAOF', 'NO', 'ONE')
+    primary.kill()
+    check('a replica has the names', replica.link().sure('GET', 'user:8@example.org' * 3) == b'8')
+    plain = Server(folder, 'plain', PORT + 3)
+    plain.link().sure('SET', 'own', 'x')
+    plain.link().sure('REPLICAOF', '127.0.0.1', replica.port)
+    check('a replica with plain names ends with 14', plain.process.wait(60) == 14)
+    plain.start()
+    check('and its drive is as it was', plain.link().sure('GET', 'own') == b'x')
+    end(plain, replica)
 
 
 def fill(server, keys, length=1000):
@@ -483,7 +506,7 @@ def main(kills):
     module()
     random.seed(kills)
     with tempfile.TemporaryDirectory() as folder:
-        for part in (try_wait, try_dump, try_smaller, try_broken_copies):
+        for part in (try_wait, try_dump, try_smaller, try_hashed, try_broken_copies):
             part(folder)
             print(f'{part.__name__}: {checks} checks so far', flush=True)
             for image in glob.glob(folder + '/*.img*'):

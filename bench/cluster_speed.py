@@ -55,13 +55,15 @@ def main(counts):
         with tempfile.TemporaryDirectory() as folder:
             folder += '/cluster'
             pinkctl('make', folder, str(count), '4096', '64', '512', '--replicas', '0', '--port', str(PORT))
-            pinkctl('start', folder)
-            pids, row = processes(folder, count), []
-            for test, depth in CASES:
-                rate, mine, its = (statistics.median(it) for it in zip(*(measure(pids, test, depth) for _ in range(3))))
-                row.append(f'{mine:.1f} + {its:.1f} ({rate:,.0f}/s)')
-            print(f'| {count} | ' + ' | '.join(row) + ' |', flush=True)
-            pinkctl('stop', folder)
+            try:
+                pinkctl('start', folder)
+                pids, row = processes(folder, count), []
+                for test, depth in CASES:
+                    rate, mine, its = (statistics.median(it) for it in zip(*(measure(pids, test, depth) for _ in range(3))))
+                    row.append(f'{mine:.1f} + {its:.1f} ({rate:,.0f}/s)')
+                print(f'| {count} | ' + ' | '.join(row) + ' |', flush=True)
+            finally:
+                pinkctl('stop', folder)
 
 
 if __name__ == '__main__':

@@ -4,6 +4,7 @@
 #include <stdlib.h>
 #include <time.h>
 
+#include "names.h"
 #include "replication.h"
 #include "walk.h"
 
@@ -66,6 +67,7 @@ static void aux_save(Io *io, int when) {
     int own = !it.taken; /* SAVE is done without a fork */
     if (own) take_snapshot();
     int whole = !is_partial() && !it.unread;
+    SaveUnsigned(io, (uint64_t)names_are_hashed);
     SaveUnsigned(io, whole ? it.count : NOT_WHOLE); /* nobody may take a drive that is not whole for a copy */
     const char *at = it.pairs.at;
     for (uint64_t i = 0; whole && i < it.count; i++) {
@@ -138,8 +140,9 @@ static int load_pairs(Io *io, uint64_t pairs) {
 
 static int aux_load(Io *io, int version, int when) {
     (void)version, (void)when;
-    uint64_t pairs = LoadUnsigned(io);
+    uint64_t are_hashed = LoadUnsigned(io), pairs = LoadUnsigned(io);
     if (IsIOError(io)) return API_ERR;
+    if (it.from_primary && are_hashed != (uint64_t)names_are_hashed) names_differ();
     if (pairs == NOT_WHOLE) {
         if (it.from_primary) primary_is_partial();
         return API_OK;

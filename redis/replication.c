@@ -70,6 +70,11 @@ void copy_refused(const Part *part) {
     _exit(COPY_REFUSED);
 }
 
+void names_differ(void) {
+    Log(NULL, "warning", "this server and its primary differ in the words names plain and names hashed: this server ends");
+    _exit(COPY_REFUSED);
+}
+
 /* The stream of changes. */
 
 void dump_was_loaded(void) { it.loaded = 1; }

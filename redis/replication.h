@@ -22,6 +22,8 @@ void end_copy(void);
 void primary_is_partial(void);
 /* The drive refused what its primary's drive took: the server ends. */
 void copy_refused(const Part *part);
+/* The primary keeps its names in the other way (names.h): the server ends, and its drive is as it was. */
+void names_differ(void);
 
 /* A dump was loaded, and with it the name and the offset of its stream of changes. The drive is newer than the dump, so a replica that knows
  * that name and an offset before it would lack what lies between: in the next round the stream gets a new name. */

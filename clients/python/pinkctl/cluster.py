@@ -50,6 +50,8 @@ min-replicas-max-lag 10
 repl-diskless-sync yes
 repl-diskless-sync-delay 0
 repl-backlog-size 64mb
+# The file that a copy came in is older than the drive at once, and goes away.
+rdb-del-sync-files yes
 cluster-enabled yes
 cluster-config-file nodes.conf
 # All of a server waits for its disk: a short time takes a slow disk for a failure (matters).
@@ -175,8 +177,9 @@ def wait_up(it: Cluster, port: int, process: "Optional[subprocess.Popen[bytes]]"
     while True:
         try:
             node = Node(port)
-            if node.do("PING") == "PONG":
+            if node.do("PING") == "PONG" and int(node.info("server")["process_id"]) == it.process(port):
                 return node
+            node.close()
         except ToolError:
             pass
         ended = process is not None and process.poll() is not None
