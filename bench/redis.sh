@@ -6,9 +6,27 @@
 #   bench/redis.sh [KILLS]       KILLS kills, 60 by default; ends with a count, and with 1 if a check failed
 #   bench/redis.sh --speed [N]   requests per second next to Redis (Debian's redis-server), medians of three runs, as a table; with
 #                                the Nth part of the requests if N is given, for a trial
+#   bench/redis.sh --module [KILLS]        the module redis/pink.so of redis-server: its replies beside those of pinkctl serve, what
+#                                only Redis has, names of any length, the sanitizers, and KILLS kills, 60 by default
+#   bench/redis.sh --module-speed [TURNS]  processor time of a request: the module, pinkctl serve, Redis
+#   bench/redis.sh --cluster-speed [N..]   the same for clusters of N drives on this machine, 1, 2 and 4 by default
+#   bench/redis.sh --fair        what one client's GET waits for, and the memory of pinkctl serve, while others ask much
 set -eu
 
 top=$(CDPATH='' cd -- "$(dirname -- "$0")/.." && pwd)
+word=${1:-}
+case $word in
+    --module | --module-speed | --cluster-speed | --fair)
+        shift
+        case $word in
+            --module) script=module.py ;;
+            --module-speed) script=module_speed.py ;;
+            --cluster-speed) script=cluster_speed.py ;;
+            --fair) script=fair.py ;;
+        esac
+        exec python3 "$top/bench/$script" "$@"
+        ;;
+esac
 for tool in redis-cli redis-benchmark; do
     command -v "$tool" >/dev/null || { echo "bench/redis.sh: there is no $tool (apt-get install redis-tools)" >&2; exit 2; }
 done
@@ -71,7 +89,7 @@ def try_cli():
     piped = subprocess.run(['redis-cli', '-s', path, '--pipe'], input=mass, capture_output=True, timeout=120).stdout.decode()
     check('--pipe', 'errors: 0, replies: 20' in piped)
     full = ''.join(f'SET f{i} x\n' for i in range(100))
-    check('a full drive is refused with the limit', 'OOM no space' in cli(path, text=full) and 'at most 492' in cli(path, 'SET', 'more', 'x'))
+    check('a full drive is refused with the limit', 'ERR no space' in cli(path, text=full) and 'at most 492' in cli(path, 'SET', 'more', 'x'))
     count = cli(path, 'DBSIZE')
     check('--bigkeys', f'Sampled {count} keys' in cli(path, '--bigkeys'))
     check('INFO', 'report_live:492' in cli(path, 'INFO'))

@@ -74,12 +74,15 @@ def request(*words):
 class OnServer(unittest.TestCase):
     """A test with a drive and a server of its own."""
 
+    shape = SHAPE
+    limits = ()
+
     def setUp(self):
         folder = tempfile.TemporaryDirectory()
         self.addCleanup(folder.cleanup)
         self.image = os.path.join(folder.name, "drive.img")
         self.path = os.path.join(folder.name, "socket")
-        pinkdrive.make(self.image, *SHAPE)
+        pinkdrive.make(self.image, *self.shape, limits=self.limits)
         self.start()
 
     def start(self, *words):
@@ -153,7 +156,7 @@ class Commands(OnServer):
 
     def test_refusals(self):
         c = self.connect()
-        self.refuses(c, "unknown command 'FLUSHALL'; the drive has CLIENT COMMAND", "FLUSHALL")
+        self.refuses(c, "unknown command 'FLUSHALL'; the drive has AUTH BGSAVE", "FLUSHALL")
         self.refuses(c, "wrong number of arguments for 'get' command", "GET")
         self.refuses(c, "wrong number of arguments for 'get' command", "GET", "a", "b")
         self.refuses(c, "not 'EX' (keys do not expire)", "SET", "a", "1", "EX", "9")
@@ -197,7 +200,7 @@ class Commands(OnServer):
             c.send("SET", "%04d" % i, "x")
         self.assertEqual({c.reply() for _ in range(KEYS)}, {"OK"})
         reply = c.do("SET", "more", "x")
-        self.assertTrue(str(reply).startswith("OOM "), reply)
+        self.assertTrue(str(reply).startswith("ERR no space"), reply)
         self.assertIn(f"the values of its namespace at most {LIMIT}", str(reply))
         self.assertEqual(c.do("SET", "0000", "y"), "OK")
 
@@ -328,6 +331,285 @@ class Pipelines(OnServer):
         self.assertEqual(after["drive_waiting"], 0)
         self.assertGreater(after["drive_mean_microseconds"], 0)
         self.assertLess(after["drive_mean_microseconds"], 10**7)
+
+
+class Namespaces(OnServer):
+    limits = (100, 300)
+
+    def test_select(self):
+        c = self.connect()
+        self.assertEqual(c.do("MSET", "a", "1", "b", "2"), "OK")
+        self.assertEqual(c.do("SELECT", "1"), "OK")
+        self.assertEqual(c.do("MGET", "a", "b"), [None, None])
+        self.assertEqual(c.do("SET", "a", "other"), "OK")
+        self.assertIn(b"db1:keys=1,", c.do("INFO", "keyspace"))
+        self.assertIn("there is 0 to 1", str(c.do("SELECT", "2")))
+        for i in range(149):
+            self.assertEqual(c.do("SET", "%03d" % i, ""), "OK")
+        self.assertIn("its namespace at most 300", str(c.do("SET", "more", "")))
+        self.assertEqual(c.do("FLUSHDB"), "OK")
+        self.assertEqual(c.do("DBSIZE"), 0)
+        self.assertEqual(c.do("SELECT", "0"), "OK")
+        self.assertEqual(c.do("MGET", "a", "b"), [b"1", b"2"])
+
+    def test_requests_wait_for_the_end_of_flushdb(self):
+        c = self.connect()
+        for turn in range(5):
+            c.socket.sendall(b"".join(request("SET", "k%d" % i, "x") for i in range(49)))
+            c.socket.sendall(request("FLUSHDB") + request("DBSIZE") + request("SET", "last", "x") + request("DBSIZE"))
+            self.assertEqual([c.reply() for _ in range(49)], ["OK"] * 49)
+            self.assertEqual([c.reply() for _ in range(4)], ["OK", 0, "OK", 1])
+
+
+class Groups(OnServer):
+    def test_nothing_is_done_before_exec(self):
+        c, other = self.connect(), self.connect()
+        self.assertEqual(c.do("MULTI"), "OK")
+        self.assertEqual(c.do("SET", "a", "1"), "QUEUED")
+        self.assertEqual(c.do("MGET", "a", "b"), "QUEUED")
+        self.assertIsNone(other.do("GET", "a"))
+        self.assertEqual(c.do("EXEC"), ["OK", [b"1", None]])
+        self.assertEqual(other.do("GET", "a"), b"1")
+        c.do("MULTI")
+        c.do("SET", "a", "2")
+        self.assertEqual(c.do("DISCARD"), "OK")
+        self.assertEqual(c.do("GET", "a"), b"1")
+
+    def test_a_group_with_a_refusal_is_not_done(self):
+        c = self.connect()
+        for wrong in (("INCR", "a"), ("GET",), ("MULTI", "x"), ("FLUSHDB",), ("BGSAVE", "x")):
+            self.assertEqual(c.do("MULTI"), "OK")
+            self.assertEqual(c.do("SET", "a", "1"), "QUEUED")
+            self.assertIsInstance(c.do(*wrong), Error)
+            self.assertEqual(c.do("SET", "b", "1"), "QUEUED")
+            self.assertIn("EXECABORT", str(c.do("EXEC")))
+        self.assertEqual(c.do("DBSIZE"), 0)
+        self.assertIn("without MULTI", str(c.do("EXEC")))
+        self.assertIn("without MULTI", str(c.do("DISCARD")))
+
+    def test_a_group_that_is_too_large(self):
+        c = self.connect()
+        c.do("MULTI")
+        for _ in range(1024 // 2):
+            c.send("GET", "a")
+        self.assertEqual({c.reply() for _ in range(1024 // 2)}, {"QUEUED"})
+        self.assertIn("at most 1024 commands", str(c.do("GET", "a")))
+        self.assertIn("EXECABORT", str(c.do("EXEC")))
+
+    def test_no_command_of_another_comes_between(self):
+        clients = [self.connect() for _ in range(8)]
+        keys = ["k%d" % i for i in range(40)]
+        for turn in range(20):
+            for number, c in enumerate(clients):
+                sets = [request("SET", key, "%d/%d" % (number, turn)) for key in keys]
+                c.socket.sendall(b"".join([request("MULTI"), *sets, request("MGET", *keys), request("EXEC")]))
+            for number, c in enumerate(clients):
+                replies = [c.reply() for _ in range(43)]
+                self.assertEqual(set(replies[-1][-1]), {b"%d/%d" % (number, turn)})
+
+
+class Secrets(OnServer):
+    def test_a_password(self):
+        self.end()
+        path = os.path.join(os.path.dirname(self.image), "word")
+        with open(path, "w") as file:
+            file.write("secret\n")
+        self.start("--socket", self.path, "--password-file", path)
+        c = self.connect()
+        self.assertIn("NOAUTH", str(c.do("GET", "a")))
+        self.assertIn("NOAUTH", str(c.do("PING")))
+        self.assertIn("WRONGPASS", str(c.do("AUTH", "other")))
+        self.assertIn("WRONGPASS", str(c.do("AUTH", "bob", "secret")))
+        self.assertIn("NOAUTH", str(c.do("SET", "a", "1")))
+        self.assertEqual(c.do("AUTH", "secret"), "OK")
+        self.assertIsNone(c.do("GET", "a"))
+        self.assertIn(b"proto", self.connect().do("HELLO", "2", "AUTH", "default", "secret"))
+
+
+class Copies(OnServer):
+    def test_a_copy_while_clients_change(self):
+        self.end()
+        folder = os.path.join(os.path.dirname(self.image), "backups")
+        os.mkdir(folder)
+        self.start("--socket", self.path, "--backups", folder)
+        done, stop = [0], []
+
+        def change():
+            c = self.connect()
+            while not stop:
+                c.do("SET", "n", "%d" % (done[0] + 1))
+                done[0] += 1
+
+        writer = threading.Thread(target=change)
+        writer.start()
+        c, lost = self.connect(), self.connect()
+        c.do("SET", "a", "x" * GREATEST)
+        lost.socket.sendall(request("GET", "a") * 5000)  # whoever takes no replies holds up no copy
+        for turn in range(5):
+            before = done[0]
+            self.assertEqual(c.do("BGSAVE", "copy%d" % turn), "OK")
+            after = done[0]
+            with pinkdrive.Drive(os.path.join(folder, "copy%d" % turn)) as d:
+                self.assertIn(int(d.get(b"n", b"0")), range(before, after + 2))
+                self.assertEqual(d[b"a"], b"x" * GREATEST)
+            time.sleep(0.05)
+        stop.append(1)
+        writer.join()
+        self.assertGreater(done[0], 5)
+        for name, text in (("copy0", "there is a file"), ("../x", "a name of a file"), (".x", "a name of a file"), ("", "a name of a file")):
+            self.assertIn(text, str(c.do("BGSAVE", name)))
+        self.assertEqual(sorted(os.listdir(folder)), ["copy%d" % turn for turn in range(5)])
+
+    def test_without_a_folder(self):
+        self.assertIn("--backups FOLDER", str(self.connect().do("BGSAVE", "x")))
+
+
+class FullDisk(unittest.TestCase):
+    def test_reads_go_on(self):
+        with tempfile.TemporaryDirectory() as folder:
+            disk = os.path.join(folder, "disk")
+            os.mkdir(disk)
+            if subprocess.run(["mount", "-t", "tmpfs", "-o", "size=2m", "none", disk], stderr=subprocess.DEVNULL).returncode:
+                self.skipTest("a file system of its own cannot be mounted here")
+            try:
+                self.fill(os.path.join(disk, "drive.img"), os.path.join(folder, "socket"), disk)
+            finally:
+                subprocess.run(["umount", disk], check=True)
+
+    def fill(self, image, path, disk):
+        pinkdrive.make(image, 4096, 64, 512)
+        words = [sys.executable, "-m", "pinkctl", "serve", image, "--socket", path]
+        server = subprocess.Popen(words, cwd=HERE, stdout=subprocess.PIPE, stderr=subprocess.PIPE, text=True)
+        try:
+            server.stdout.readline()
+            c, reader = Connection(path), Connection(path)
+            done, reply = 0, "OK"
+            while reply == "OK":
+                reply = c.do("SET", "k%d" % done, "v" * 3000)
+                done += reply == "OK"
+            self.assertIn("no space left on the disk", str(reply))
+            self.assertEqual(reader.do("GET", "k0"), b"v" * 3000)
+            self.assertGreaterEqual(reader.do("DBSIZE"), done)
+            self.assertIn("the drive is only read", str(c.do("SET", "a", "1")))
+            self.assertEqual(c.do("GET", "k1"), b"v" * 3000)
+            subprocess.run(["mount", "-o", "remount,size=8m", disk], check=True)
+            self.assertEqual(c.do("SET", "a", "1"), "OK")
+            self.assertEqual(reader.do("GET", "a"), b"1")
+        finally:
+            server.send_signal(signal.SIGTERM)
+            server.communicate(timeout=30)
+
+
+class Fairness(OnServer):
+    """Whatever some clients do, the others are served, and memory is bounded."""
+
+    shape = (4096, 64, 64)
+
+    def setUp(self):
+        super().setUp()
+        self.value = "x" * 60000
+        self.assertEqual(self.connect().do("SET", "big", self.value), "OK")
+        self.memory = self.resident()
+
+    def resident(self):
+        with open(f"/proc/{self.server.pid}/statm") as it:
+            return int(it.read().split()[1]) * 4096
+
+    def others(self, name, worst):
+        """The time of another client's GETs, and the memory that was taken."""
+        c, times = self.connect(), []
+        for _ in range(40):
+            began = time.monotonic()
+            self.assertIsNone(c.do("GET", "none"))
+            times.append(time.monotonic() - began)
+            time.sleep(0.01)
+        more = self.resident() - self.memory
+        print(f"{name}: another client's GET {1000 * sorted(times)[20]:.1f} ms (median), {1000 * max(times):.1f} (worst), {more >> 20} MiB more")
+        self.assertLess(sorted(times)[20], worst)
+        self.assertLess(more, 64 << 20)
+
+    def flood(self, count):
+        """A client that sends this many requests, as far as they are taken, and reads nothing."""
+        c = self.connect()
+        c.socket.setblocking(False)
+        try:
+            data = request("GET", "big") * count
+            while data:
+                data = data[c.socket.send(data) :]
+        except BlockingIOError:
+            pass
+        return c
+
+    def test_a_stopped_client(self):
+        self.flood(4000)
+        time.sleep(0.2)
+        self.others("one client reads nothing", 0.5)
+
+    def test_twenty_stopped_clients(self):
+        clients = [self.flood(3000) for _ in range(20)]
+        time.sleep(0.5)
+        self.others("20 clients read nothing", 0.5)
+        for c in clients:
+            c.socket.settimeout(60)
+            self.assertEqual(c.reply(), self.value.encode())
+
+    def test_a_slow_client(self):
+        c, stop = self.flood(3000), []
+
+        def read_slowly():
+            c.socket.settimeout(60)
+            while not stop:
+                c.socket.recv(10000)
+                time.sleep(0.01)
+
+        reader = threading.Thread(target=read_slowly)
+        reader.start()
+        self.others("one client reads slowly", 0.5)
+        stop.append(1)
+        reader.join()
+
+    def test_a_client_that_asks_much_and_reads(self):
+        c, stop = self.connect(), []
+
+        def ask():
+            while not stop:
+                c.socket.sendall(request("GET", "big") * 1000)
+                for _ in range(1000):
+                    c.reply()
+
+        asking = threading.Thread(target=ask)
+        asking.start()
+        self.others("one client reads 1,000 values of 60 KB at a time", 0.5)
+        stop.append(1)
+        asking.join()
+
+    def test_an_mget_of_many(self):
+        c = self.connect()
+        c.send("MGET", *["big"] * 2000)
+        time.sleep(0.3)
+        self.others("one MGET of 120 MB that nobody reads", 0.5)
+        self.assertEqual(c.reply(), [self.value.encode()] * 2000)
+
+    def test_a_term_while_clients_read_nothing(self):
+        clients = [self.flood(3000) for _ in range(5)]
+        time.sleep(0.3)
+        began = time.monotonic()
+        self.assertEqual(self.end(), 0)
+        took = time.monotonic() - began
+        print(f"TERM while 5 clients read nothing: {took:.2f} s")
+        self.assertLess(took, 10)
+        self.assertEqual(len(clients), 5)
+
+    def test_a_request_without_an_end(self):
+        c = self.connect()
+        c.socket.sendall(b"*100\r\n")
+        try:
+            for _ in range(100):
+                c.socket.sendall(b"$1000000\r\n" + b"x" * 1000000 + b"\r\n")
+        except (ConnectionResetError, BrokenPipeError):
+            pass
+        self.assertLess(self.resident() - self.memory, 64 << 20)
+        self.assertEqual(self.connect().do("PING"), "PONG")
 
 
 class Ends(OnServer):

@@ -36,6 +36,13 @@ class Requests:
         self._data = self._data[self._at :] + data if self._at < len(self._data) else data
         self._at = 0
 
+    def is_empty(self) -> bool:
+        return self._at >= len(self._data)
+
+    def length(self) -> int:
+        """The bytes that are no whole request yet, or were not asked for."""
+        return len(self._data) - self._at
+
     def next(self) -> Optional[List[bytes]]:
         """The words of the next request that is there as a whole, or None; no empty ones."""
         while self._at < len(self._data):

@@ -1,9 +1,14 @@
 """pinkctl serve: the drive of an image at a socket, in the protocol of Redis (version 2).
 
 One thread waits for all connections and for the pipes of one `pink IMAGE serve`. Commands go to the
-drive in the order in which they were read, whoever sent them, and what one round read of all
-connections is committed as a group: a Flush goes out after the changes of a round. The drive
-answers a change when it is on the flash, so no client hears of it before.
+drive in the order in which they were read, and what one round read of all connections is committed
+as a group: a Flush goes out after the changes of a round. The drive answers a change when it is on
+the flash, so no client hears of it before.
+
+No connection can delay the others, or take memory without a bound. Connections take turns of
+`TURN_COMMANDS` commands; no more than about `AHEAD_BYTES` of answers are asked of the drive at a time;
+and a connection that has `CLIENT_BYTES` of replies to take is served again once it has taken some. A
+value that was asked for counts as the longest that the drive has until it has come.
 """
 
 import argparse
@@ -11,6 +16,7 @@ import collections
 import errno
 import functools
 import gc
+import hmac
 import os
 import selectors
 import signal
@@ -19,6 +25,7 @@ import stat
 import struct
 import subprocess
 import sys
+import threading
 import time
 from typing import Callable, Deque, Dict, List, NamedTuple, Optional, Set, Tuple, Union
 
@@ -33,16 +40,33 @@ DELETE, EXIST, FLUSH, REPORT = (
     int(it) for it in (Opcode.DELETE, Opcode.EXIST, Opcode.FLUSH, Opcode.REPORT)
 )
 IF_EXISTS, IF_ABSENT = 1, 2
-SUCCESS, FULL, NO_KEY, KEY_IS_THERE = 0x00, 0x81, 0x87, 0x89
+SUCCESS, NO_KEY, KEY_IS_THERE = 0x00, 0x87, 0x89
 KEY_ROOM = 20
 """Bytes that a key takes in the answer of a List, at most."""
 LIST_BYTES = 65536
 PIPE_BYTES = 1 << 20
 """No more requests are read while this many bytes wait for the drive."""
 CLIENT_BYTES = 1 << 20
-"""No more requests of a connection are read while it has not taken this many bytes of replies."""
+"""No more commands of a connection are begun while its replies have this many bytes, those that have
+not come counted at their most."""
 CLIENT_REPLIES = 4096
 """The same for this many replies that have not come yet."""
+REQUEST_BYTES = 4 << 20
+"""No request is longer, in bytes."""
+COMMAND_BYTES = 64
+"""What a command counts as until it is answered, beside its value."""
+TURN_COMMANDS = 32
+"""Commands of one connection, before another one has its turn."""
+AHEAD_BYTES = 1 << 20
+"""About as many bytes of answers are asked of the drive before they have come,"""
+AHEAD_COMMANDS = 16, 1024
+"""in commands at least and at most this many."""
+GROUP_COMMANDS = 1024
+"""The most commands of the drive between MULTI and EXEC,"""
+GROUP_BYTES = 4 << 20
+"""the most bytes of their words, and of the values that they may read."""
+ROOM_AGAIN = 1 << 20
+"""After the disk of the image was full changes are done again when it has this many free bytes."""
 RECEIVE_BYTES = 65536
 MOST_FRAMES = 16384
 """The most page frames that the program takes."""
@@ -50,8 +74,10 @@ CURSORS = 10000
 """Cursors of SCAN that are kept; the oldest go first."""
 SIGNALS = (signal.SIGTERM, signal.SIGINT, signal.SIGHUP)
 """The signals that end the server."""
-LAST_SECONDS = 5.0
-"""How long the end waits for connections that do not take their replies."""
+LAST_SECONDS = 0.9
+"""How long after the drive's last answer the end waits for connections to take their replies,"""
+END_SECONDS = 5.0
+"""and how long in all."""
 
 
 class Slot:
@@ -79,13 +105,18 @@ class Answer(NamedTuple):
 
 
 Then = Callable[[Answer], None]
+Command = Tuple[int, bytes, int, Optional[Then], int, bytes, int, int]
+"""A command of a request that has begun: opcode, key, size, who takes the record, options, value, namespace and
+the bytes that it counts as."""
+Waiting = Tuple[Optional[Then], Optional["Client"], int]
+"""Who takes the record of a command, whose command it is, and how many bytes it counts as."""
 
 
 class Link:
     """The program that serves the drive, and the commands whose records have not come."""
 
     def __init__(self, program: str, image: str, frames: int) -> None:
-        self.image = image
+        self.image, self.program, self.frames = image, program, frames
         self.process = subprocess.Popen(
             [program, image_word(image), "serve", str(frames)],
             bufsize=0,
@@ -98,7 +129,9 @@ class Link:
         self.input, self.output = self.process.stdin.fileno(), self.process.stdout.fileno()
         os.set_blocking(self.input, False)
         os.set_blocking(self.output, False)
-        self.waiting: Deque[Optional[Then]] = collections.deque()
+        self.waiting: Deque[Waiting] = collections.deque()
+        self.window = AHEAD_COMMANDS[0]
+        self.last_change = 0
         self.out = bytearray()
         self.sent = 0
         self.changes = 0
@@ -107,6 +140,7 @@ class Link:
         self.received = 0
         self._open_changes = False
         self._data = b""
+        self._mean = 4096.0
         self._waited = 0.0
         self._seen = time.monotonic()
 
@@ -118,17 +152,21 @@ class Link:
         then: Optional[Then],
         options: int = 0,
         value: bytes = b"",
+        space: int = 1,
+        client: Optional["Client"] = None,
+        cost: int = 0,
     ) -> None:
         """Sends a command; `then` is called with its record."""
         front = key[:KEY_BYTES].ljust(KEY_BYTES, b"\0")
         number = self.sent & 0xFFFF
         length = min(len(key), 255)
-        self.out += ENTRY.pack(opcode, number, 1, front[:8], size, length, options, front[8:])
+        self.out += ENTRY.pack(opcode, number, space, front[:8], size, length, options, front[8:])
         self.out += value
         self.sent += 1
-        self.waiting.append(then)
+        self.waiting.append((then, client, cost))
         if opcode in (STORE, DELETE):
             self.changes += 1
+            self.last_change = self.sent
             self._open_changes = True
         else:  # any other command commits what came before it
             self._open_changes = False
@@ -138,6 +176,20 @@ class Link:
         if self._open_changes:
             self.flushes += 1
             self.send(FLUSH, b"", 0, None)
+
+    def is_ahead(self) -> bool:
+        """Whether enough is asked of the drive for now."""
+        return len(self.waiting) >= self.window or len(self.out) >= PIPE_BYTES
+
+    def has_changes(self) -> bool:
+        """Whether a change has not been answered."""
+        return self.last_change > self.sent - len(self.waiting)
+
+    def _set_window(self, bytes_: int, records: int) -> None:
+        """How many commands are about `AHEAD_BYTES` of answers, by the length of those that came."""
+        self._mean = (self._mean + bytes_ / records) / 2
+        least, most = AHEAD_COMMANDS
+        self.window = max(least, min(most, int(AHEAD_BYTES / self._mean)))
 
     def pass_time(self) -> None:
         """Counts the time since the last call for each command that waits."""
@@ -179,29 +231,40 @@ class Link:
             return
         self.received += len(data)
         data, at = self._data + data if self._data else data, 0
-        while len(data) - at >= RECORD.size:
-            result, _, _, marks, _, length = RECORD.unpack_from(data, at)
-            end = at + RECORD.size + length
+        waiting, unpack, head = self.waiting, RECORD.unpack_from, RECORD.size
+        before = self.sent - len(waiting)
+        while len(data) - at >= head:
+            result, _, _, marks, _, length = unpack(data, at)
+            end = at + head + length
             if end > len(data):
                 break
-            then = self.waiting.popleft()
+            then, client, cost = waiting.popleft()
+            if client:
+                client.owed -= cost
+                if client.is_stopped:
+                    client.server.to_write.add(client)
             if then:
-                then(Answer(marks >> 17 & 0xFF, result, data[at + RECORD.size : end]))
+                then(Answer(marks >> 17 & 0xFF, result, data[at + head : end]))
             at = end
         self._data = data[at:]
+        records = self.sent - len(waiting) - before
+        if records:
+            self._set_window(at, records)
 
-    def report_now(self) -> Report:
-        """The drive's numbers, waited for; the first command of a session."""
+    def reports_now(self) -> List[Report]:
+        """The drive's numbers in each namespace, waited for; the first commands of a session."""
         os.set_blocking(self.output, True)
         answers: List[Answer] = []
-        self.send(REPORT, b"", 0, answers.append)
+        for space in range(1, pinkdrive.NAMESPACES + 1):
+            self.send(REPORT, b"", 0, answers.append, space=space)
         self.write()
-        while not answers and not self.over:
+        while len(answers) < pinkdrive.NAMESPACES and not self.over:
             self.read()
-        if not answers:
+        if self.over:
             raise pinkdrive.ended(self.process.wait(), self.image)
         os.set_blocking(self.output, False)
-        return Report._make(struct.unpack("<16I", answers[0].data))
+        found = [it.data for it in answers if it.status == SUCCESS]
+        return [Report._make(struct.unpack("<16I", it)) for it in found]
 
     def end(self) -> int:
         """Ends the session, and returns the status of the program."""
@@ -211,13 +274,13 @@ class Link:
         return self.process.wait()
 
 
-def open_link(program: str, image: str, frames: int, seconds: float) -> Tuple[Link, Report]:
+def open_link(program: str, image: str, frames: int, seconds: float) -> Tuple[Link, List[Report]]:
     """Opens the drive; waits up to this many seconds while another process has the image open."""
     last = time.monotonic() + seconds
     while True:
         link = Link(program, image, frames)
         try:
-            return link, link.report_now()
+            return link, link.reports_now()
         except pinkdrive.ImageInUse:
             link.end()
             if time.monotonic() > last:
@@ -236,12 +299,25 @@ class Client:
         self.socket = connection
         self.number = number
         self.name = b""
+        self.space = 1
+        self.asked = Asked(server, self, 1)
+        self.is_known = server.password is None
         self.requests = resp.Requests()
+        self.pending: Optional[List[bytes]] = None  # a request that has to wait
+        self.group: Optional[Group] = None
+        self.queue: Deque[Command] = collections.deque()  # of a request that has begun
+        self.is_busy = False  # the request that has begun asks more after its answers
         self.slots: Deque[Slot] = collections.deque()
         self.out = bytearray()
+        self.owed = 0  # bytes of the answers that have not come, at their most
+        self.turn_end = 0  # in commands that were sent
+        self.may_send = False  # there was room for a request, and none of its commands is sent
+        self.is_held = False  # it waits for its turn
+        self.is_stopped = False  # it goes on when its replies have been taken
         self.ending = False  # no more requests are taken, and it is closed after the last reply
         self.closed = False
         self.events = selectors.EVENT_READ
+        self.may_read = True  # its next request is waited for, and nothing else
 
     def collect(self) -> None:
         """Moves the replies that have come, up to the first that has not."""
@@ -250,8 +326,15 @@ class Client:
             out += slots.popleft().reply or b""
         self.server.to_write.add(self)
 
-    def is_full(self) -> bool:
-        return len(self.slots) >= CLIENT_REPLIES or len(self.out) >= CLIENT_BYTES
+    def has_room(self) -> bool:
+        """Whether it may begin one more command, or, if none is in the queue, one more request."""
+        if len(self.out) + self.owed < CLIENT_BYTES and (self.queue or len(self.slots) < CLIENT_REPLIES):
+            return True
+        return self.is_changing()  # a connection that takes no replies does not keep the others from a copy
+
+    def is_changing(self) -> bool:
+        """Whether a request that changes has begun, and not all of its commands are sent."""
+        return self.is_busy or bool(self.queue) and self.queue[0][0] in (STORE, DELETE)
 
     def receive(self) -> None:
         try:
@@ -260,29 +343,110 @@ class Client:
             return
         except OSError:
             data = b""
-        if data:
-            self.requests.feed(data)
-            self.work()
-        else:
+        if not data:
             self.ending = True
             self.server.to_write.add(self)
+            return
+        self.requests.feed(data)
+        if self.server.held:
+            self.server.hold(self)
+        else:
+            self.work()
+
+    # Turns.
 
     def work(self) -> None:
-        """Does the requests that have come, while there is room for more."""
-        server = self.server
-        while not self.ending:
-            if self.is_full() or server.is_full():
-                server.held.add(self)
+        """Has a turn: goes on with the requests that have come."""
+        self.is_held = self.is_stopped = False
+        link, requests = self.server.link, self.requests
+        self.turn_end = link.sent + TURN_COMMANDS
+        turns = TURN_COMMANDS
+        while self.queue or not (self.is_busy or self.ending):
+            if not turns or link.sent >= self.turn_end or link.is_ahead():
+                self.server.hold(self)
                 break
-            try:
-                words = self.requests.next()
-            except resp.ProtocolError as fault:
-                self.say(error(f"ERR Protocol error: {fault}"))
-                self.ending = True
+            if not self.has_room():
+                self.is_stopped = True
                 break
-            if words is None:
+            turns -= 1
+            if self.queue:
+                self._send(*self.queue.popleft())
+                continue
+            self.may_send = True
+            if not self._next_request() or requests.is_empty():
                 break
-            server.do(self, words)
+        self.may_send = False
+        if self.is_held or self.is_stopped or self.is_busy or self.pending or not self.may_read:
+            self.may_read = False
+            self.server.to_write.add(self)
+
+    def _next_request(self) -> bool:
+        """Does the next request; False if there is none yet, or it has to wait."""
+        try:
+            words = self.pending or self.requests.next()
+            if words is None and self.requests.length() > REQUEST_BYTES:
+                raise resp.ProtocolError(f"a request has at most {REQUEST_BYTES} bytes")
+        except resp.ProtocolError as fault:
+            self.say(error(f"ERR Protocol error: {fault}"))
+            self.ending = True
+            return False
+        self.pending = None
+        if words is None:
+            return False
+        if self.server.copy and words[0].upper() in CHANGES:
+            self.pending = words
+            self.server.paused.add(self)
+            return False
+        self.server.do(self, words)
+        return True
+
+    def ask(
+        self,
+        opcode: int,
+        key: bytes,
+        size: int,
+        then: Optional[Then],
+        options: int = 0,
+        value: bytes = b"",
+    ) -> None:
+        """A command for the drive: sent now, or when it is the connection's turn again."""
+        cost = COMMAND_BYTES + len(value)
+        if opcode == RETRIEVE and size:
+            cost += self.server.greatest
+        elif opcode == LIST:
+            cost += size
+        if self.may_send or self.server.is_grouped or self._has_turn():
+            self.may_send = False
+            self.owed += cost
+            send = self.server.link.send
+            send(opcode, key, size, then, options, value, self.space, self, cost)
+            return
+        self.queue.append((opcode, key, size, then, options, value, self.space, cost))
+        if not self.is_stopped:
+            self.server.hold(self)
+
+    def _has_turn(self) -> bool:
+        """Whether one more command of the request that has begun may be sent now."""
+        if self.queue or len(self.out) + self.owed >= CLIENT_BYTES:
+            return False
+        return self.server.link.sent < self.turn_end and not self.server.link.is_ahead()
+
+    def _send(
+        self,
+        opcode: int,
+        key: bytes,
+        size: int,
+        then: Optional[Then],
+        options: int,
+        value: bytes,
+        space: int,
+        cost: int,
+    ) -> None:
+        """Sends a command of the queue."""
+        self.owed += cost
+        self.server.link.send(opcode, key, size, then, options, value, space, self, cost)
+
+    # Replies.
 
     def say(self, reply: bytes) -> None:
         """A reply that is known immediately."""
@@ -300,6 +464,14 @@ class Client:
         self.slots.append(slot)
         return slot
 
+    def leave(self) -> None:
+        """The connection is of no more use: what it has asked is not begun."""
+        self.out.clear()
+        self.slots.clear()
+        self.queue.clear()
+        self.is_busy = False
+        self.ending = True
+
     def write(self) -> None:
         """Writes what the connection takes, and closes it after its last reply."""
         try:
@@ -308,15 +480,30 @@ class Client:
         except (BlockingIOError, InterruptedError):
             pass
         except OSError:
-            self.out.clear()
-            self.slots.clear()
-            self.ending = True
-        if self.ending and not self.out and not self.slots:
+            self.leave()
+        if self.may_read and not self.out and not (self.ending or self.is_held or self.is_stopped):
+            return  # the most common case: nothing to wait for but its next request
+        if self.ending and not self.out and not self.slots and not self.queue:
             self.server.drop(self)
             return
-        reads = not self.ending and self not in self.server.held
+        if self.is_stopped and self.has_room():
+            self.is_stopped = False
+            self.server.hold(self)
+        has_more = self.is_held or self.is_stopped or self.is_busy or self.pending is not None
+        reads = not self.ending and not has_more
         events = selectors.EVENT_READ * reads | selectors.EVENT_WRITE * bool(self.out)
         self.server.watch(self, events)
+        self.may_read = events == selectors.EVENT_READ
+
+
+class Group:
+    """The requests after MULTI."""
+
+    def __init__(self) -> None:
+        self.requests: List[List[bytes]] = []
+        self.commands = 0
+        self.bytes = 0
+        self.fault = b""  # the first refusal: nothing of the group is done
 
 
 Handler = Callable[["Server", Client, List[bytes]], None]
@@ -332,24 +519,40 @@ def command(name: str, least: int, most: Optional[int]) -> Callable[[Handler], H
     return add
 
 
+CHANGES = {b"SET", b"SETNX", b"MSET", b"DEL", b"UNLINK", b"FLUSHDB", b"EXEC"}
+"""The requests that may change the drive."""
+
+
 class Server:
     """The drive, its socket and its connections."""
 
-    def __init__(self, link: Link, report: Report, listener: socket.socket) -> None:
+    def __init__(
+        self,
+        link: Link,
+        reports: List[Report],
+        listener: socket.socket,
+        password: Optional[bytes] = None,
+        backups: Optional[str] = None,
+    ) -> None:
         self.link = link
         self.listener = listener
-        self.limits: Optional[pinkdrive.Limits] = None
-        shape = pinkdrive.shape_of(link.image)
-        if shape:
-            self.limits = pinkdrive.Limits(shape, report.limit)
+        self.password = password
+        self.backups = backups
+        self.limits = [it.limit for it in reports]
+        self.shape = pinkdrive.shape_of(link.image)
+        self.greatest = self.shape.greatest_value if self.shape else pinkdrive.GREATEST_VALUE
         self.selector = selectors.DefaultSelector()
         self.clients: Dict[int, Client] = {}
         self.to_write: Set[Client] = set()
-        self.held: Set[Client] = set()
+        self.held: Deque[Client] = collections.deque()
+        self.is_grouped = False  # the commands of a group go out without another client's between them
+        self.copy: Optional[Copy] = None
+        self.paused: Set[Client] = set()  # their changes wait for the end of a copy
+        self.is_full_disk = False
         self.cursors: "collections.OrderedDict[int, bytes]" = collections.OrderedDict()
         self.last_cursor = 0
         self.connections = 0
-        self.calls: "collections.Counter[str]" = collections.Counter()
+        self.calls: "collections.Counter[bytes]" = collections.Counter()
         self.began = time.time()
         self.ending = False
         self._pipe_events = 0
@@ -371,17 +574,20 @@ class Server:
         self.listener.setblocking(False)
         self.selector.register(self.listener, selectors.EVENT_READ, self._accept)
         self.selector.register(self._wakes, selectors.EVENT_READ, self._woken)
-        self.selector.register(self.link.output, selectors.EVENT_READ, self.link.read)
-        while not self.link.over and not self.ending:
+        self.selector.register(self.link.output, selectors.EVENT_READ, self._read_link)
+        while not self.ending and (not self.link.over or self._reopen()):
             self._round(None)
         status = self._last_replies() if self.link.over else self._finish()
         for client in list(self.clients.values()):
             self.drop(client)
         return status
 
+    def _read_link(self) -> None:
+        self.link.read()
+
     def _round(self, seconds: Optional[float]) -> None:
         """Waits, reads what came, has its changes committed, and writes what can be written."""
-        ready = self.selector.select(seconds)
+        ready = self.selector.select(0 if self.held and not self.link.is_ahead() else seconds)
         self.link.pass_time()
         for key, events in ready:
             if isinstance(key.data, Client):
@@ -391,25 +597,32 @@ class Server:
                     self.to_write.add(key.data)
             elif key.data:
                 key.data()
-        if self.held:
-            self._resume()
+        if self.copy:
+            self._go_on_with_copy(self.copy)
+        self._take_turns()
         self.link.end_group()
         self.link.write()
         self._watch_pipe()
         while self.to_write:
             self.to_write.pop().write()
 
-    def _resume(self) -> None:
-        """Goes on with the connections that were held, if there is room again."""
-        if self.is_full():
+    def hold(self, client: Client) -> None:
+        """Its next turn comes after those of the others that wait."""
+        if client.is_held or client.closed:
             return
-        held, self.held = self.held, set()
-        for client in held:
-            client.work()
-            self.to_write.add(client)
+        client.is_held = True
+        client.may_read = False
+        self.held.append(client)
+        self.to_write.add(client)
 
-    def is_full(self) -> bool:
-        return len(self.link.out) >= PIPE_BYTES
+    def _take_turns(self) -> None:
+        """Goes on with the connections that were held, while there is room for more commands."""
+        while self.held and not self.link.is_ahead():
+            client = self.held.popleft()
+            client.is_held = False
+            if not client.closed:
+                client.work()
+                self.to_write.add(client)
 
     def watch(self, client: Client, events: int) -> None:
         """Waits for these events of a connection."""
@@ -451,9 +664,10 @@ class Server:
             return
         self.watch(client, 0)
         client.closed = True
+        client.queue.clear()
         client.socket.close()
         self.clients.pop(client.number, None)
-        self.held.discard(client)
+        self.paused.discard(client)
 
     def _woken(self) -> None:
         try:
@@ -464,6 +678,72 @@ class Server:
     def _end_soon(self, number: int, frame: object) -> None:
         self.ending = True
 
+    # A copy of the image. Changes wait until it is made, and reads go on: they do not write to the image.
+
+    def begin_copy(self, copy: "Copy") -> None:
+        """From now on changes wait."""
+        self.copy = copy
+
+    def _go_on_with_copy(self, copy: "Copy") -> None:
+        if copy.thread is None:
+            others = (it for it in self.clients.values() if it is not copy.client)
+            if not any(it.is_changing() for it in others) and not self.link.has_changes() and not self.link.out:
+                copy.start(self.link.image, self._wake)
+        elif copy.is_done:
+            copy.thread.join()
+            copy.client.is_busy = False
+            copy.slot.fill(error(copy.fault) if copy.fault else OK)
+            self.copy = None
+            self.hold(copy.client)
+            for client in self.paused:
+                self.hold(client)
+            self.paused.clear()
+
+    # A full disk. The program ends when a write to the image fails; a new one reads what was answered.
+
+    def _reopen(self) -> bool:
+        """Goes on with a new program, for reading, if the disk of the image is full; False if it is not."""
+        if not pinkdrive._no_space(self.link.image):
+            return False
+        old, frames = self.link, self.link.frames
+        self._fail_waiting(f"ERR {pinkdrive._no_space(old.image)}: this command may have been done or not")
+        self.selector.unregister(old.output)
+        if self._pipe_events:
+            self.selector.unregister(old.input)
+            self._pipe_events = 0
+        old.end()
+        try:
+            self.link, _ = open_link(old.program, old.image, frames, 5)
+        except pinkdrive.DriveError:
+            self.link = old
+            return False
+        self.is_full_disk = True
+        self.selector.register(self.link.output, selectors.EVENT_READ, self._read_link)
+        print(f"pinkctl serve: there is no space left on the disk of {old.image}: changes are refused", file=sys.stderr)
+        return True
+
+    def _fail_waiting(self, text: str) -> None:
+        """All that has begun is answered with an error."""
+        for client in list(self.clients.values()):
+            client.queue.clear()
+            client.owed = 0
+            for slot in client.slots:
+                slot.reply = slot.reply or error(text)
+            if client.is_busy and not (self.copy and self.copy.client is client):
+                client.is_busy = False
+            client.collect()
+            self.hold(client)
+
+    def changes_fault(self) -> Optional[str]:
+        """Why no change is done now."""
+        if not self.is_full_disk:
+            return None
+        system = os.statvfs(self.link.image)
+        self.is_full_disk = system.f_bavail * system.f_frsize < ROOM_AGAIN
+        if not self.is_full_disk:
+            return None
+        return f"ERR there is no space left on the disk of {self.link.image}: until there is, the drive is only read"
+
     # The end.
 
     def _finish(self) -> int:
@@ -473,10 +753,16 @@ class Server:
         for client in self.clients.values():
             client.ending = True
             self.to_write.add(client)
+        end = time.monotonic() + END_SECONDS
         last = time.monotonic() + LAST_SECONDS
-        while self.clients and not self.link.over and time.monotonic() < last:
+        while self.clients and not self.link.over and time.monotonic() < min(last, end):
+            before = self.link.received
             self._round(0.05)
-        while self.link.waiting and not self.link.over:
+            if self.link.received != before or self.copy:
+                last = time.monotonic() + LAST_SECONDS
+        for client in self.clients.values():
+            client.leave()
+        while (self.link.waiting or self.copy) and not self.link.over:
             self._round(0.05)
         if self.link.over:
             return self._last_replies()
@@ -488,12 +774,9 @@ class Server:
         self.selector.unregister(self.link.output)
         status = self.link.end()
         cause = pinkdrive.ended(status, self.link.image)
-        text = f"ERR the drive ended ({cause}); this command may have been done or not"
+        self._fail_waiting(f"ERR the drive ended ({cause}); this command may have been done or not")
         for client in list(self.clients.values()):
-            for slot in client.slots:
-                slot.reply = slot.reply or error(text)
             client.ending = True
-            client.collect()
             client.write()
         print(f"pinkctl serve: the drive ended: {cause}", file=sys.stderr)
         return Exit.PROGRAM
@@ -504,29 +787,48 @@ class Server:
         """Does a request: its reply is known immediately, or a slot waits for it."""
         name = words[0].upper()
         known = COMMANDS.get(name)
-        if known is None:
-            self.calls["unknown"] += 1
-            self._refuse(client, name, words[0])
-            return
-        handler, least, most = known
-        self.calls[name.decode()] += 1
-        if len(words) < least or (most is not None and len(words) > most):
+        self.calls[name if known else b"UNKNOWN"] += 1
+        fault = None if known and client.is_known and not self.is_full_disk else self._fault_of(client, name, words)
+        if known and fault is None:
+            handler, least, most = known
+            if least <= len(words) and (most is None or len(words) <= most):
+                if client.group and name not in (b"EXEC", b"DISCARD", b"MULTI", b"QUIT"):
+                    queue_up(self, client, name, words)
+                else:
+                    handler(self, client, words)
+                return
             text = name.decode().lower()
-            client.say(error(f"ERR wrong number of arguments for '{text}' command"))
-            return
-        handler(self, client, words)
+            fault = error(f"ERR wrong number of arguments for '{text}' command")
+        assert fault
+        client.say(fault)
+        if client.group:
+            client.group.fault = client.group.fault or fault
 
-    def _refuse(self, client: Client, name: bytes, word: bytes) -> None:
-        text = word[:64].decode("utf-8", "replace")
-        names = " ".join(sorted(it.decode() for it in COMMANDS))
-        client.say(error(f"ERR unknown command '{text}'; the drive has {names}"))
+    def _fault_of(self, client: Client, name: bytes, words: List[bytes]) -> Optional[bytes]:
+        """Why a request is refused whatever its words are."""
+        if name not in COMMANDS:
+            return self._unknown(client, name, words[0])
+        if not client.is_known and name not in (b"AUTH", b"HELLO", b"QUIT"):
+            return error("NOAUTH Authentication required.")
+        if self.is_full_disk and name in CHANGES:
+            fault = self.changes_fault()
+            return error(fault) if fault else None
+        return None
+
+    def _unknown(self, client: Client, name: bytes, word: bytes) -> bytes:
         if name in (b"POST", b"HOST:"):  # a browser that was led here
             client.ending = True
+        text = word[:64].decode("utf-8", "replace")
+        names = " ".join(sorted(it.decode() for it in COMMANDS))
+        return error(f"ERR unknown command '{text}'; the drive has {names}")
 
-    def refusal(self, status: int, opcode: int, key: bytes, size: int) -> bytes:
+    def refusal(self, status: int, opcode: int, key: bytes, size: int, space: int = 1) -> bytes:
         """The reply of a status other than success."""
-        text = pinkdrive.refusal_text(status, opcode, key, size, self.limits)
-        return error(("OOM " if status == FULL else "ERR ") + text)
+        limits = None
+        if self.shape:
+            live = self.limits[space - 1] if space <= len(self.limits) else 0
+            limits = pinkdrive.Limits(self.shape, live)
+        return error("ERR " + pinkdrive.refusal_text(status, opcode, key, size, limits, space))
 
     def next_cursor(self, start: bytes) -> int:
         """A cursor that goes on at this key."""
@@ -540,54 +842,50 @@ class Server:
 # Commands that ask the drive.
 
 
-def value_or_nil(server: Server, key: bytes, size: int, answer: Answer) -> bytes:
-    if answer.status == SUCCESS:
-        return bulk(answer.data)
-    return NIL if answer.status == NO_KEY else server.refusal(answer.status, RETRIEVE, key, size)
+class Asked(NamedTuple):
+    """Whose request asks the drive, and in which namespace."""
+
+    server: Server
+    client: Client
+    space: int
+
+    def refusal(self, status: int, opcode: int, key: bytes, size: int) -> bytes:
+        return self.server.refusal(status, opcode, key, size, self.space)
+
+    def value_or_nil(self, key: bytes, answer: Answer) -> bytes:
+        if answer.status == SUCCESS:
+            return bulk(answer.data)
+        size = pinkdrive.GREATEST_VALUE
+        return NIL if answer.status == NO_KEY else self.refusal(answer.status, RETRIEVE, key, size)
 
 
 @command("GET", 2, 2)
 def get(server: Server, client: Client, words: List[bytes]) -> None:
-    key, slot = words[1], client.slot()
-    size = pinkdrive.GREATEST_VALUE
-    server.link.send(
-        RETRIEVE, key, size, lambda answer: slot.fill(value_or_nil(server, key, size, answer))
+    key, slot, asked = words[1], client.slot(), client.asked
+    client.ask(
+        RETRIEVE,
+        key,
+        pinkdrive.GREATEST_VALUE,
+        lambda answer: slot.fill(asked.value_or_nil(key, answer)),
     )
-
-
-class Gathered:
-    """The replies of several commands of the drive, as one: an array, or a sum."""
-
-    def __init__(self, slot: Slot, count: int, sums: bool) -> None:
-        self.slot = slot
-        self.parts: List[Union[bytes, int]] = []
-        self.count = count
-        self.sums = sums
-
-    def take(self, part: Union[bytes, int]) -> None:
-        """A value or an error, or a number of the sum; they come in the order of the commands."""
-        self.parts.append(part)
-        if len(self.parts) < self.count:
-            return
-        failed = [it for it in self.parts if isinstance(it, bytes) and it[:1] == b"-"]
-        if failed:
-            self.slot.fill(failed[0])
-        elif self.sums:
-            self.slot.fill(integer(sum(it for it in self.parts if isinstance(it, int))))
-        else:
-            self.slot.fill(array(self.parts))
 
 
 @command("MGET", 2, None)
 def get_many(server: Server, client: Client, words: List[bytes]) -> None:
-    gathered = Gathered(client.slot(), len(words) - 1, False)
-    size = pinkdrive.GREATEST_VALUE
+    """The values are sent as they come, so that they are not all in memory."""
+    asked = client.asked
+    for key in words[1:]:
+        if not 1 <= len(key) <= KEY_BYTES:
+            client.say(asked.refusal(0x86, RETRIEVE, key, 0))
+            return
+    client.say(b"*%d\r\n" % (len(words) - 1))
 
-    def found(key: bytes, answer: Answer) -> None:
-        gathered.take(value_or_nil(server, key, size, answer))
+    def found(slot: Slot, key: bytes, answer: Answer) -> None:
+        slot.fill(asked.value_or_nil(key, answer))
 
     for key in words[1:]:
-        server.link.send(RETRIEVE, key, size, functools.partial(found, key))
+        then = functools.partial(found, client.slot(), key)
+        client.ask(RETRIEVE, key, pinkdrive.GREATEST_VALUE, then)
 
 
 def set_options(words: List[bytes]) -> Union[Tuple[int, bool], str]:
@@ -612,17 +910,17 @@ def set_value(server: Server, client: Client, words: List[bytes]) -> None:
             client.say(error(parsed))
             return
         options, before = parsed
-    slot = client.slot()
     if before:
-        store_and_get(server, slot, key, value, options)
-        return
-    store(server, slot, key, value, options, OK, NIL)
+        store_and_get(client.asked, key, value, options)
+    else:
+        store(client.asked, key, value, options, OK, NIL)
 
 
 def store(
-    server: Server, slot: Slot, key: bytes, value: bytes, options: int, done: bytes, not_done: bytes
+    asked: Asked, key: bytes, value: bytes, options: int, done: bytes, not_done: bytes
 ) -> None:
     """A Store whose reply is `done`, or `not_done` if its options forbade it."""
+    slot = asked.client.slot()
 
     def stored(answer: Answer) -> None:
         status = answer.status
@@ -631,43 +929,52 @@ def store(
         elif options and status in (NO_KEY, KEY_IS_THERE):
             slot.fill(not_done)
         else:
-            slot.fill(server.refusal(status, STORE, key, len(value)))
+            slot.fill(asked.refusal(status, STORE, key, len(value)))
 
-    server.link.send(STORE, key, len(value), stored, options, value)
+    asked.client.ask(STORE, key, len(value), stored, options, value)
 
 
-def store_and_get(server: Server, slot: Slot, key: bytes, value: bytes, options: int) -> None:
+def store_and_get(asked: Asked, key: bytes, value: bytes, options: int) -> None:
     """SET with GET: the value before, or an error of either command."""
-    size = pinkdrive.GREATEST_VALUE
+    size, slot = pinkdrive.GREATEST_VALUE, asked.client.slot()
     old: List[bytes] = []
 
     def stored(answer: Answer) -> None:
         fine = answer.status in (SUCCESS, NO_KEY, KEY_IS_THERE)
-        slot.fill(old[0] if fine else server.refusal(answer.status, STORE, key, len(value)))
+        slot.fill(old[0] if fine else asked.refusal(answer.status, STORE, key, len(value)))
 
-    server.link.send(
-        RETRIEVE, key, size, lambda answer: old.append(value_or_nil(server, key, size, answer))
-    )
-    server.link.send(STORE, key, len(value), stored, options, value)
+    ask = asked.client.ask
+    ask(RETRIEVE, key, size, lambda answer: old.append(asked.value_or_nil(key, answer)))
+    ask(STORE, key, len(value), stored, options, value)
 
 
 @command("SETNX", 3, 3)
 def set_absent(server: Server, client: Client, words: List[bytes]) -> None:
-    store(server, client.slot(), words[1], words[2], IF_ABSENT, integer(1), integer(0))
+    store(client.asked, words[1], words[2], IF_ABSENT, integer(1), integer(0))
+
+
+class Sum:
+    """The replies of several commands of the drive as one: how many succeeded, or the first refusal."""
+
+    def __init__(self, asked: Asked, opcode: int, count: int, done: Optional[bytes] = None) -> None:
+        self.asked, self.slot = asked, asked.client.slot()
+        self.opcode, self.count, self.done = opcode, count, done
+        self.sum, self.fault = 0, b""
+
+    def take(self, key: bytes, size: int, answer: Answer) -> None:
+        self.count -= 1
+        self.sum += answer.status == SUCCESS
+        if answer.status not in (SUCCESS, NO_KEY) and not self.fault:
+            self.fault = self.asked.refusal(answer.status, self.opcode, key, size)
+        if not self.count:
+            self.slot.fill(self.fault or self.done or integer(self.sum))
 
 
 def count(server: Server, client: Client, opcode: int, keys: List[bytes]) -> None:
     """How many of these keys a command succeeds for."""
-    gathered = Gathered(client.slot(), len(keys), True)
-
-    def done(key: bytes, answer: Answer) -> None:
-        if answer.status in (SUCCESS, NO_KEY):
-            gathered.take(int(answer.status == SUCCESS))
-        else:
-            gathered.take(server.refusal(answer.status, opcode, key, 0))
-
+    total = Sum(client.asked, opcode, len(keys))
     for key in keys:
-        server.link.send(opcode, key, 0, functools.partial(done, key))
+        client.ask(opcode, key, 0, functools.partial(total.take, key, 0))
 
 
 @command("DEL", 2, None)
@@ -685,31 +992,68 @@ def exists(server: Server, client: Client, words: List[bytes]) -> None:
     count(server, client, EXIST, words[1:])
 
 
+@command("MSET", 3, None)
+def set_many(server: Server, client: Client, words: List[bytes]) -> None:
+    """The values in their order; after a refusal the others are stored all the same."""
+    if len(words) % 2 == 0:
+        client.say(error("ERR wrong number of arguments for 'mset' command"))
+        return
+    total = Sum(client.asked, STORE, len(words) // 2, OK)
+    for key, value in zip(words[1::2], words[2::2]):
+        then = functools.partial(total.take, key, len(value))
+        client.ask(STORE, key, len(value), then, 0, value)
+
+
+@command("FLUSHDB", 1, 2)
+def delete_all(server: Server, client: Client, words: List[bytes]) -> None:
+    """Deletes the keys of the namespace that are there when it comes to them, in their order."""
+    if len(words) > 1 and words[1].upper() not in (b"SYNC", b"ASYNC"):
+        client.say(error("ERR syntax error"))
+        return
+    slot, asked = client.slot(), client.asked
+
+    def listed(answer: Answer) -> None:
+        keys = pinkdrive._keys_in(answer.data) if answer.status == SUCCESS else []
+        for key in keys:
+            client.ask(DELETE, key, 0, None)
+        start = after(keys[-1]) if keys else None
+        if start is not None:
+            client.ask(LIST, start, LIST_BYTES, listed)
+            return
+        client.is_busy = False
+        fine = answer.status == SUCCESS
+        slot.fill(OK if fine else asked.refusal(answer.status, LIST, b"", LIST_BYTES))
+        server.hold(client)
+
+    client.is_busy = True
+    client.ask(LIST, b"", LIST_BYTES, listed)
+
+
 @command("TYPE", 2, 2)
 def type_of(server: Server, client: Client, words: List[bytes]) -> None:
-    slot, key = client.slot(), words[1]
+    slot, key, asked = client.slot(), words[1], client.asked
     replies = {SUCCESS: b"+string\r\n", NO_KEY: b"+none\r\n"}
-    server.link.send(
+    client.ask(
         EXIST,
         key,
         0,
         lambda answer: slot.fill(
-            replies.get(answer.status) or server.refusal(answer.status, EXIST, key, 0)
+            replies.get(answer.status) or asked.refusal(answer.status, EXIST, key, 0)
         ),
     )
 
 
 @command("STRLEN", 2, 2)
 def length(server: Server, client: Client, words: List[bytes]) -> None:
-    slot, key = client.slot(), words[1]
+    slot, key, asked = client.slot(), words[1], client.asked
 
     def found(answer: Answer) -> None:
         if answer.status in (SUCCESS, NO_KEY):
             slot.fill(integer(answer.result if answer.status == SUCCESS else 0))
         else:
-            slot.fill(server.refusal(answer.status, RETRIEVE, key, 0))
+            slot.fill(asked.refusal(answer.status, RETRIEVE, key, 0))
 
-    server.link.send(RETRIEVE, key, 0, found)
+    client.ask(RETRIEVE, key, 0, found)
 
 
 def after(key: bytes) -> Optional[bytes]:
@@ -759,13 +1103,13 @@ def scan(server: Server, client: Client, words: List[bytes]) -> None:
     if isinstance(parsed, str):
         client.say(error(parsed))
         return
-    asked = parsed
+    asked, by = parsed, client.asked
     slot, size = client.slot(), 4 + KEY_ROOM * asked.most
     prefix = resp.fixed_prefix(asked.pattern)
 
     def listed(answer: Answer) -> None:
         if answer.status != SUCCESS:
-            slot.fill(server.refusal(answer.status, LIST, asked.start, size))
+            slot.fill(by.refusal(answer.status, LIST, asked.start, size))
             return
         keys = pinkdrive._keys_in(answer.data)
         start = after(keys[-1]) if keys and size - len(answer.data) < KEY_ROOM else None
@@ -776,30 +1120,32 @@ def scan(server: Server, client: Client, words: List[bytes]) -> None:
         found = array([bulk(it) for it in fits]) if asked.kind == b"string" else NO_ITEMS
         slot.fill(array([bulk(b"%d" % cursor), found]))
 
-    server.link.send(LIST, asked.start, size, listed)
+    client.ask(LIST, asked.start, size, listed)
 
 
-def report(server: Server, slot: Slot, told: Callable[[Report], bytes]) -> None:
-    """A reply from the drive's numbers."""
+def report(server: Server, client: Client, told: Callable[[Report], bytes]) -> None:
+    """A reply from the drive's numbers in the namespace."""
+    slot, asked = client.slot(), client.asked
 
     def found(answer: Answer) -> None:
         if answer.status == SUCCESS:
             slot.fill(told(Report._make(struct.unpack("<16I", answer.data))))
         else:
-            slot.fill(server.refusal(answer.status, REPORT, b"", 0))
+            slot.fill(asked.refusal(answer.status, REPORT, b"", 0))
 
-    server.link.send(REPORT, b"", 0, found)
+    client.ask(REPORT, b"", 0, found)
 
 
 @command("DBSIZE", 1, 1)
 def count_keys(server: Server, client: Client, words: List[bytes]) -> None:
-    report(server, client.slot(), lambda numbers: integer(numbers.keys))
+    report(server, client, lambda numbers: integer(numbers.keys))
 
 
 @command("INFO", 1, None)
 def info(server: Server, client: Client, words: List[bytes]) -> None:
     wanted = {it.decode("utf-8", "replace").lower() for it in words[1:]}
-    report(server, client.slot(), lambda numbers: bulk(info_text(server, numbers, wanted)))
+    database = client.space - 1
+    report(server, client, lambda numbers: bulk(info_text(server, numbers, wanted, database)))
 
 
 def resident_bytes(process: Union[int, str]) -> int:
@@ -811,9 +1157,9 @@ def resident_bytes(process: Union[int, str]) -> int:
         return 0
 
 
-def info_text(server: Server, numbers: Report, wanted: Set[str]) -> bytes:
-    """The sections of INFO, all of them if none is named."""
-    link, shape = server.link, server.limits.shape if server.limits else None
+def info_text(server: Server, numbers: Report, wanted: Set[str], database: int) -> bytes:
+    """The sections of INFO, all of them if none is named; the numbers are those of a namespace."""
+    link, shape = server.link, server.shape
     memory = resident_bytes(link.process.pid) + resident_bytes("self")
     written = link.written_bytes()
     sections: Dict[str, Dict[str, object]] = {
@@ -844,9 +1190,12 @@ def info_text(server: Server, numbers: Report, wanted: Set[str]) -> bytes:
             **{f"report_{name}": number for name, number in numbers._asdict().items()},
         },
         "Commandstats": {
-            f"cmdstat_{name.lower()}": f"calls={calls}" for name, calls in server.calls.items()
+            f"cmdstat_{name.decode().lower()}": f"calls={calls}"
+            for name, calls in server.calls.items()
         },
-        "Keyspace": {"db0": f"keys={numbers.keys},expires=0,avg_ttl=0"} if numbers.keys else {},
+        "Keyspace": (
+            {f"db{database}": f"keys={numbers.keys},expires=0,avg_ttl=0"} if numbers.keys else {}
+        ),
     }
     parts = []
     for title, lines in sections.items():
@@ -870,7 +1219,167 @@ def echo(server: Server, client: Client, words: List[bytes]) -> None:
 
 @command("SELECT", 2, 2)
 def select(server: Server, client: Client, words: List[bytes]) -> None:
-    client.say(OK if words[1] == b"0" else error("ERR DB index is out of range: there is 0 alone"))
+    """Database N is namespace N + 1."""
+    spaces = len(server.limits)
+    if not words[1].isdigit() or int(words[1]) >= spaces:
+        told = f"0 to {spaces - 1}" if spaces > 1 else "0 alone"
+        client.say(error(f"ERR DB index is out of range: there is {told}"))
+        return
+    client.space = int(words[1]) + 1
+    client.asked = Asked(server, client, client.space)
+    client.say(OK)
+
+
+@command("AUTH", 2, 3)
+def authenticate(server: Server, client: Client, words: List[bytes]) -> None:
+    client.say(checked(server, client, words[1:]))
+
+
+def checked(server: Server, client: Client, words: List[bytes]) -> bytes:
+    """The reply to a password, or to a name and a password."""
+    if server.password is None:
+        return error("ERR AUTH called without any password configured: see --password-file")
+    named = words[0] if len(words) > 1 else b"default"
+    if named != b"default" or not hmac.compare_digest(words[-1], server.password):
+        return error("WRONGPASS invalid username-password pair or user is disabled.")
+    client.is_known = True
+    return OK
+
+
+# Groups. Nothing between MULTI and EXEC is done before EXEC. Then all of it is sent to the drive in one piece, with no command of
+# another connection between; if one of the requests was refused when it came, nothing is done. A kill may leave the first of
+# its changes and not the others.
+
+
+@command("MULTI", 1, 1)
+def begin_group(server: Server, client: Client, words: List[bytes]) -> None:
+    if client.group:
+        client.say(error("ERR MULTI calls can not be nested"))
+        return
+    client.group = Group()
+    client.say(OK)
+
+
+NOT_IN_A_GROUP = {b"FLUSHDB", b"BGSAVE", b"AUTH", b"HELLO"}
+
+
+def queue_up(server: Server, client: Client, name: bytes, words: List[bytes]) -> None:
+    """A request of a group waits for EXEC."""
+    group = client.group
+    assert group
+    keys = (len(words) - 1) // (2 if name == b"MSET" else 1)
+    group.commands += keys if name in (b"MGET", b"MSET", b"DEL", b"UNLINK", b"EXISTS") else 2
+    group.bytes += sum(map(len, words))
+    if name in (b"GET", b"MGET", b"SET"):
+        group.bytes += server.greatest * (keys if name == b"MGET" else len(words) != 3)
+    if name == b"SCAN":
+        group.bytes += LIST_BYTES
+    if name in NOT_IN_A_GROUP:
+        fault = error(f"ERR {name.decode()} cannot be between MULTI and EXEC")
+    elif group.commands > GROUP_COMMANDS or group.bytes > GROUP_BYTES:
+        fault = error(
+            f"ERR a group has at most {GROUP_COMMANDS} commands and {GROUP_BYTES} bytes of words and of the values"
+            f" that it may read, {server.greatest} each: send less of it between MULTI and EXEC"
+        )
+    else:
+        group.requests.append(words)
+        client.say(b"+QUEUED\r\n")
+        return
+    group.fault = group.fault or fault
+    group.requests.clear()
+    client.say(fault)
+
+
+@command("EXEC", 1, 1)
+def do_group(server: Server, client: Client, words: List[bytes]) -> None:
+    group, client.group = client.group, None
+    if not group:
+        client.say(error("ERR EXEC without MULTI"))
+        return
+    if group.fault:
+        text = group.fault[1:].decode("utf-8", "replace").strip()
+        client.say(error(f"EXECABORT Transaction discarded because of previous errors: {text}"))
+        return
+    client.say(b"*%d\r\n" % len(group.requests))
+    server.is_grouped = True
+    for it in group.requests:
+        COMMANDS[it[0].upper()][0](server, client, it)
+    server.is_grouped = False
+
+
+@command("DISCARD", 1, 1)
+def drop_group(server: Server, client: Client, words: List[bytes]) -> None:
+    client.say(OK if client.group else error("ERR DISCARD without MULTI"))
+    client.group = None
+
+
+# Copies of the image.
+
+
+class Copy:
+    """A copy of the image while nothing changes it, to a file that appears when it is whole."""
+
+    def __init__(self, client: Client, slot: Slot, path: str) -> None:
+        self.client, self.slot, self.path = client, slot, path
+        self.thread: Optional[threading.Thread] = None
+        self.is_done = False
+        self.fault = ""
+
+    def start(self, image: str, wake: socket.socket) -> None:
+        """Copies in a thread, which wakes the server at its end."""
+        self.thread = threading.Thread(target=self._run, args=(image, wake), daemon=True)
+        self.thread.start()
+
+    def _run(self, image: str, wake: socket.socket) -> None:
+        part = self.path + ".part"
+        try:
+            copy_file(image, part)
+            os.link(part, self.path)  # unlike a rename it replaces no file
+        except OSError as fault:
+            self.fault = f"ERR no copy was made: {fault.strerror}"
+        try:
+            os.unlink(part)
+        except OSError:
+            pass
+        self.is_done = True
+        wake.send(b"\0")
+
+
+def copy_file(source: str, target: str) -> None:
+    """Copies what is not a hole, and syncs the copy."""
+    with open(source, "rb") as old, open(target, "wb") as new:
+        size, at = os.fstat(old.fileno()).st_size, 0
+        os.truncate(new.fileno(), size)
+        while at < size:
+            try:
+                at = os.lseek(old.fileno(), at, os.SEEK_DATA)
+            except OSError as fault:
+                if fault.errno == errno.ENXIO:  # the rest is a hole
+                    break
+                raise
+            end = os.lseek(old.fileno(), at, os.SEEK_HOLE)
+            os.lseek(new.fileno(), at, os.SEEK_SET)
+            os.lseek(old.fileno(), at, os.SEEK_SET)
+            while at < end:
+                at += os.sendfile(new.fileno(), old.fileno(), None, min(end - at, 1 << 22))
+        os.fsync(new.fileno())
+
+
+@command("BGSAVE", 2, 2)
+def save_copy(server: Server, client: Client, words: List[bytes]) -> None:
+    """BGSAVE NAME: a copy of the image in the folder of --backups; answered when it is made. Changes wait for it, reads do not."""
+    name = os.fsdecode(words[1])
+    if not server.backups:
+        client.say(error("ERR BGSAVE needs a folder: pinkctl serve IMAGE --backups FOLDER"))
+    elif not name or "/" in name or "\0" in name or name.startswith("."):
+        client.say(error("ERR BGSAVE NAME: a name of a file in the folder of --backups"))
+    elif os.path.lexists(os.path.join(server.backups, name)):
+        client.say(error(f"ERR there is a file {name} already"))
+    elif server.copy:
+        client.say(error("ERR another copy is being made"))
+    else:
+        client.is_busy = True
+        server.begin_copy(Copy(client, client.slot(), os.path.join(server.backups, name)))
 
 
 @command("QUIT", 1, None)
@@ -929,6 +1438,14 @@ def hello(server: Server, client: Client, words: List[bytes]) -> None:
     if len(words) > 1 and words[1] != b"2":
         client.say(error("NOPROTO the drive speaks version 2 of the protocol"))
         return
+    if len(words) == 5 and words[2].upper() == b"AUTH":
+        said = checked(server, client, words[3:])
+        if said != OK:
+            client.say(said)
+            return
+    if not client.is_known:
+        client.say(error("NOAUTH Authentication required: HELLO 2 AUTH default PASSWORD"))
+        return
     told: List[Union[bytes, int]] = [bulk(b"server"), bulk(b"pinkctl"), bulk(b"proto"), 2]
     told += [bulk(b"id"), client.number, bulk(b"mode"), bulk(b"standalone")]
     client.say(array(told + [bulk(b"role"), bulk(b"master")]))
@@ -978,8 +1495,10 @@ def listen_on(port: int) -> socket.socket:
 DESCRIPTION = """\
 Serves the drive of an image in the protocol of Redis, until a signal (TERM, INT or HUP) ends it.
 Any client of Redis works, as redis-cli -s PATH. A change is answered when it is on the flash.
-The commands: GET MGET SET (NX, XX, GET) SETNX DEL UNLINK EXISTS TYPE STRLEN SCAN DBSIZE INFO PING
-ECHO SELECT QUIT HELLO, and of COMMAND, CLIENT and CONFIG what redis-cli and redis-benchmark ask."""
+The commands: GET MGET SET (NX, XX, GET) SETNX MSET DEL UNLINK EXISTS TYPE STRLEN SCAN DBSIZE FLUSHDB
+SELECT (N is namespace N + 1) MULTI EXEC DISCARD BGSAVE NAME AUTH INFO PING ECHO QUIT HELLO, and of
+COMMAND, CLIENT and CONFIG what redis-cli and redis-benchmark ask. What is between MULTI and EXEC is
+done in one piece or, if one of it is refused when it comes, not at all; a kill may leave a part."""
 
 
 def frames_of(text: str) -> int:
@@ -1014,11 +1533,31 @@ def add_parser(subparsers: "argparse._SubParsersAction[argparse.ArgumentParser]"
         default=0,
         help="how long to wait while another process has the image open (%(default)s)",
     )
+    parser.add_argument(
+        "--password-file", metavar="PATH", help="clients have to send AUTH with the first line of this file"
+    )
+    parser.add_argument(
+        "--backups", metavar="FOLDER", help="where BGSAVE NAME puts copies of the image"
+    )
     parser.set_defaults(run=run)
+
+
+def password_of(path: Optional[str]) -> Optional[bytes]:
+    """The first line of a file; None if no file is named."""
+    if path is None:
+        return None
+    with open(path, "rb") as file:
+        word = file.readline().rstrip(b"\r\n")
+    if not word:
+        raise ToolError(f"{path}: its first line is empty", Exit.USAGE)
+    return word
 
 
 def run(args: argparse.Namespace) -> int:
     """Serves until a signal comes; `Exit.PROGRAM` if the program ends by itself."""
+    password = password_of(args.password_file)
+    if args.backups and not os.path.isdir(args.backups):
+        raise ToolError(f"{args.backups} is no folder", Exit.USAGE)
     link, numbers = open_link(pink(), args.image, args.frames, args.wait)
     try:
         listener = listen_at(args.socket) if args.socket else listen_on(args.port)
@@ -1027,11 +1566,11 @@ def run(args: argparse.Namespace) -> int:
         link.end()
         raise
     place = args.socket or "127.0.0.1:%d" % listener.getsockname()[1]
-    server = Server(link, numbers, listener)
+    server = Server(link, numbers, listener, password, args.backups)
     gc.set_threshold(50000)  # replies are freed by their counts; cycles are rare
     try:
         server.end_on_signals()
-        print(f"serving {args.image} at {place}: {numbers.keys} keys", flush=True)
+        print(f"serving {args.image} at {place}: {sum(it.keys for it in numbers)} keys", flush=True)
         return server.run()
     finally:
         for number in SIGNALS:  # the end goes on, and Python's own end keeps what is ignored
