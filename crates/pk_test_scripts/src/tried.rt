@@ -14,7 +14,7 @@ pub trait Program {
 
 /// A failure if this does not hold.
 pub fn holds<D: Display + Drop>(is_so: bool, what: D) -> Result<(), Fail>
-    ensures so { OnOk result (is_so.now ≡ true) }
+    ensures so { OnOk result (is_so ≡ true) }
 {
     if is_so {
         return Ok(());
