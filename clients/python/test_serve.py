@@ -483,6 +483,8 @@ class FullDisk(unittest.TestCase):
         try:
             server.stdout.readline()
             c, reader = Connection(path), Connection(path)
+            self.addCleanup(c.close)
+            self.addCleanup(reader.close)
             done, reply = 0, "OK"
             while reply == "OK":
                 reply = c.do("SET", "k%d" % done, "v" * 3000)
