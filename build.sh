@@ -3,7 +3,7 @@
 # built twice: what was proved before is kept, also if a run was interrupted. `./pink` and `./pinkdump` call it on their first use;
 # after an edit of the sources it is called by hand.
 #
-#   ./build.sh [pink|pinkdump]
+#   ./build.sh [pink|pinkdump|pinkcut]
 set -u
 
 top=$(CDPATH='' cd -- "$(dirname -- "$0")" && pwd) || exit 1

@@ -1,6 +1,10 @@
 #!/bin/sh
 # Shows a drive at work: makes one, serves a script of three commands, and reads the value again in a second session.
 #
+#   ./demo.sh
+#   ./demo.sh --cut [FILE]     cuts the power of one Store at each of its marks, in each way that this may leave the flash, and shows
+#                              what opens then: as text, and as a page with pictures (cut.html, if no file is named)
+#
 # If the program is built it is run, by a pipe. Otherwise the same sources are run unproved: `rt try` compiles them with checks
 # (which takes about a minute) and runs one case for each word. There is no pipe between cases, so each case gets what the one before
 # it has to write, and what that one wrote is compared with it, byte for byte.
@@ -10,6 +14,34 @@ top=$(CDPATH='' cd -- "$(dirname -- "$0")" && pwd)
 folder=$(mktemp -d)
 trap 'rm -rf "$folder"' EXIT
 trap 'exit 1' HUP INT TERM
+
+cut_power() { # FILE: prints the cuts of a Store, and writes the page
+    if [ -x "$top/crates/pinkcut/out/pinkcut" ]; then
+        echo "This is the program that is built (crates/pinkcut/out/pinkcut), over the board in memory."
+        "$top/crates/pinkcut/out/pinkcut" >"$folder/cuts"
+    elif command -v rt >/dev/null; then
+        echo "This runs the sources unproved, with checks (rt try, two minutes); ./build.sh pinkcut proves and builds them."
+        (cd "$top/crates/pinkcut" && rt try) >"$folder/cuts" 2>"$folder/said" || { cat "$folder/said" >&2 && exit 1; }
+    else
+        echo "demo.sh: there is no program crates/pinkcut/out/pinkcut, and the kit of Rattle (rt) is not in the path" >&2
+        exit 1
+    fi
+    echo
+    python3 "$top/docs/cuts.py" -o "$1" <"$folder/cuts"
+    printf '\nThe same with pictures: %s\n' "$1"
+}
+
+case ${1:-} in
+    --cut)
+        cut_power "${2:-cut.html}"
+        exit
+        ;;
+    '') ;;
+    *)
+        sed -n 's/^#   \(.*\)$/\1/p' "$0" >&2
+        exit 2
+        ;;
+esac
 
 cat >"$folder/script.txt" <<'END'
 # the value 'abc' under the key 'a', in hexadecimal; the value again; a key that does not exist

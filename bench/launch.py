@@ -334,6 +334,32 @@ def examples(folder):
             check(f'the examples of COMMANDS, typed the {turn} time', (status, printed.splitlines(), told) == (0, wanted, ''))
 
 
+def cuts(folder):
+    """The pictures of the cuts, from what the program pinkcut prints, and from lines that break the rule."""
+    with open(TOP + '/crates/pinkcut/stdout') as it:
+        lines = it.read()
+    page = folder + '/cut.html'
+
+    def shown(text):
+        done = subprocess.run([TOP + '/docs/cuts.py', '-o', page], input=text, capture_output=True, text=True)
+        return done.returncode, done.stdout.splitlines()[-1] if done.stdout else done.stderr
+
+    status, last = shown(lines)
+    found = sum(line.startswith('cut ') for line in lines.splitlines())
+    check('every cut is shown', status == 0 and last.startswith(f'{found} cuts: ') and 'none lost' in last)
+    with open(page) as it:
+        check('a picture for each cut', it.read().count('<tr>') == found)
+    posted = lines.index(' post ')
+    for what, text in [
+        ('a value that was answered and is lost', lines[:posted] + lines[posted:].replace('answer=ok 58595a', 'answer=ok 414243')),
+        ('a value that was never stored', lines.replace('answer=ok 58595a', 'answer=ok 58595b', 1)),
+        ('a flash that does not open', lines.replace('status=0', 'status=8', 1)),
+    ]:  # fmt: skip
+        status, last = shown(text)
+        check(what, status == 1 and 'OPENED WITH WHAT THEY MAY NOT' in last)
+    check('no lines', shown('')[0] == 1)
+
+
 def installed(folder, image):
     root = folder + '/root'
     if not all(os.path.exists(f'{TOP}/crates/{name}/out/{name}') for name in ('pink', 'pinkdump')):
@@ -377,6 +403,7 @@ with tempfile.TemporaryDirectory() as folder:
     pipes(image)
     links(folder, image)
     examples(folder)
+    cuts(folder)
     installed(folder, image)
 print(f'launch.py: {checks - len(faults)} of {checks} checks passed')
 sys.exit(bool(faults))
