@@ -1,7 +1,8 @@
 //! Whole sessions, run on the program.
 
 use crate::pink::Pink;
-use pk_test_sessions::{ends, isolation, machine, rows, sessions, space, spaces, wear, words};
+use pk_test_answers::{isolation, machine, spaces};
+use pk_test_sessions::{ends, rows, sessions, space, wear, words};
 use std::test::*;
 
 // ---- ends

@@ -1,7 +1,7 @@
 //! Scripts that are answered as the machine in memory answers them.
 
-use pk_base::{get_u16, get_u32};
-use pk_model::MapMachine;
+use pk_base::get_u32;
+use pk_model::{Answer, MapMachine};
 use pk_nvme::opcode::{DELETE, EXIST, FLUSH, LIST, RETRIEVE, STORE, TICK};
 use pk_nvme::{Request, completion, record_head};
 use pk_test_scripts::boards::{made, worked};
@@ -168,6 +168,19 @@ fn request(number: u16, command: &Command) -> Request {
     }
 }
 
+// The answer of the machine in memory to a command, whose value has its size.
+fn answer_of(
+    alloc: Global,
+    machine: &mut MapMachine,
+    request: &Request,
+    value: &[u8],
+) -> Result<Answer, Fail> {
+    if value.len() == request.value_bytes() as usize {
+        return Ok(machine.step(alloc, &request.entry(), value)?);
+    }
+    Err(Fail::new("a value of its size"))
+}
+
 // Adds the record of a command by the machine in memory. A value that is handed out is read from one page.
 fn add_record(
     alloc: Global,
@@ -176,11 +189,7 @@ fn add_record(
     value: &[u8],
     into: &mut Vec<u8>,
 ) -> Result<(), Fail> {
-    pk_test_scripts::holds(
-        value.len() == request.value_bytes() as usize,
-        "a value of its size",
-    )?;
-    let answer = machine.step(alloc, &request.entry(), value)?;
+    let answer = answer_of(alloc, machine, request, value)?;
     let data = answer.bytes.bytes();
     let is_value = request.opcode == RETRIEVE && !data.is_empty();
     let reads = if is_value { 1 } else { 0 };
@@ -228,6 +237,16 @@ fn asked_at(script: &[u8], at: usize) -> Option<Asked<'_>> {
     Some(Asked { entry, value })
 }
 
+// The command of an entry of 64 bytes.
+fn request_of(bytes: &[u8]) -> Result<Request, Fail> {
+    let mut entry = [0u8; 64];
+    if bytes.len() != entry.len() {
+        return Err(Fail::new("an entry"));
+    }
+    entry.copy_from_slice(bytes);
+    Ok(Request::of(&entry))
+}
+
 // The record that begins at this byte is the answer of the machine, but for the pages that were read: where the next one begins.
 fn check_record(
     alloc: Global,
@@ -236,12 +255,11 @@ fn check_record(
     number: u32,
     record: &[u8],
 ) -> Result<usize, Fail> {
-    let mut entry = [0u8; 64];
-    entry.copy_from_slice(asked.entry);
-    let answer = machine.step(alloc, &entry, asked.value)?;
+    let request = request_of(asked.entry)?;
+    let answer = answer_of(alloc, machine, &request, asked.value)?;
     let data = answer.bytes.bytes();
     let found = record_at(record, 0).ok_or("a record")?;
-    let head = completion(get_u16(&entry, 2), number, answer.status, answer.result);
+    let head = completion(request.cid, number, answer.status, answer.result);
     let size = u32::try_from(data.len()).map_err(Fail::new)?;
     let mut wanted = Vec::new(alloc);
     add(&mut wanted, &record_head(&head, found.reads, size))?;
