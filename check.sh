@@ -18,8 +18,8 @@ check() { # what, command ..
 }
 
 scripts() {
-    for script in check.sh build.sh demo.sh pink pinkctl pinkdump launch/*.sh docs/*.sh bench/*.sh; do sh -n "$script" || return 1; done
-    python3 -m compileall -q docs bench clients
+    for script in check.sh build.sh demo.sh pink pinkdump launch/*.sh docs/*.sh bench/*.sh; do sh -n "$script" || return 1; done
+    python3 -c 'import ast; ast.parse(open("pinkctl").read())' && python3 -m compileall -q docs bench clients
 }
 
 # The sources in the layout that the gate asks for: `rt fmt` writes it, and each file that it had to change is a fault.

@@ -54,7 +54,7 @@ planted "lemmas that do not say what they are about" 'does not say what it is ab
 printf '%0300d\n' 0 >>crates/pk_gc/proofs/Copying.antt
 planted "a long line of a proof" 'over 200 columns' python3 docs/figures.py --check
 echo 'if then' >>launch/why.sh
-planted "a script that does not parse" 'scripts: see above' ./check.sh
+planted "a script that does not parse" 'launch/why.sh' ./check.sh
 mkdir -p crates/pink/out
 ln -s /bin/false crates/pink/out/pink
 planted "a program that fails its clients' tests" 'test_pinkdrive: see above' ./check.sh --gate
