@@ -1,6 +1,6 @@
 #!/bin/sh
 # Plants one fault after another in a copy of the repository, and sees that the check that is meant for it fails and names it: a check that
-# cannot fail shows nothing. It takes a minute, and is not part of the gate.
+# cannot fail shows nothing. It takes two minutes, and is not part of the gate.
 #
 #   bench/planted.sh
 set -eu
