@@ -1,6 +1,7 @@
 //! Image files: their header, the state byte of each page, and the places of both. A header is read
 //! exactly if it is one, and otherwise refused at its first wrong field. Two laws say that a file
 //! without a wrong byte is the image of the pages that are read of it, and of no others.
+//! The bytes: `docs/FORMATS.md#image-file`.
 #![tactic(auto)]
 
 mod head;
