@@ -1,7 +1,7 @@
 #!/bin/sh
 # Checks the documents beside the sources, in a second or two; the gate runs it too. Each fault is a line.
 #
-# Each file of lemmas says what it is about; the table of definitions, the map of the crates and the table of wrong bodies are those that
+# Each file of lemmas says what it is about; the table of definitions, the map of the crates and the list of wrong bodies are those that
 # docs/definitions.py, docs/crates.py and docs/wrong_bodies.py write, and each list of definitions is complete; every wrong body says
 # what is wrong; README keeps to its size; README and TESTS have the right counts;
 # every link leads to a file; every crate, every path of a function, every type with a method, every file of definitions, every clause
@@ -134,18 +134,9 @@ awk '
     esac
 done
 
-# In WRONG-BODIES each name of the second column is a crate, an edit of it, or a test.
-sed -n 's/^| .* | \(`.*\|the test.*\) |$/\1/p' docs/WRONG-BODIES.md | while IFS= read -r refusals; do
-    crate=
-    for name in $(echo "$refusals" | grep -o '`[^`]*`' | tr -d '`'); do
-        case $name in
-            pk_*) crate=$name ;;
-            *)
-                refused "$crate" "$name" || grep -rqw "fn $name" crates/pk_test_*/src \
-                    || fault "docs/WRONG-BODIES.md: neither a wrong body nor a test $name"
-                ;;
-        esac
-    done
+# In WRONG-BODIES each name of the second column is a test.
+sed -n 's/^| .* | \(the test.*\) |$/\1/p' docs/WRONG-BODIES.md | grep -o '`[^`]*`' | tr -d '`' | while IFS= read -r name; do
+    grep -rqw "fn $name" crates/pk_test_*/src || fault "docs/WRONG-BODIES.md: no test $name"
 done
 
 for crate in $(sed -n 's/^\(pk_[a-z_]*\):.*/\1/p' crates.txt); do

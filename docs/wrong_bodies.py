@@ -3,14 +3,15 @@
 on "a body that".
 
   docs/wrong_bodies.py            prints all: who tries it (the gate, or bench/wrong.sh by hand), its crate, its name, what it does
-  docs/wrong_bodies.py --write    puts the table of those that the gate tries into docs/WRONG-BODIES.md
-  docs/wrong_bodies.py --check    fails if that table is another one, an edit has no line, or a line no edit
+  docs/wrong_bodies.py --write    puts the names of those that the gate tries into docs/WRONG-BODIES.md, by their crates
+  docs/wrong_bodies.py --check    fails if that list is another one, an edit has no line, or a line no edit
 """
 from __future__ import annotations
 
 import argparse
 import pathlib
 import sys
+import textwrap
 from dataclasses import dataclass
 
 TOP = pathlib.Path(__file__).resolve().parent.parent
@@ -55,16 +56,21 @@ def edits() -> list[Edit]:
     return sorted(found, key=lambda edit: (edit.by, places.get(edit.crate, 0), edit.name))
 
 
-def table(found: list[Edit]) -> str:
-    rows = [f"| {edit.body} | `{edit.crate}`, `{edit.name}` |" for edit in found if edit.by == "gate"]
-    return "| a body that | is refused by |\n|---|---|\n" + "\n".join(rows) + "\n"
+def names(found: list[Edit]) -> str:
+    """An item for each crate: the crate and its edits."""
+    crates: dict[str, list[str]] = {}
+    for edit in found:
+        if edit.by == "gate":
+            crates.setdefault(edit.crate, []).append(f"`{edit.name}`")
+    items = [textwrap.fill(f"- `{crate}`: {', '.join(edits)}", 100, subsequent_indent="  ") for crate, edits in crates.items()]
+    return "\n".join(items) + "\n"
 
 
 def main() -> int:
     parser = argparse.ArgumentParser(description=__doc__, formatter_class=argparse.RawDescriptionHelpFormatter)
     choice = parser.add_mutually_exclusive_group()
-    choice.add_argument("--write", action="store_true", help="put the table into docs/WRONG-BODIES.md")
-    choice.add_argument("--check", action="store_true", help="fail if docs/WRONG-BODIES.md has another table")
+    choice.add_argument("--write", action="store_true", help="put the names into docs/WRONG-BODIES.md")
+    choice.add_argument("--check", action="store_true", help="fail if docs/WRONG-BODIES.md has other names")
     args = parser.parse_args()
     found = edits()
     if not (args.write or args.check):
@@ -72,14 +78,14 @@ def main() -> int:
         return 0
     page = PAGE.read_text(encoding="utf-8")
     before, _, rest = page.partition(BEGIN)
-    new = f"{before}{BEGIN}\n\n{table(found)}\n{END}{rest.partition(END)[2]}"
+    new = f"{before}{BEGIN}\n\n{names(found)}\n{END}{rest.partition(END)[2]}"
     if args.write:
         PAGE.write_text(new, encoding="utf-8")
         return 0
     faults = [f"docs/wrong-bodies.txt: nothing says what the wrong body {edit.name} of {edit.crate} does" for edit in found if not edit.body]
     faults += [f"docs/wrong-bodies.txt: {edit.crate} has no wrong body {edit.name}" for edit in found if edit.by == "nobody"]
     if new != page:
-        faults.append("docs/WRONG-BODIES.md: its table is not the one that docs/wrong_bodies.py --write makes")
+        faults.append("docs/WRONG-BODIES.md: its list is not the one that docs/wrong_bodies.py --write makes")
     print("\n".join(faults), end="\n" if faults else "", file=sys.stderr)
     return 1 if faults else 0
 
