@@ -49,6 +49,8 @@ python_tests() { (cd clients/python && quiet python3 "$1"); }
 
 c_tests() { quiet make -s -C clients/c test; }
 
+logs() { check test_log python_tests test_log.py; }
+
 clients() {
     for test in test_pinkdrive test_pinkctl test_pinkmirror test_serve; do check "$test" python_tests "$test.py"; done
     if [ -d clients/c ]; then
@@ -60,6 +62,7 @@ check documents sh docs/check.sh
 check figures python3 docs/figures.py --check
 check scripts scripts
 if [ "$gate" != --gate ] && command -v rt >/dev/null; then check layout layout; fi
+logs
 if [ -x crates/pink/out/pink ]; then
     clients
 elif [ "$gate" = --gate ]; then

@@ -338,6 +338,27 @@ file_fault() { # IMAGE WORD: why it cannot be opened; prints nothing if nothing 
     fi
 }
 
+log_of() { # IMAGE: the path of its log, if there is one
+    log=$(readlink -f -- "$1" 2>/dev/null || echo "$1")-wal
+    if [ -e "$log" ] || [ -L "$log" ]; then echo "$log"; fi
+}
+
+names_of() { # FILE: how many names it has
+    ls -ldL -- "$1" 2>/dev/null | awk '{ print $2 }'
+}
+
+log_fault() { # IMAGE: why its log cannot be opened; prints nothing if nothing is seen
+    log=$(log_of "$1")
+    [ -n "$log" ] && [ -f "$1" ] || return 0
+    if [ ! -f "$log" ] || [ -L "$log" ]; then
+        echo "$log, the log of $1, is no file of its own"
+    elif [ ! -r "$log" ] || [ ! -w "$log" ]; then
+        echo "no permission to read and write $log, the log of $1"
+    elif [ "$(names_of "$1")" != 1 ] || [ "$(names_of "$log")" != 1 ]; then
+        echo "$1 or $log has several names (hard links), and an image with a log may have one: remove the others"
+    fi
+}
+
 open_fault() { # IMAGE WORD: why the system does not read or write it; prints nothing if nothing is seen
     if user=$(user_of "$1"); then
         # The process may have ended by now, so that its file is not there.
@@ -346,6 +367,7 @@ open_fault() { # IMAGE WORD: why the system does not read or write it; prints no
         return
     fi
     fault=$(file_fault "$1" "$2")
+    [ -n "$fault" ] || fault=$(log_fault "$1")
     if [ -z "$fault" ]; then
         place=$1
         [ -e "$place" ] || place=$(dirname -- "$1")
@@ -406,7 +428,12 @@ drive_fault() { # IMAGE WORD: why there is no drive in it, by its file, its head
         return
     fi
     if [ ! -e "$1" ]; then
-        echo "there is no file $1; pink $1 make 512 16 64 would make a small drive"
+        log=$(log_of "$1")
+        if [ -n "$log" ]; then
+            echo "there is no file $1, but $log is there, the log of an image that was moved or removed without it"
+        else
+            echo "there is no file $1; pink $1 make 512 16 64 would make a small drive"
+        fi
         return
     fi
     size=$(wc -c <"$1" | tr -d ' ')

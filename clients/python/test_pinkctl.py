@@ -891,7 +891,7 @@ class TheWhole(OnImage):
         self.assertRegex(self.ctl("--version").decode(), r"^pinkctl \(Cezhandru\), commit \S+, kit .+\n$")
 
     def test_help(self):
-        parts = ("check", "export", "import", "backup", "salvage", "shell", "shapes")
+        parts = ("check", "export", "import", "backup", "mv", "salvage", "shell", "shapes")
         text = self.ctl("--help").decode()
         for part in parts:
             self.assertIn(f"    {part} ", text)
@@ -906,7 +906,7 @@ class TheWhole(OnImage):
             page = re.sub(r"[ \n]+", " ", file.read().replace("\\-", "-"))
         for status in Exit:
             self.assertIn(f".B {status.value} ", page)
-        for part in ("check", "export", "import", "backup", "salvage", "shell", "shapes"):
+        for part in ("check", "export", "import", "backup", "mv", "salvage", "shell", "shapes", "serve"):
             for option in re.findall(r"--[a-z-]+", self.ctl(part, "--help").decode()):
                 if option != "--help":
                     self.assertIn(option, page, part)

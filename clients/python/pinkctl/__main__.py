@@ -14,7 +14,7 @@ from typing import Any, Optional
 from .program import TOP, pinkdrive
 from .status import Exit, ToolError, table
 
-PARTS = ("check", "export", "load", "backup", "salvage", "shell", "shapes", "server", "cluster")
+PARTS = ("check", "export", "load", "backup", "mv", "salvage", "shell", "shapes", "server", "cluster")
 """The modules of the parts, in the order of the help."""
 
 

@@ -1,21 +1,26 @@
 """backup: a copy of an image that opens, taken while no program has the image open."""
 
 import argparse
+import dataclasses
 import os
 import stat
 from collections.abc import Iterator
 from typing import Any, BinaryIO
 
 from . import progress
-from .check import Verdict, check_open, counted
+from .check import Verdict, check_open, counted, judge
 from .files import NewFile, add_wait, file_error, locked, refuse_existing
+from .log import path_of, write_into
+from .mv import clear_log, refuse_log
 from .status import Exit, ToolError
 
 DESCRIPTION = """\
 Copies an image while no program has it open; a copy of an image in use (cp) mostly does not open. The copy
 is sparse as the image is, synced to the disk, compared with the image byte for byte, checked as
-`pinkctl check` does, and gets its name when all of this is done. Other readers may go on; `pink` on
-this image ends with 6 meanwhile. To restore, copy the copy: pinkctl backup COPY IMAGE."""
+`pinkctl check` does, and gets its name when all of this is done. If the image has a log beside it
+(IMAGE-wal), the copy is the image with the steps of the log: a backup is always one file. Other
+readers may go on; `pink` on this image ends with 6 meanwhile. To restore, copy the copy:
+pinkctl backup COPY IMAGE."""
 
 CHUNK_BYTES = 1 << 20
 
@@ -93,20 +98,31 @@ def refuse_damaged(path: str, verdict: Verdict, even_damaged: bool) -> None:
     raise ToolError(f"{path} is {verdict.name}: {verdict.text}; nothing was copied (--even-damaged copies it)", verdict.status)
 
 
+def without_log(verdict: Verdict, name: str) -> Verdict:
+    """What check says of an image once the steps of its log are in it."""
+    if verdict.image is None or verdict.flash is None:
+        return verdict
+    return judge(dataclasses.replace(verdict.image, log=None), verdict.flash, name)
+
+
 def copy_image(args: argparse.Namespace, source: BinaryIO, target: str) -> Verdict:
-    """Copies an open image; answers the verdict about the copy, which is that about the image."""
+    """Copies an open image with the steps of its log; answers the verdict about the copy, which is that about the image."""
     found = os.fstat(source.fileno())
     verdict = check_open(source)
-    refuse_damaged(args.image, verdict, args.even_damaged)
+    refuse_damaged(args.image, verdict, args.even_damaged and not verdict.is_log)
+    log = verdict.image.log if verdict.image else None
     with NewFile(target, args.force) as new:
         with progress.Progress("backup: bytes", found.st_blocks * 512, progress.shown(args)) as shown:
             copy_sparse(source, new.file, found.st_size, shown)
         new.sync()
         if first_difference(source, new.file, found.st_size):
             raise ToolError(f"{target}: the copy differs from the image", Exit.FILE)
-        again = check_open(new.file)
-        if (again.status, again.text) != (verdict.status, verdict.text):
+        if log and verdict.image:
+            write_into(new.file.fileno(), log, verdict.image.file_shape)
+        again, wanted = check_open(new.file), without_log(verdict, new.file.name)
+        if (again.status, again.text) != (wanted.status, wanted.text):
             raise ToolError(f"{target}: the copy is {again.name}: {again.text}", Exit.DISAGREES)
+        clear_log(target)
         new.keep(stat.S_IMODE(found.st_mode))
     return verdict
 
@@ -118,6 +134,7 @@ def run(args: argparse.Namespace) -> int:
     if os.path.exists(target) and os.path.exists(args.image) and os.path.samefile(target, args.image):
         raise ToolError(f"{target}: it is the image itself", Exit.USAGE)
     refuse_existing(target, args.force)
+    refuse_log(target, args.force)
     try:
         with locked(args.image, args.wait) as source:
             verdict = copy_image(args, source, target)
@@ -125,5 +142,13 @@ def run(args: argparse.Namespace) -> int:
         raise file_error(target, error) from None
     found = os.stat(target)
     size, on_disk = counted(found.st_size, "byte"), found.st_blocks * 512
-    progress.say(args, f"backup: {target}: {verdict.name}, {size}, of which {on_disk:,} are taken on the disk")
+    progress.say(args, f"backup: {target}: {verdict.name}, {size}, of which {on_disk:,} are taken on the disk{log_told(verdict)}")
+    if verdict.image is None and os.path.exists(path_of(args.image)):
+        progress.say(args, f"backup: {path_of(args.image)}, the log of the image, is not in the copy")
     return verdict.status
+
+
+def log_told(verdict: Verdict) -> str:
+    """That the steps of a log are in the copy."""
+    batches = len(verdict.image.log.batches) - 1 if verdict.image and verdict.image.log else 0
+    return f", with the {counted(batches, 'batch', 'es')} of its log" if batches > 0 else ""

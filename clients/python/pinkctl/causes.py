@@ -15,6 +15,7 @@ from . import layout as it
 from .image import Fault, Image, NotAnImage, open_image, read_flash, roots_of, unknown_versions
 from .keys import shown_in
 from .layout import ERASED, WHOLE, Layout
+from .log import LogFault, log_of, path_of
 from .status import ToolError
 
 LEAST_FREE_BYTES = 65536
@@ -28,6 +29,7 @@ class Kind(enum.Enum):
     FILE = "the system does not let it be read and written"
     IN_USE = "another process has it open"
     SPACE = "its disk is full"
+    LOG = "its log does not fit it"
     FOREIGN = "it is no image"
     UNMADE = "its making was broken off"
     VERSION = "it has a version of the format that is not known"
@@ -128,9 +130,26 @@ def space_cause(path: str) -> Optional[Cause]:
     return Cause(Kind.SPACE, f"there is no space left on the disk of {path}")
 
 
+def log_cause(path: str) -> Optional[Cause]:
+    """Why the log of an image is not taken; None if it is, or there is none."""
+    log = path_of(path)
+    try:
+        if log_of(path) is None:
+            return None
+        if not os.access(log, os.W_OK):
+            return Cause(Kind.LOG, f"no permission to write {log}, the log of {path}")
+        with open(path, "rb") as file:
+            open_image(file)
+    except LogFault as fault:
+        return Cause(Kind.LOG, str(fault))
+    except (OSError, NotAnImage, ToolError):
+        pass
+    return None
+
+
 def flash_cause(path: str, making: bool = False) -> Optional[Cause]:
     """Why a program ended with 6; None if nothing is seen."""
-    return use_cause(path) or file_cause(path, making) or space_cause(path)
+    return use_cause(path) or file_cause(path, making) or log_cause(path) or space_cause(path)
 
 
 # The image.
@@ -145,9 +164,18 @@ def image_cause(path: str, making: bool = False, spares: int = 0) -> Optional[Ca
         with open(path, "rb") as file:
             return drive_cause(file, spares)
     except FileNotFoundError:
-        return Cause(Kind.MISSING, f"there is no file {path}")
+        return missing_cause(path)
     except (OSError, ToolError) as error:
         return Cause(Kind.FILE, getattr(error, "strerror", None) or str(error))
+
+
+def missing_cause(path: str) -> Cause:
+    """There is no image, but there may be what an image that was moved without its log has left."""
+    log = path_of(path)
+    if not os.path.exists(log):
+        return Cause(Kind.MISSING, f"there is no file {path}")
+    text = f"there is no file {path}, but {log} is there, the log of an image that was moved or removed without it"
+    return Cause(Kind.LOG, f"{text}: pinkctl mv moves both, and a make here would empty the log")
 
 
 def drive_cause(file: BinaryIO, spares: int = 0) -> Optional[Cause]:
@@ -156,6 +184,8 @@ def drive_cause(file: BinaryIO, spares: int = 0) -> Optional[Cause]:
         image = open_image(file)
     except NotAnImage as wrong:
         return not_an_image(wrong)
+    except LogFault as fault:
+        return Cause(Kind.LOG, str(fault))
     found = root_cause(image, file.name) or spares_cause(image, file.name, spares)
     if found:
         return found

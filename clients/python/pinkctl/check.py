@@ -12,6 +12,7 @@ from .doubts import Doubt, doubts_of
 from .files import add_wait, locked
 from .image import Fault, Flash, Image, Key, NotAnImage, open_image, read_flash
 from .keys import shown
+from .log import Log, LogFault
 from .program import dump_verdict
 from .status import Exit, ToolError
 
@@ -24,6 +25,8 @@ changes. The first line is the verdict:
   refused    it does not open: the first page that is wrong, and its key      (status 8)
   no drive   it is no image, or no page of it is a root                       (status 8)
   unknown    its layout has a version that pinkctl does not know              (status 13)
+
+An image that has a log beside it (IMAGE-wal) is read with the steps of the log.
 
 There is no checksum in an image. A changed byte inside a value is not found; nor is one that makes
 a deletion delete another key of the drive, or an entry lead to a former value of its key.
@@ -44,6 +47,8 @@ class Verdict:
     flash: Optional[Flash] = None
     compared: str = "no"
     unmade: bool = False
+    is_log: bool = False
+    """It is the log that does not fit the image."""
 
 
 def add_parser(subparsers: Any) -> None:
@@ -92,6 +97,8 @@ def check_open(file: BinaryIO) -> Verdict:
         at = wrong.at if os.fstat(file.fileno()).st_size else None
         place = "" if at is None else f" (byte {at})"
         return Verdict("no drive", Exit.DAMAGED, f"{wrong}{place}", at=at, unmade=wrong.unmade)
+    except LogFault as fault:
+        return Verdict("refused", Exit.DAMAGED, str(fault), is_log=True)
     return judge(image, read_flash(image), file.name)
 
 
@@ -116,8 +123,8 @@ def judge_without_root(image: Image, cause: Cause, found: dict[str, Any]) -> Ver
     return Verdict("no drive", Exit.DAMAGED, cause.text, unmade=cause.kind == Kind.UNMADE, **found)
 
 
-def counted(count: int, what: str) -> str:
-    return f"{count:,} {what}" + "s" * (count != 1)
+def counted(count: int, what: str, ending: str = "s") -> str:
+    return f"{count:,} {what}" + ending * (count != 1)
 
 
 # The program's verdict.
@@ -211,7 +218,7 @@ def as_text(path: str, verdict: Verdict, size: int, on_disk: int) -> list[str]:
     lines += [f"  {'and' if n else 'because'}: {doubt.text}" for n, doubt in enumerate(doubts_told(verdict))]
     if verdict.unmade:
         lines.append(f"  it never held a key: remove {path}, and make it again")
-    elif verdict.status in (Exit.DAMAGED, Exit.DOUBTFUL) and verdict.flash:
+    elif verdict.status in (Exit.DAMAGED, Exit.DOUBTFUL) and (verdict.flash or verdict.is_log):
         lines.append(f"  to copy what reads into a new image: pinkctl salvage {path} NEW")
     flash = verdict.flash
     if flash:
@@ -223,6 +230,8 @@ def as_text(path: str, verdict: Verdict, size: int, on_disk: int) -> list[str]:
         )
     if flash and flash.root and verdict.image:
         lines += use_text(use_of(verdict.image, flash), flash)
+    if verdict.image and verdict.image.log:
+        lines.append(f"log: {log_text(verdict.image, verdict.image.log)}")
     if size:
         lines.append(f"sizes: the file has {size:,} bytes, of which {on_disk:,} are taken on the disk")
     lines.append(f"compared with pinkdump: {verdict.compared}")
@@ -234,6 +243,21 @@ def spares_text(image: Optional[Image]) -> str:
     if image is None or image.table is None:
         return ""
     return f", with {counted(image.spares, 'spare block')}, {len(image.table.used)} of them used"
+
+
+def log_use(image: Image, log: Log) -> dict[str, int]:
+    """What a log has: its batches, without the record, what they do, and the bytes after them."""
+    steps = list(log.steps(image.file_shape))
+    programs = sum(step.front is not None for step in steps)
+    return {"batches": max(0, len(log.batches) - 1), "programs": programs, "erases": len(steps) - programs, "rest": log.rest}
+
+
+def log_text(image: Image, log: Log) -> str:
+    use = log_use(image, log)
+    text = f"{counted(use['batches'], 'batch', 'es')}, of {counted(use['programs'], 'page')} and {counted(use['erases'], 'erase')}"
+    if use["rest"]:
+        text += f"; {counted(use['rest'], 'byte')} of a batch that is not whole"
+    return f"{text}; the next session brings them into the image, which is older by itself" if use["batches"] else text
 
 
 def doubts_told(verdict: Verdict) -> list[Doubt]:
@@ -296,6 +320,8 @@ def as_json(path: str, verdict: Verdict, size: int, on_disk: int) -> dict[str, A
         found["limits"] = limits_of(flash)
     if verdict.image:
         found["spare_blocks"] = spares_json(verdict.image)
+    if verdict.image and verdict.image.log:
+        found["log"] = log_use(verdict.image, verdict.image.log)
     if flash and flash.root and verdict.image:
         found["use"] = use_of(verdict.image, flash)
         found["namespaces"] = spaces_of(flash)

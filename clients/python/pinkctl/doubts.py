@@ -27,10 +27,10 @@ from .layout import ERASED, TORN, WHOLE
 
 @dataclasses.dataclass(frozen=True)
 class Doubt:
-    """A place that breaks a rule: a code for programs, the page, and words for people."""
+    """A place that breaks a rule: a code for programs, the page, if it is one of a page, and words for people."""
 
     code: str
-    page: int
+    page: Optional[int]
     text: str
 
 
@@ -38,11 +38,17 @@ def doubts_of(image: Image, flash: Flash) -> list[Doubt]:
     """All doubts about a flash that has a root, in the order of their pages by kind."""
     if flash.root is None:
         return []
-    found = root_doubts(image, flash)
+    found = [*log_doubts(image), *root_doubts(image, flash)]
     if flash.opens:
         found += [*commits_that_differ(image, flash), *epoch_ends(image, flash), *other_commits(image, flash, flash.root)]
         found += [*run_ends(image, flash, flash.root), *baseless_deletions(flash)]
     return found
+
+
+def log_doubts(image: Image) -> Iterator[Doubt]:
+    """A log whose last batch is not whole is what a kill leaves; one with a whole batch after such a one is damaged."""
+    if image.log and image.log.broken:
+        yield Doubt("log-broken", None, f"a batch of {image.log.path} is not whole and one after it is: what they changed is lost")
 
 
 def root_doubts(image: Image, flash: Flash) -> list[Doubt]:

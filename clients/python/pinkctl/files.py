@@ -37,10 +37,10 @@ def file_error(path: str, error: OSError) -> ToolError:
     return ToolError(cause(path, error), Exit.FILE)
 
 
-def open_read(path: str) -> BinaryIO:
-    """Opens a file for reading, or raises why it does not open."""
+def open_read(path: str, writing: bool = False) -> BinaryIO:
+    """Opens a file for reading, or for writing too, or raises why it does not open."""
     try:
-        return open(path, "rb")
+        return open(path, "r+b" if writing else "rb")
     except FileNotFoundError as error:
         raise ToolError(cause(path, error), Exit.DAMAGED) from None
     except OSError as error:
@@ -53,13 +53,14 @@ def in_use(path: str) -> ToolError:
 
 
 @contextlib.contextmanager
-def locked(path: str, wait: float = 0) -> Iterator[BinaryIO]:
-    """The image, open for reading, while no program has it open: pink is refused meanwhile, other readers are not."""
-    with open_read(path) as file:
+def locked(path: str, wait: float = 0, writing: bool = False) -> Iterator[BinaryIO]:
+    """The image, open for reading, while no program has it open: pink is refused meanwhile, and other readers if it is for writing."""
+    kind = fcntl.LOCK_EX if writing else fcntl.LOCK_SH
+    with open_read(path, writing) as file:
         end, said = time.monotonic() + wait, False
         while True:
             try:
-                fcntl.flock(file, fcntl.LOCK_SH | fcntl.LOCK_NB)
+                fcntl.flock(file, kind | fcntl.LOCK_NB)
                 break
             except BlockingIOError:
                 left = end - time.monotonic()

@@ -1,6 +1,6 @@
 """An exact reader of image files, independent of the program: docs/FORMATS.md in Python.
 
-`open_image` reads the file's header and states. `read_flash` reads the flash as opening does and
+`open_image` reads the file's header and states, and what its log has. `read_flash` reads the flash as opening does and
 gives the map, or the first page that is wrong, exactly as the program does.
 """
 
@@ -12,8 +12,8 @@ from typing import Any, BinaryIO, NamedTuple, Optional, Union
 
 from . import layout as it
 from .layout import ERASED, GONE, PUT, TORN, WHOLE, Layout, Shape, shape_fault
+from .log import Log, log_of, replayed
 from .status import Exit, ToolError
-
 
 
 class FileBytes:
@@ -128,7 +128,7 @@ class Table(NamedTuple):
 
 @dataclasses.dataclass
 class Image:
-    """The bytes of an image file with the shape of its drive, and the table of its spare blocks, if it has some.
+    """The bytes of an image file with the shape of its drive, the table of its spare blocks, if it has some, and the log that it had.
 
     `file_states` are the states of all pages of the file, where they are not those that it has.
     """
@@ -137,6 +137,7 @@ class Image:
     data: Buffer
     table: Optional[Table] = None
     file_states: bytes = b""
+    log: Optional[Log] = None
 
     def __post_init__(self) -> None:
         pages = self.file_shape.pages
@@ -189,8 +190,8 @@ class Image:
 STATE_NAMES = {ERASED: "erased", WHOLE: "whole", TORN: "torn"}
 
 
-def load_image(data: Buffer, name: str = "the file") -> Image:
-    """The image of these bytes of a file, or `NotAnImage` at the byte that the program names."""
+def load_shape(data: Buffer, name: str) -> Shape:
+    """The shape that the header of an image names, or `NotAnImage` at the byte that the program names."""
     if not len(data):
         raise NotAnImage(0, f"the making of {name} was broken off before it had a length", unmade=True)
     if len(data) < it.HEADER_BYTES:
@@ -208,7 +209,15 @@ def load_image(data: Buffer, name: str = "the file") -> Image:
         raise NotAnImage(20, f"the head of {name} is damaged: it has bytes other than 0 at its end")
     if len(data) != shape.file_bytes:
         raise NotAnImage(it.HEADER_BYTES, f"{name} has {len(data)} bytes, and by its head it should have {shape.file_bytes}")
-    image = Image(shape, data)
+    return shape
+
+
+def load_image(data: Buffer, name: str = "the file", log: Optional[Log] = None) -> Image:
+    """The image of these bytes of a file and of its log, or `NotAnImage` at the byte that the program names."""
+    shape = load_shape(data, name)
+    if log and log.batches:
+        data = replayed(log, data[:], shape)
+    image = Image(shape, data, log=log)
     wrong = image.states.strip(bytes((ERASED, WHOLE, TORN)))
     if wrong:
         at = next(i for i, state in enumerate(image.states) if state > TORN)
@@ -217,8 +226,8 @@ def load_image(data: Buffer, name: str = "the file") -> Image:
 
 
 def open_image(file: BinaryIO) -> Image:
-    """The image of an open file."""
-    return load_image(FileBytes(file), file.name)
+    """The image of an open file, which has a log only under its name."""
+    return load_image(FileBytes(file), file.name, log_of(file.name) if isinstance(file.name, str) else None)
 
 
 # Spare blocks.
@@ -254,7 +263,7 @@ def with_spares(image: Image) -> Image:
     if table is None:
         return image
     shape = dataclasses.replace(image.shape, blocks=image.shape.blocks - table.spares - it.TABLE_BLOCKS)
-    return Image(shape, image.data, table, image.file_states)
+    return Image(shape, image.data, table, image.file_states, image.log)
 
 
 # Grammars of pages and entries.

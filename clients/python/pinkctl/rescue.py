@@ -26,6 +26,7 @@ from .image import (
     is_place,
     key_of,
     load_image,
+    load_shape,
     loose_entries,
     meta_in,
     newest_of,
@@ -35,6 +36,7 @@ from .image import (
     with_spares,
 )
 from .layout import TORN, WHOLE, Layout, Shape, shape_fault
+from .log import Log, LogFault, replayed
 
 LOST_ROOT = "the newest root is lost: it may be older, or deleted since"
 DAMAGED_INDEX = "its entry is in a damaged page of the index"
@@ -44,6 +46,8 @@ UNFINISHED = "its commit is marked as not finished"
 COPIES_DIFFER = "the two pages of its commit differ: it may be older, or deleted since"
 OLDER = "the newest entry of the key leads to no value: this is an older one"
 DAMAGED_VALUE = "a page of the value was changed: the value may be, too"
+BROKEN_LOG = "a batch of the log is damaged, and those after it are lost: it may be older, or deleted since"
+LEFT_OUT = "the log that is there does not fit the image: it may be older, or deleted since"
 NO_INDEX = "it is in no readable page of the index: it may be older, or deleted since"
 SAME_BYTES = 5
 """This many of the eight bytes of a page's text have to be right."""
@@ -116,6 +120,37 @@ def image_of(data: Buffer) -> tuple[Optional[Image], Optional[str]]:
     except NotAnImage as wrong:
         shape = shape_in(data)
         return (forced(data, shape) if shape else None), str(wrong)
+
+
+# The log.
+
+
+class Logged(NamedTuple):
+    """The bytes of an image with the steps of its log, what is to be said of the log, and why all keys are doubtful, if they are."""
+
+    data: Buffer
+    notes: list[str]
+    why: Optional[str] = None
+
+
+def with_log(data: bytes, log: Log) -> Logged:
+    """An image with the steps of its log, up to the first batch that is not whole. If the head of the image is damaged, the log has it."""
+    if not log.batches:
+        return Logged(data, [])
+    faults: list[Exception] = []
+    for head in (data[: it.HEADER_BYTES], log.batches[0][: it.HEADER_BYTES]):
+        whole = head + data[it.HEADER_BYTES :]
+        try:
+            shape = load_shape(whole, "the file")
+            new = replayed(log, whole, shape, even_damaged=True)
+        except (LogFault, NotAnImage) as wrong:
+            faults.append(wrong)
+            continue
+        rest = f"; {log.rest:,} bytes of a batch that is not whole" if log.rest else ""
+        is_damaged = log.broken or not log.has_all(shape)
+        count = len(log.batches) - 1
+        return Logged(new, [f"the log: {count} batch{'es' * (count != 1)}{rest}"], BROKEN_LOG if is_damaged else None)
+    return Logged(data, [f"the log is left out: {faults[0]}"], LEFT_OUT)
 
 
 # The root.
@@ -400,17 +435,20 @@ def without_index(rescue: Rescue, keys: Sequence[Key], index: Index) -> None:
             rescue.lost.append(key)
 
 
-def rescue_image(data: Buffer) -> Optional[Rescue]:
-    """All that reads of a file; None if it cannot be an image of any drive."""
-    image, wrong = image_of(data)
+def rescue_image(data: Buffer, log: Optional[Log] = None) -> Optional[Rescue]:
+    """All that reads of a file and its log; None if it cannot be an image of any drive."""
+    logged = with_log(data[:], log) if log else Logged(data, [])
+    image, wrong = image_of(logged.data)
     if image is None:
         return None
     root, trusted = choose_root(image)
     rescue = Rescue(image, Layout(image.shape, root.version if root else min(it.RULES)), root.limits if root else ())
-    rescue.notes += [f"the file: {wrong}"] if wrong else []
+    rescue.notes += logged.notes + ([f"the file: {wrong}"] if wrong else [])
     index = index_of(rescue, root, trusted)
     lost = []
     doubtful = dict.fromkeys(misnamed(rescue, index.candidates), MISNAMED) if trusted else dict.fromkeys(index.candidates, LOST_ROOT)
+    if logged.why:
+        doubtful = {**dict.fromkeys(index.candidates, logged.why), **doubtful}
     for key in sorted(index.candidates):
         candidates = index.candidates[key]
         saved = decide(rescue, key, candidates, trusted)

@@ -13,6 +13,7 @@ from .files import add_wait, file_error, locked
 from .image import Image, Key, is_of_one_version
 from .keys import shown, shown_in
 from .layout import Layout, Shape, shape_fault
+from .log import log_of
 from .program import make_image, open_drive, pinkdrive
 from .rescue import Rescue, Saved, read_all, rescue_image
 from .status import Exit, ToolError
@@ -24,7 +25,8 @@ Each value that is copied was stored once under its key, for its head has the ke
 there is no checksum, so a changed byte inside a value is copied. If a part of the index is lost,
 deleted keys and older values may come back: such keys are counted as doubtful, with the reason, and
 --list names each. Keys that have an entry but no value any more are counted as lost. Of keys whose
-entry and value are both gone nothing is known, and they are not counted.
+entry and value are both gone nothing is known, and they are not counted. Of a log beside the image
+(IMAGE-wal) the batches count up to the first that is not whole.
 
 The status is 0 if nothing is doubtful or lost, 10 if something is, 8 if nothing reads."""
 
@@ -47,8 +49,7 @@ def add_parser(subparsers: Any) -> None:
 def read_image(path: str, wait: float) -> Rescue:
     """All that can be read of an image."""
     with locked(path, wait) as file:
-        data = read_all(file.fileno())
-    rescue = rescue_image(data)
+        rescue = rescue_image(read_all(file.fileno()), log_of(path, even_linked=True))
     if rescue is None:
         raise ToolError(f"{path}: no shape of a drive fits this file: nothing can be read of it", Exit.DAMAGED)
     refuse_version(rescue.image, path)

@@ -31,6 +31,9 @@ from typing import Callable, Deque, Dict, List, NamedTuple, Optional, Set, Tuple
 
 from . import resp
 from .program import pink  # first: it puts the client on the path
+from .image import FileBytes, load_shape
+from .log import log_of, write_into
+from .mv import log_beside
 import pinkdrive
 from pinkdrive import ENTRY, KEY_BYTES, RECORD, Opcode, Report, image_word
 from .resp import NIL, NO_ITEMS, OK, PONG, array, bulk, error, integer
@@ -1334,9 +1337,10 @@ class Copy:
         part = self.path + ".part"
         try:
             copy_file(image, part)
+            add_log(image, part)
             os.link(part, self.path)  # unlike a rename it replaces no file
-        except OSError as fault:
-            self.fault = f"ERR no copy was made: {fault.strerror}"
+        except (OSError, ToolError) as fault:
+            self.fault = f"ERR no copy was made: {getattr(fault, 'strerror', fault)}"
         try:
             os.unlink(part)
         except OSError:
@@ -1365,6 +1369,15 @@ def copy_file(source: str, target: str) -> None:
         os.fsync(new.fileno())
 
 
+def add_log(source: str, target: str) -> None:
+    """Writes the steps of the image's log into its copy, so that the copy is one file."""
+    log = log_of(source)
+    if log and log.batches:
+        with open(target, "r+b") as new:
+            write_into(new.fileno(), log, load_shape(FileBytes(new), target))
+            os.fsync(new.fileno())
+
+
 @command("BGSAVE", 2, 2)
 def save_copy(server: Server, client: Client, words: List[bytes]) -> None:
     """BGSAVE NAME: a copy of the image in the folder of --backups; answered when it is made. Changes wait for it, reads do not."""
@@ -1375,6 +1388,8 @@ def save_copy(server: Server, client: Client, words: List[bytes]) -> None:
         client.say(error("ERR BGSAVE NAME: a name of a file in the folder of --backups"))
     elif os.path.lexists(os.path.join(server.backups, name)):
         client.say(error(f"ERR there is a file {name} already"))
+    elif os.path.lexists(log_beside(os.path.join(server.backups, name))):
+        client.say(error(f"ERR there is a log of another image {name} already"))
     elif server.copy:
         client.say(error("ERR another copy is being made"))
     else:
