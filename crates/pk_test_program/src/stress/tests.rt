@@ -4,9 +4,9 @@ use crate::pink::Pink;
 use pk_core::{Drive, OpenError};
 use pk_drive::Engine;
 use pk_flash::Flash;
+use pk_test_spoiled::{Opened, Opens};
 use pk_test_stress::deep::SHAPES;
 use pk_test_stress::merged::MERGES;
-use pk_test_stress::{Opened, Opens};
 use std::alloc::Global;
 use std::test::*;
 
@@ -43,52 +43,52 @@ fn reads_of_the_worked_opening(rt: HostRuntime) -> Result<(), Fail> {
 
 #[test]
 fn journal_bytes(rt: HostRuntime) -> Result<(), Fail> {
-    pk_test_stress::spoiled::journal_bytes::<Pink>(rt.alloc())
+    pk_test_spoiled::spoiled::journal_bytes::<Pink>(rt.alloc())
 }
 
 #[test]
 fn journal_bytes_by_all(rt: HostRuntime) -> Result<(), Fail> {
-    pk_test_stress::spoiled::journal_bytes_by_all::<Pink>(rt.alloc())
+    pk_test_spoiled::spoiled::journal_bytes_by_all::<Pink>(rt.alloc())
 }
 
 #[test]
 fn every_byte(rt: HostRuntime) -> Result<(), Fail> {
-    pk_test_stress::spoiled::every_byte::<Pink>(rt.alloc())
+    pk_test_spoiled::spoiled::every_byte::<Pink>(rt.alloc())
 }
 
 #[test]
 fn every_page(rt: HostRuntime) -> Result<(), Fail> {
-    pk_test_stress::spoiled::every_page::<Pink>(rt.alloc())
+    pk_test_spoiled::spoiled::every_page::<Pink>(rt.alloc())
 }
 
 #[test]
 fn every_pair(rt: HostRuntime) -> Result<(), Fail> {
-    pk_test_stress::spoiled::every_pair::<Pink>(rt.alloc())
+    pk_test_spoiled::spoiled::every_pair::<Pink>(rt.alloc())
 }
 
 #[test]
 fn exchanged(rt: HostRuntime) -> Result<(), Fail> {
-    pk_test_stress::spoiled::exchanged::<Pink>(rt.alloc())
+    pk_test_spoiled::spoiled::exchanged::<Pink>(rt.alloc())
 }
 
 #[test]
 fn others(rt: HostRuntime) -> Result<(), Fail> {
-    pk_test_stress::spoiled::others::<Pink>(rt.alloc())
+    pk_test_spoiled::spoiled::others::<Pink>(rt.alloc())
 }
 
 #[test]
 fn entries_elsewhere(rt: HostRuntime) -> Result<(), Fail> {
-    pk_test_stress::namespaces::entries_elsewhere::<Pink>(rt.alloc())
+    pk_test_spoiled::namespaces::entries_elsewhere::<Pink>(rt.alloc())
 }
 
 #[test]
 fn limits_passed(rt: HostRuntime) -> Result<(), Fail> {
-    pk_test_stress::namespaces::limits_passed::<Pink>(rt.alloc())
+    pk_test_spoiled::namespaces::limits_passed::<Pink>(rt.alloc())
 }
 
 #[test]
 fn every_byte_of_two(rt: HostRuntime) -> Result<(), Fail> {
-    pk_test_stress::namespaces::every_byte_of_two::<Pink>(rt.alloc())
+    pk_test_spoiled::namespaces::every_byte_of_two::<Pink>(rt.alloc())
 }
 
 #[test]
