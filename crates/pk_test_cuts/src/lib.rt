@@ -1,5 +1,4 @@
-//! Trials of any program whose sessions are cut at every mark: from a made drive on, and on flashes
-//! made by hand.
+//! Trials of any program whose sessions are cut at every mark, from a made drive on.
 //!
 //! Each trial compares the status and the posted bytes with the records of the answers that it
 //! lists. `pk_test_program` runs them on the program.
@@ -7,13 +6,8 @@
 
 pub mod cuts;
 pub mod erases;
-pub mod freezes;
 pub mod halves;
-pub mod held;
-pub mod layered;
-pub mod merges;
 pub mod reclaims;
 pub mod recut;
 pub mod space_cuts;
 pub mod ways;
-pub mod worked_cuts;

@@ -1,9 +1,8 @@
-//! Sessions that are cut, run on the program.
+//! Sessions that are cut, and flashes made by hand, run on the program.
 
 use crate::pink::Pink;
-use pk_test_cuts::{
-    cuts, erases, freezes, halves, held, merges, reclaims, recut, space_cuts, worked_cuts,
-};
+use pk_test_cuts::{cuts, erases, halves, reclaims, recut, space_cuts};
+use pk_test_layered::{freezes, held, merges, worked_cuts};
 use std::test::*;
 
 // ---- cuts
