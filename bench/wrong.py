@@ -140,17 +140,18 @@ class Checker:
             words += ["-L", f"dependency={self.library(name).parent}"]
         return words + ["--antt-project", f"{self.kit}/rattle/logic/antt-project.json", "--logic-built", f"{self.kit}/logic_built", "--jobs", "1"]
 
-    def run(self, crate: str, room: pathlib.Path, files: set[str]) -> tuple[int, list[str]]:
-        """The status of a check of the modules that these files are, and its lines."""
-        modules = [".".join(pathlib.Path(it).with_suffix("").parts[1:]).replace(".", "::") for it in sorted(files)]
+    def run(self, crate: str, room: pathlib.Path, files: set[str], functions: set[str]) -> tuple[int, list[str]]:
+        """The status of a check of the modules that these files are, and its lines; of the whole crate, if it does not report each function."""
+        modules = ["::".join(pathlib.Path(it).with_suffix("").parts[1:]) for it in sorted(files)]
         only = [] if "lib" in modules else [word for it in modules for word in ("--only", it)]
-        for _ in range(2):
+        while True:
             words = [*self.words(crate), "--incremental", str(room / "kept"), *only]
             ran = subprocess.run(words, cwd=room, stdin=subprocess.DEVNULL, stdout=subprocess.PIPE, stderr=subprocess.STDOUT, text=True, errors="replace")
-            if ran.returncode != 2 or not only:
-                break
-            only = []  # a module that no path names: the whole crate
-        return ran.returncode, ran.stdout.split("\n")
+            lines = ran.stdout.split("\n")
+            reported = {it.split(": ")[0].split("::")[-1] for it in lines if re.match(r"fn \S+: ", it)}
+            if not only or functions <= reported or any(re.search(r"\berror\[[\w-]+\]", it) for it in lines):
+                return ran.returncode, lines
+            only = []
 
 
 # ---- what a check says of an edit
@@ -244,7 +245,8 @@ def tried(checker: Checker, crate: str, edits: list[Edit], is_late, tell) -> Non
                     texts[file] = texts.get(file, (folder / file).read_text(encoding="utf-8")).replace(old, new)
             for file, text in texts.items():
                 (room / file).write_text(text, encoding="utf-8")
-            status, lines = checker.run(crate, room, {it for it in texts if it.startswith("src/")})
+            functions = set().union(*(it.functions for it in batch))
+            status, lines = checker.run(crate, room, {it for it in texts if it.startswith("src/")}, functions)
             for file in texts:
                 shutil.copyfile(folder / file, room / file)
             for edit in batch:
