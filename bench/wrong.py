@@ -21,6 +21,7 @@ gave up.
 from __future__ import annotations
 
 import argparse
+import functools
 import hashlib
 import pathlib
 import re
@@ -77,6 +78,7 @@ def below(deps: dict[str, list[str]], crate: str, found: dict[str, None] | None 
     return list(found)
 
 
+@functools.cache
 def sum_of(folder: pathlib.Path) -> str:
     files = sorted(it for part in PARTS for it in (folder / part).rglob("*") if it.is_file())
     return hashlib.sha256(b"".join(str(it.relative_to(folder)).encode() + b"\0" + it.read_bytes() for it in files)).hexdigest()
@@ -266,7 +268,7 @@ def wanted(args: argparse.Namespace) -> dict[str, list[Edit]]:
         changed = lambda it: subprocess.run(["git", "-C", str(TOP), "diff", "--quiet", args.since, "HEAD", "--", f"crates/{it}", f"bench/wrong-bodies/{it}"]).returncode
         names = [it for it in names if changed(it)]
     found = {}
-    for crate in names:
+    for crate in sorted(names, key=list(crates()).index):
         paths = [*(TOP / "bench" / "wrong-bodies" / crate).glob("*.edit"), *((TOP / "crates" / crate / "must-fail").glob("*.edit") if args.gate else [])]
         found[crate] = [read_edit(it, crate) for it in sorted(paths)]
     return found
