@@ -8,6 +8,8 @@ import struct
 from functools import cached_property
 from typing import Optional
 
+import pinkdrive
+
 HEADER_BYTES = 32
 """Bytes of the header of an image file, before the state bytes."""
 HEAD_BYTES = 32
@@ -202,20 +204,5 @@ class Layout:
 
 
 def shape_fault(shape: Shape) -> Optional[str]:
-    """Why a shape is not allowed, or None."""
-    if shape.page_bytes not in PAGE_BYTES:
-        return f"a page of {shape.page_bytes} bytes: it has to be 512, 1024, 2048, 4096, 8192 or 16384"
-    layout = Layout(shape)
-    if shape.block_pages not in BLOCK_PAGES:
-        return f"a block of {shape.block_pages} pages: it has to be 8, 16, 32, 64, 128 or 256"
-    if layout.dense > layout.page_entries:
-        return f"blocks of {shape.block_pages} pages are too large for pages of {shape.page_bytes} bytes"
-    if shape.blocks > MOST_BLOCKS:
-        return f"{shape.blocks} blocks: at most {MOST_BLOCKS} are allowed"
-    if shape.flash_bytes > MOST_FLASH_BYTES:
-        return f"a flash of {shape.flash_bytes} bytes: at most {MOST_FLASH_BYTES} are allowed"
-    if not layout.has_room:
-        return "a root page has no room for the list of blocks: take larger pages or fewer blocks"
-    if shape.blocks < 9 + layout.meta_blocks:
-        return f"{shape.blocks} blocks: at least {9 + layout.meta_blocks} are needed"
-    return None
+    """Why a shape is not allowed, in the words of the client; None if it is."""
+    return pinkdrive.Shape(shape.page_bytes, shape.block_pages, shape.blocks).fault()
