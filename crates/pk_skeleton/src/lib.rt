@@ -12,4 +12,4 @@ mod simulated;
 pub use board::ChipBoard;
 pub use chips::{ChipFault, Chips};
 pub use link::{Link, LinkFault};
-pub use simulated::{Collected, SimulatedChips};
+pub use simulated::{MemoryLink, SimulatedChips};

@@ -1,5 +1,5 @@
-//! Parts and a link for tests: parts in memory, of which calls can be planned to fail, and a link that collects.
-ghost use Rattle.std.specs.Prelude.{◌≡◌};
+//! Parts and a link for tests: parts in memory, of which calls can be planned to fail, and a host in memory.
+ghost use Rattle.std.specs.Prelude.{◌≤◌, length};
 
 use crate::chips::{ChipFault, Chips};
 use crate::link::{Link, LinkFault};
@@ -26,7 +26,16 @@ impl SimulatedChips {
         Ok(SimulatedChips { alloc, flash })
     }
 
-    /// Plans that a call, counted from 0 over the reads, programs and erases of the parts, fails and leaves this.
+    /// How many reads, programs and erases were made of the parts.
+    pub fn calls(&self) -> u64 {
+        let changes = self
+            .flash
+            .program_count()
+            .saturating_add(self.flash.erase_count());
+        self.flash.read_count().saturating_add(changes)
+    }
+
+    /// Plans that the call with this number, counted from 0, fails and leaves this.
     pub fn fail(&mut self, call: u64, left: Left) -> Result<(), AllocError> {
         self.flash.fail(self.alloc, call, left)
     }
@@ -73,20 +82,42 @@ impl Chips for SimulatedChips {
     }
 }
 
-/// A link to a host that says nothing, and keeps what it is given.
+/// A host in memory: what it says, and what it was given.
 #[derive(Drop)]
-pub struct Collected {
-    pub bytes: Vec<u8>,
+pub struct MemoryLink {
+    says: Vec<u8>,
+    taken: usize,
+    given: Vec<u8>,
+    ghost in_says: { taken ≤ length says.items },
 }
 
-impl Link for Collected {
+impl MemoryLink {
+    /// A host that says this.
+    pub fn new(alloc: Global, says: Vec<u8>) -> MemoryLink {
+        MemoryLink {
+            says,
+            taken: 0,
+            given: Vec::new(alloc),
+        }
+    }
+
+    /// What it was given.
+    pub fn given(&self) -> &[u8] {
+        self.given.as_slice()
+    }
+}
+
+impl Link for MemoryLink {
     fn receive(&mut self, into: &mut [u8]) -> Result<usize, LinkFault> {
-        let _ = into;
-        Ok(0)
+        let count = into.len().min(self.says.len() - self.taken);
+        let end = self.taken + count;
+        into[..count].copy_from_slice(&self.says[self.taken..end]);
+        self.taken = end;
+        Ok(count)
     }
 
     fn send(&mut self, bytes: &[u8]) -> Result<(), LinkFault> {
-        match self.bytes.extend_from_slice(bytes) {
+        match self.given.extend_from_slice(bytes) {
             Ok(()) => Ok(()),
             Err(_) => Err(LinkFault),
         }
