@@ -198,6 +198,12 @@ class Layout:
         """Most pages of all values."""
         return (self.data_blocks - 1) * self.dense
 
+    def memory(self, frames: int) -> int:
+        """The bytes that the drive takes for itself when it is opened with so many frames, and keeps; docs/BOARDS.md says what takes them."""
+        p, n, m = self.shape.page_bytes, self.shape.block_pages, self.shape.blocks
+        runs = 72 * sum(self.caps) + 8 * sum(units(cap, n) for cap in self.caps)
+        return 2 * self.shape.pages + 7 * m + runs + 10 * p + 256 * self.page_entries + 72 * n + frames * (p + 1)
+
     @property
     def root_pages(self) -> range:
         return range(ROOT_BLOCKS * self.shape.block_pages)

@@ -1,5 +1,5 @@
 //! The board: it counts calls and faults, and passes each call on.
-ghost use Rattle.std.specs.Prelude.{◌≡◌, is_none, None};
+ghost use Rattle.std.specs.Prelude.{◌≡◌, ◌<◌, ◌/◌, is_none, length, None, Some};
 ghost use Rattle.pk_nand.specs.BoardState.{shape_or_none};
 
 use crate::chips::Chips;
@@ -61,10 +61,13 @@ impl<C: Chips + Drop, L: Link + Drop> ChipBoard<C, L> {
     }
 
     /// The block of a page.
-    fn block_of(&self, page: u32) -> Option<u32> {
+    fn block_of(&self, page: u32) -> Option<u32>
+        requires { page < length (C.pages self.now.chips) }
+        ensures { result ≡ Some (page / (shape_or_none (C.geometry self.now.chips)).block_pages) }
+    {
         match self.chips.shape() {
             Some(shape) => Some(page / shape.block_pages()),
-            None => None,
+            None => unreachable!(),
         }
     }
 }

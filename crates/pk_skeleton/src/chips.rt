@@ -24,11 +24,10 @@ pub trait Chips {
     /// The pages in order.
     ghost pages: { Self → Flash };
 
-    /// The shape of the drive on the parts, which the driver found when it started. None before a drive is made.
+    /// The shape of the drive on the parts, which the driver found when it started. None before a drive is made, and no pages then.
     fn shape(&self) -> Option<Shape>
         ensures value { result ≡ geometry self.now }
-        ensures flash { (own : spec.Shape) → geometry self.now ≡ Some own
-            → IsFlash own (pages self.now) };
+        ensures flash { IsFlash (shape_or_none (geometry self.now)) (pages self.now) };
 
     /// Erases all pages for a drive of this shape. Fails also if the parts have another one.
     fn prepare(&mut self, own: Shape) -> Result<(), ChipFault>
