@@ -189,7 +189,7 @@ class Shape(NamedTuple):
         if blocks > 4096:
             return f"a drive has at most 4096 blocks, not {blocks}"
         if page * pages * blocks > 1 << 28:
-            return f"a drive has at most 256 MiB, not {page} * {pages} * {blocks} bytes"
+            return f"a drive has at most 256 MiB ({1 << 28} bytes), not {page * pages * blocks} bytes"
         index = self.index_blocks
         if 64 + 2 * (index + 4) > page:
             return f"a root with {index + 4} block numbers does not fit a page of {page} bytes"

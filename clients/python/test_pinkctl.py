@@ -470,7 +470,7 @@ class ExportAndImport(OnImage):
         self.assertFalse(os.path.exists(new))
         self.ctl("import", new, input=b"store 61 61\n", status=8)
         self.ctl("import", new, "--make", "512", "16", "21", input=b"store 61 61\n", status=2)
-        self.assertIn("at least 22 are needed", self.said)
+        self.assertIn("a drive of this page and block has at least 22 blocks, not 21", self.said)
         self.assertFalse(os.path.exists(new))
         self.ctl("import", new, "--make", "512", "16", "64", input=b"store 61 61\n")
         self.assertEqual(self.held(new), {b"a": b"a"})
@@ -874,6 +874,17 @@ class Shapes(OnImage):
                     if allowed:
                         self.assertEqual(os.path.getsize(new), layout.Shape(p, n, m).file_bytes)
                         os.remove(new)
+
+    def test_one_wording(self):
+        shapes = [(500, 16, 64), (512, 9, 64), (512, 32, 64), (512, 16, 4097), (16384, 256, 65), (512, 8, 3000), (512, 16, 21), (512, 16, 64)]
+        for shape in shapes:
+            fault = pinkdrive.Shape(*shape).fault()
+            self.assertEqual(layout.shape_fault(layout.Shape(*shape)), fault)
+            said = subprocess.run(
+                ["sh", "-c", '. "$0"; shape_fault "$@"', os.path.join(TOP, "launch/why.sh"), *map(str, shape)], capture_output=True, text=True
+            )
+            self.assertEqual((said.stdout, said.stderr), (f"{fault}\n" if fault else "", ""), shape)
+        self.assertEqual(len({pinkdrive.Shape(*shape).fault() for shape in shapes}), len(shapes))
 
     def test_words(self):
         self.ctl("shapes", status=2)

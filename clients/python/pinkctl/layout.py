@@ -8,6 +8,8 @@ import struct
 from functools import cached_property
 from typing import Optional
 
+import pinkdrive
+
 HEADER_BYTES = 32
 """Bytes of the header of an image file, before the state bytes."""
 HEAD_BYTES = 32
@@ -196,26 +198,17 @@ class Layout:
         """Most pages of all values."""
         return (self.data_blocks - 1) * self.dense
 
+    def memory(self, frames: int) -> int:
+        """The bytes that the drive takes for itself when it is opened with so many frames, and keeps; docs/BOARDS.md says what takes them."""
+        p, n, m = self.shape.page_bytes, self.shape.block_pages, self.shape.blocks
+        runs = 72 * sum(self.caps) + 8 * sum(units(cap, n) for cap in self.caps)
+        return 2 * self.shape.pages + 7 * m + runs + 10 * p + 256 * self.page_entries + 72 * n + frames * (p + 1)
+
     @property
     def root_pages(self) -> range:
         return range(ROOT_BLOCKS * self.shape.block_pages)
 
 
 def shape_fault(shape: Shape) -> Optional[str]:
-    """Why a shape is not allowed, or None."""
-    if shape.page_bytes not in PAGE_BYTES:
-        return f"a page of {shape.page_bytes} bytes: it has to be 512, 1024, 2048, 4096, 8192 or 16384"
-    layout = Layout(shape)
-    if shape.block_pages not in BLOCK_PAGES:
-        return f"a block of {shape.block_pages} pages: it has to be 8, 16, 32, 64, 128 or 256"
-    if layout.dense > layout.page_entries:
-        return f"blocks of {shape.block_pages} pages are too large for pages of {shape.page_bytes} bytes"
-    if shape.blocks > MOST_BLOCKS:
-        return f"{shape.blocks} blocks: at most {MOST_BLOCKS} are allowed"
-    if shape.flash_bytes > MOST_FLASH_BYTES:
-        return f"a flash of {shape.flash_bytes} bytes: at most {MOST_FLASH_BYTES} are allowed"
-    if not layout.has_room:
-        return "a root page has no room for the list of blocks: take larger pages or fewer blocks"
-    if shape.blocks < 9 + layout.meta_blocks:
-        return f"{shape.blocks} blocks: at least {9 + layout.meta_blocks} are needed"
-    return None
+    """Why a shape is not allowed, in the words of the client; None if it is."""
+    return pinkdrive.Shape(shape.page_bytes, shape.block_pages, shape.blocks).fault()

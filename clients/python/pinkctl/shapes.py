@@ -1,4 +1,4 @@
-"""shapes: which shapes hold a number of values of a length, and what a shape holds."""
+"""shapes: which shapes hold a number of values of a length, and what a shape holds and takes."""
 
 import argparse
 import itertools
@@ -10,10 +10,14 @@ from .status import Exit, ToolError
 
 DESCRIPTION = """\
 Prints the smallest images that hold COUNT values of BYTES bytes, smallest first, for `pink IMAGE
-make P N M`. A value takes whole pairs of pages with a head of 32 bytes. With --shape it prints what a shape holds."""
+make P N M`. A value takes whole pairs of pages with a head of 32 bytes. With --shape it prints what
+a shape holds, and the memory of its drive."""
 
 GREATEST_VALUE = max(BLOCK_PAGES) // 4 * max(PAGE_BYTES) - HEAD_BYTES
 """The most bytes of a value, of any shape."""
+
+FRAMES = (0, 36, 520)
+"""The frames of which the memory is told: none, those of the words, and those of docs/SPEED.md."""
 
 
 def add_parser(subparsers: Any) -> None:
@@ -108,4 +112,7 @@ def tell_shape(shape: Shape) -> int:
     for length in (100, 1000, 10_000, 100_000, layout.greatest):
         if length <= layout.greatest:
             print(f"  values of {length:,} bytes: {held(layout, length):,}")
+    print("memory of the drive, without what the program keeps of its image:")
+    for frames in FRAMES:
+        print(f"  {frames} frames: {layout.memory(frames):,} bytes")
     return Exit.OK

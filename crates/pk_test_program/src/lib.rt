@@ -1,5 +1,5 @@
 //! The trials run on the program, each a test: whole sessions, cuts, faults, hard cases; drives in
-//! heaps (`stress`); and its words on an image file (`image`). The crate has nothing but tests.
+//! heaps (`stress`); its words on an image file (`image`); and over the skeleton of a board (`skeleton`). The crate has nothing but tests.
 #![tactic(auto)]
 
 #[cfg(test)]
@@ -12,5 +12,7 @@ mod image;
 mod pink;
 #[cfg(test)]
 mod sessions;
+#[cfg(test)]
+mod skeleton;
 #[cfg(test)]
 mod stress;
