@@ -18,6 +18,8 @@ from pinkctl.nodes import Node, owner  # noqa: E402
 from pinkctl.status import ToolError  # noqa: E402
 
 PORT, TIMEOUT = 7600, 3000
+TAGS = [f's{number}' for number in range(8)]
+"""All keys of the writers have one of these tags, and so are in eight slots."""
 checks = 0
 
 
@@ -222,10 +224,12 @@ def pinkctl(*words, wanted=0):
 
 
 class Cluster:
-    def __init__(self, folder):
+    """Three primaries and their replicas."""
+
+    def __init__(self, folder, port):
         self.folder = folder + '/cluster'
-        pinkctl('make', self.folder, 3, 4096, 64, 512, '--port', PORT, '--timeout', TIMEOUT)
-        self.ports = range(PORT, PORT + 6)
+        pinkctl('make', self.folder, 3, 4096, 64, 512, '--port', port, '--timeout', TIMEOUT)
+        self.ports = range(port, port + 6)
         pinkctl('start', self.folder)
 
     def seen(self):
@@ -314,7 +318,8 @@ class Writer(threading.Thread):
         self.held, self.doubt, self.answered, self.failed, self.wrong, self.stop = {}, {}, 0, 0, 0, False
 
     def step(self):
-        key = f'{self.front}:{self.draw.randrange(60)}'
+        draw = self.draw.randrange(60)
+        key = f'{{{TAGS[draw % len(TAGS)]}}}{self.front}:{draw}'
         what = self.draw.random()
         if what < 0.2 and key not in self.doubt:
             self.wrong += self.it.do(key, 'GET', key) != self.held.get(key)
@@ -415,39 +420,97 @@ def try_planned(cluster, turns):
     return f'{turns} planned failovers: {answered} changes, {keys} keys looked at, none lost'
 
 
+def a_move(cluster):
+    """A slot with keys, who has it, and another primary."""
+    slot = slot_of(random.choice(TAGS))
+    source = owner(cluster.seen(), slot).port
+    return slot, source, random.choice(sorted({*cluster.primaries()} - {source}))
+
+
+def check_moved(cluster, source, target, first, last):
+    """The target has the slots, or whoever took its place, and the source keeps no key of them."""
+    found = owner(cluster.seen(), first).port
+    with Node(source) as node:
+        left = sum(node.do('CLUSTER', 'COUNTKEYSINSLOT', slot) for slot in range(first, last + 1))
+    check('the source keeps no key', left == 0 and found != source, left, found, target)
+
+
+def end_move(cluster, kill):
+    """Ends a move that a kill broke off; False if there was none. A busy machine may take too long for a pause: then it is run again."""
+    if not os.path.exists(cluster.folder + '/move.json'):
+        return False
+    last = time.monotonic() + 60
+    while True:
+        run = subprocess.run([TOP + '/pinkctl', 'cluster', 'move-slots', cluster.folder], capture_output=True, text=True)
+        if run.returncode == 0:
+            return True
+        is_slow = 'took more than' in run.stderr and time.monotonic() < last
+        check(f'a second run ends the move that was broken off by a kill {kill}', is_slow, run.stderr)
+
+
 def try_moves(cluster, kills):
     """move-slots is killed at random moments under writers, and run again until it ends."""
     killed, moved = 0, 0
 
     def act():
         nonlocal killed, moved
+        words = [TOP + '/pinkctl', 'cluster', 'move-slots', cluster.folder]
         for turn in range(kills):
-            source, target = random.sample(sorted(cluster.primaries()), 2)
-            first, end = random.choice(cluster.primaries()[source].slots)
-            first = random.randint(first, end)
-            last = min(first + 15, end)
-            words = [TOP + '/pinkctl', 'cluster', 'move-slots', cluster.folder]
+            first, source, target = a_move(cluster)
+            last = min(first + 3, max(end for start, end in cluster.primaries()[source].slots if start <= first <= end))
             tool = subprocess.Popen([*words, str(source), str(target), f'{first}-{last}'], stdout=subprocess.DEVNULL)
             while tool.poll() is None and not os.path.exists(cluster.folder + '/move.json'):
                 time.sleep(0.01)
-            time.sleep(random.random() * random.choice([0.05, 0.5, 1]))
+            time.sleep(random.random() * random.choice([0.05, 0.2, 0.5]))
             tool.kill()
             killed += tool.wait() == -signal.SIGKILL
-            if os.path.exists(cluster.folder + '/move.json'):
-                run = subprocess.run(words, capture_output=True, text=True)
-                check('a second run ends the move', run.returncode == 0, run.stderr)
-            seen = cluster.seen()
-            if owner(seen, first).port == target:
+            end_move(cluster, 'at a moment')
+            if owner(cluster.seen(), first).port == target:
                 moved += last - first + 1
-                with Node(source) as node:
-                    left = sum(node.do('CLUSTER', 'COUNTKEYSINSLOT', slot) for slot in range(first, last + 1))
-                check('the source keeps no key', left == 0, left)
+                check_moved(cluster, source, target, first, last)
+            print(f'\r{turn + 1} of {kills} moves', end='', file=sys.stderr)
         check('no slot is without a server', sum(b - a + 1 for it in cluster.seen() for a, b in it.slots) == 16384)
 
     answered, keys = with_writers(cluster, 8, 0, act)
     cluster.check()
     check('moves were killed and slots moved', killed and moved, killed, moved)
     return f'move-slots killed {killed} of {kills} times, {moved} slots moved: {answered} changes, {keys} keys looked at, none lost, no read wrong'
+
+
+def broken_move(cluster, step, victim, *words):
+    """Its last line, if it came to its end; `victim` is the tool itself (0) or the port of a server."""
+    process = cluster.process(victim) if victim else 0
+    tool = [sys.executable, os.path.join(TOP, 'bench', 'broken_move.py'), step, process, cluster.folder, *words]
+    run = subprocess.run([str(it) for it in tool], capture_output=True, text=True, timeout=120)
+    check('the tool ends by itself or is killed', run.returncode >= 0 or run.returncode == -signal.SIGKILL, run.returncode, run.stderr)
+    return run.stdout.splitlines()[-1] if run.returncode == 0 else ''
+
+
+def try_move_steps(cluster, kinds, stride):
+    """The tool, the source or the target is killed before every step of a move, or every so many steps, and a second run ends it."""
+    told = []
+    for kind in kinds:
+
+        def act(kind=kind):
+            step, ends = random.randint(1, stride), 0
+            while ends < 2:  # until a move came to its end before that step, twice
+                until('the cluster is whole', cluster.is_whole, 90)
+                slot, source, target = a_move(cluster)
+                said = broken_move(cluster, step, {'tool': 0, 'source': source, 'target': target}[kind], source, target, slot)
+                if kind != 'tool':
+                    pinkctl('start', cluster.folder)
+                if end_move(cluster, f'of its {kind} before step {step}'):
+                    check_moved(cluster, source, target, slot, slot)
+                ends += said.endswith(' steps')
+                step += stride
+                print(f'\r{step} steps, {kind}', end='', file=sys.stderr)
+            told.append(f'{kind} before {(step - 1) // stride} steps')
+
+        answered, keys = with_writers(cluster, 4, 1, act)
+        told[-1] += f' ({answered} changes, {keys} keys looked at)'
+        check('no slot is without a server', sum(b - a + 1 for it in cluster.seen() for a, b in it.slots) == 16384)
+        cluster.check()
+    return 'a move that lost its ' + ', its '.join(told) + ': ended by a second run, nothing lost'
 
 
 def try_changes_of_a_pause(cluster, turns):
@@ -488,33 +551,66 @@ def slot_of(name):
     return binascii.crc_hqx(name.encode(), 0) % 16384
 
 
-def try_cluster(folder, kills):
-    cluster = Cluster(folder)
+def try_cluster(folder, port, *parts):
+    """These parts, on a cluster of their own."""
+    cluster = Cluster(folder, port)
     try:
-        refused = subprocess.run(['redis-cli', '-p', str(PORT), 'CLUSTER', 'SETSLOT', '1', 'MIGRATING', '0' * 40], capture_output=True, text=True).stdout
+        refused = subprocess.run(['redis-cli', '-p', str(port), 'CLUSTER', 'SETSLOT', '1', 'MIGRATING', '0' * 40], capture_output=True, text=True).stdout
         check('slots are not moved by redis-cli', 'unknown command' in refused, refused)
-        told = [try_changes_of_a_pause(cluster, kills), try_moves(cluster, 2 * kills), try_planned(cluster, kills), try_failures(cluster, kills)]
+        for part in parts:
+            print(part(cluster), flush=True)
     finally:
         pinkctl('stop', cluster.folder)
     told_of = pinkctl('check', cluster.folder)
     check('each image is whole', told_of.count('whole') == 6, told_of)
-    return told
 
 
-def main(kills):
-    skip_without('redis-server', 'redis-cli', 'gcc', 'make')
-    module()
+def try_pairs(folder, kills):
+    for part in (try_wait, try_dump, try_smaller, try_hashed, try_broken_copies):
+        part(folder)
+        print(f'{part.__name__}: {checks} checks so far', flush=True)
+        for image in glob.glob(folder + '/*.img*'):
+            os.unlink(image)
+
+
+def all_moves(folder, kills):
+    try_cluster(folder, PORT + 10, lambda it: try_changes_of_a_pause(it, kills), lambda it: try_moves(it, 2 * kills))
+
+
+def all_steps(folder, kills):
+    stride = max(1, 20 // kills)
+    try_cluster(folder, PORT + 20, lambda it: try_move_steps(it, ['tool'], stride), lambda it: try_move_steps(it, ['source', 'target'], 8 * stride))
+
+
+def all_planned(folder, kills):
+    try_cluster(folder, PORT + 30, lambda it: try_planned(it, kills))
+
+
+def all_kills(folder, kills):
+    try_cluster(folder, PORT + 40, lambda it: try_failures(it, kills))
+
+
+PARTS = {'pairs': try_pairs, 'moves': all_moves, 'steps': all_steps, 'planned': all_planned, 'kills': all_kills}
+"""What is tried at once; each part has ports of its own."""
+
+
+def try_part(kills, name):
     random.seed(kills)
     with tempfile.TemporaryDirectory() as folder:
-        for part in (try_wait, try_dump, try_smaller, try_hashed, try_broken_copies):
-            part(folder)
-            print(f'{part.__name__}: {checks} checks so far', flush=True)
-            for image in glob.glob(folder + '/*.img*'):
-                os.unlink(image)
-        told = try_cluster(folder, kills)
-    print('\n'.join(told))
-    print(f'cluster.sh: {checks} checks passed')
+        PARTS[name](folder, kills)
+    print(f'{name}: {checks} checks passed', flush=True)
+
+
+def main(kills, *names):
+    skip_without('redis-server', 'redis-cli', 'gcc', 'make')
+    module()
+    if len(names) == 1:
+        return try_part(kills, *names)
+    names = names or tuple(PARTS)
+    runs = [subprocess.Popen([sys.executable, __file__, str(kills), name]) for name in names]
+    faults = [name for name, run in zip(names, runs) if run.wait()]
+    sys.exit(f'cluster.sh: failed: {", ".join(faults)}' if faults else None)
 
 
 if __name__ == '__main__':
-    main(int(sys.argv[1]) if len(sys.argv) > 1 else 20)
+    main(int(sys.argv[1]) if len(sys.argv) > 1 else 20, *sys.argv[2:])

@@ -4,7 +4,8 @@
 # change is looked for. It needs Debian's redis-server and redis-tools, gcc and make, and ends with a line where they are missing.
 # It is not part of the gate.
 #
-#   bench/cluster.sh [KILLS]     20 kills and 20 planned failovers by default
+#   bench/cluster.sh [KILLS [PART..]]     20 kills and 20 planned failovers by default; the parts pairs, moves, steps, planned, kills
+#                                run at once, or those that are named
 set -eu
 top=$(CDPATH='' cd -- "$(dirname -- "$0")/.." && pwd)
 exec python3 "$top/bench/cluster.py" "$@"

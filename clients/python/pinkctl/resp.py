@@ -24,27 +24,86 @@ class ProtocolError(Exception):
     """The bytes are no request; the connection is of no more use."""
 
 
+COUNTS = {b"*%d" % count: count for count in range(1, 64)}
+"""The first lines of requests, with their numbers of words."""
+HEADS = [b"$%d" % length for length in range(4096)]
+"""The lines before words, by the lengths of the words."""
+LINES_BYTES = 4096
+"""So much of what has come is split at the ends of its lines at a time."""
+
+
 class Requests:
-    """The requests in the bytes that came so far."""
+    """The requests in the bytes that came so far.
+
+    Bytes are split at the ends of their lines, as one step for many requests. A request whose words have the lengths
+    that the lines before them say is read from its lines; any other one from its bytes: one that has not come as
+    a whole, that has the end of a line in a word, that is long, that is a line of words, or that is none.
+    """
 
     def __init__(self) -> None:
         self._data = b""
-        self._at = 0
+        self._at = 0  # where the bytes begin that are not split
+        self._lines: List[bytes] = []  # those before, and what comes after their last end
+        self._line_at = 0
+        self._is_split = True  # whether lines are of use for what has come
 
     def feed(self, data: bytes) -> None:
         """Takes more bytes."""
-        self._data = self._data[self._at :] + data if self._at < len(self._data) else data
+        self._join()
+        rest = len(self._data) - self._at
+        self._data = self._data[self._at :] + data if rest else data
         self._at = 0
+        self._is_split = rest < LINES_BYTES  # a long word is not looked through for each of its parts
 
     def is_empty(self) -> bool:
-        return self._at >= len(self._data)
+        lines, at = self._lines, self._line_at
+        return self._at >= len(self._data) and (not lines or at + 1 == len(lines) and not lines[at])
 
     def length(self) -> int:
         """The bytes that are no whole request yet, or were not asked for."""
+        self._join()
         return len(self._data) - self._at
 
     def next(self) -> Optional[List[bytes]]:
         """The words of the next request that is there as a whole, or None; no empty ones."""
+        lines, at = self._lines, self._line_at
+        if at + 1 >= len(lines):
+            return self._next_after_lines()
+        end = at + 1 + 2 * COUNTS.get(lines[at], MOST_WORDS)
+        if end >= len(lines):
+            return self._next_after_lines()
+        words = []
+        for place in range(at + 1, end, 2):
+            word = lines[place + 1]
+            if len(word) >= len(HEADS) or lines[place] != HEADS[len(word)]:
+                return self._next_in_bytes()
+            words.append(word)
+        self._line_at = end
+        return words
+
+    def _next_after_lines(self) -> Optional[List[bytes]]:
+        """The same where the lines have no whole request: more of the bytes are split, if that may help."""
+        is_stuck = self._lines and not self._line_at
+        self._join()
+        if self._at >= len(self._data):
+            return None
+        if is_stuck or not self._is_split:
+            return self._next_in_bytes()
+        self._lines = self._data[self._at : self._at + LINES_BYTES].split(b"\r\n")
+        self._at += LINES_BYTES
+        return self.next()
+
+    def _join(self) -> None:
+        """From now on no byte that was not asked for is split."""
+        if self._lines:
+            end = min(self._at, len(self._data))
+            self._at = end - len(b"\r\n".join(self._lines[self._line_at :]))
+            self._lines, self._line_at = [], 0
+
+    def _next_in_bytes(self) -> Optional[List[bytes]]:
+        """The same without lines, as all further requests until more comes."""
+        self._join()
+        self._is_split = False
         while self._at < len(self._data):
             words = self._array() if self._data[self._at] == 0x2A else self._inline()
             if words is None or words:

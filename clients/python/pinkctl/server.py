@@ -18,7 +18,7 @@ import functools
 import gc
 import hmac
 import os
-import selectors
+import select
 import signal
 import socket
 import stat
@@ -42,8 +42,11 @@ STORE, RETRIEVE, LIST = int(Opcode.STORE), int(Opcode.RETRIEVE), int(Opcode.LIST
 DELETE, EXIST, FLUSH, REPORT = (
     int(it) for it in (Opcode.DELETE, Opcode.EXIST, Opcode.FLUSH, Opcode.REPORT)
 )
+CHANGING = frozenset((STORE, DELETE))
 IF_EXISTS, IF_ABSENT = 1, 2
 SUCCESS, NO_KEY, KEY_IS_THERE = 0x00, 0x87, 0x89
+GREATEST = pinkdrive.GREATEST_VALUE
+"""The size that a Retrieve asks for: all of the value."""
 KEY_ROOM = 20
 """Bytes that a key takes in the answer of a List, at most."""
 LIST_BYTES = 65536
@@ -95,24 +98,24 @@ class Slot:
     def fill(self, reply: bytes) -> None:
         self.reply = reply
         client = self.client
-        if client.slots and client.slots[0] is self:
+        slots = client.slots
+        if slots and slots[0] is self:
             client.collect()
 
 
-class Answer(NamedTuple):
-    """A record of the drive: the status, the result and the data."""
-
-    status: int
-    result: int
-    data: bytes
-
-
-Then = Callable[[Answer], None]
+Then = Callable[[int, int, bytes], None]
+"""Takes a record of the drive: the status, the result and the data."""
 Command = Tuple[int, bytes, int, Optional[Then], int, bytes, int, int]
 """A command of a request that has begun: opcode, key, size, who takes the record, options, value, namespace and
 the bytes that it counts as."""
 Waiting = Tuple[Optional[Then], Optional["Client"], int]
 """Who takes the record of a command, whose command it is, and how many bytes it counts as."""
+
+
+def write_all(out: bytearray, write: Callable[[bytes], int]) -> None:
+    """Writes these bytes, and removes those that were taken."""
+    while out:
+        del out[: write(out if len(out) <= RECEIVE_BYTES else out[:RECEIVE_BYTES])]
 
 
 class Link:
@@ -142,6 +145,7 @@ class Link:
         self.over = False
         self.received = 0
         self._open_changes = False
+        self._write = functools.partial(os.write, self.input)
         self._data = b""
         self._mean = 4096.0
         self._waited = 0.0
@@ -160,14 +164,13 @@ class Link:
         cost: int = 0,
     ) -> None:
         """Sends a command; `then` is called with its record."""
-        front = key[:KEY_BYTES].ljust(KEY_BYTES, b"\0")
-        number = self.sent & 0xFFFF
-        length = min(len(key), 255)
-        self.out += ENTRY.pack(opcode, number, space, front[:8], size, length, options, front[8:])
-        self.out += value
+        number, length = self.sent & 0xFFFF, min(len(key), 255)
+        self.out += ENTRY.pack(opcode, number, space, key[:8], size, length, options, key[8:KEY_BYTES])
+        if value:
+            self.out += value
         self.sent += 1
         self.waiting.append((then, client, cost))
-        if opcode in (STORE, DELETE):
+        if opcode in CHANGING:
             self.changes += 1
             self.last_change = self.sent
             self._open_changes = True
@@ -179,6 +182,10 @@ class Link:
         if self._open_changes:
             self.flushes += 1
             self.send(FLUSH, b"", 0, None)
+
+    def room(self) -> int:
+        """How many commands may be asked of the drive before it has answered more."""
+        return self.window - len(self.waiting)
 
     def is_ahead(self) -> bool:
         """Whether enough is asked of the drive for now."""
@@ -216,8 +223,7 @@ class Link:
     def write(self) -> None:
         """Writes what the pipe takes."""
         try:
-            while self.out:
-                del self.out[: os.write(self.input, memoryview(self.out)[:RECEIVE_BYTES].tobytes())]
+            write_all(self.out, self._write)
         except BlockingIOError:
             pass
         except BrokenPipeError:
@@ -247,7 +253,7 @@ class Link:
                 if client.is_stopped:
                     client.server.to_write.add(client)
             if then:
-                then(Answer(marks >> 17 & 0xFF, result, data[at + head : end]))
+                then(marks >> 17 & 0xFF, result, data[at + head : end])
             at = end
         self._data = data[at:]
         records = self.sent - len(waiting) - before
@@ -257,16 +263,16 @@ class Link:
     def reports_now(self) -> List[Report]:
         """The drive's numbers in each namespace, waited for; the first commands of a session."""
         os.set_blocking(self.output, True)
-        answers: List[Answer] = []
+        answers: List[Tuple[int, bytes]] = []
         for space in range(1, pinkdrive.NAMESPACES + 1):
-            self.send(REPORT, b"", 0, answers.append, space=space)
+            self.send(REPORT, b"", 0, lambda status, _, data: answers.append((status, data)), space=space)
         self.write()
         while len(answers) < pinkdrive.NAMESPACES and not self.over:
             self.read()
         if self.over:
             raise pinkdrive.ended(self.process.wait(), self.image)
         os.set_blocking(self.output, False)
-        found = [it.data for it in answers if it.status == SUCCESS]
+        found = [data for status, data in answers if status == SUCCESS]
         return [Report._make(struct.unpack("<16I", it)) for it in found]
 
     def end(self) -> int:
@@ -319,7 +325,7 @@ class Client:
         self.is_stopped = False  # it goes on when its replies have been taken
         self.ending = False  # no more requests are taken, and it is closed after the last reply
         self.closed = False
-        self.events = selectors.EVENT_READ
+        self.events = select.EPOLLIN
         self.may_read = True  # its next request is waited for, and nothing else
 
     def collect(self) -> None:
@@ -339,7 +345,14 @@ class Client:
         """Whether a request that changes has begun, and not all of its commands are sent."""
         return self.is_busy or bool(self.queue) and self.queue[0][0] in (STORE, DELETE)
 
-    def receive(self) -> None:
+    def take(self, events: int) -> None:
+        """Goes on when the connection can be read or written."""
+        if events & ~select.EPOLLIN:
+            self.server.to_write.add(self)
+        if events & ~select.EPOLLOUT:
+            self._receive()
+
+    def _receive(self) -> None:
         try:
             data = self.socket.recv(RECEIVE_BYTES)
         except (BlockingIOError, InterruptedError):
@@ -362,10 +375,10 @@ class Client:
         """Has a turn: goes on with the requests that have come."""
         self.is_held = self.is_stopped = False
         link, requests = self.server.link, self.requests
-        self.turn_end = link.sent + TURN_COMMANDS
+        self.turn_end = link.sent + min(TURN_COMMANDS, link.room())
         turns = TURN_COMMANDS
         while self.queue or not (self.is_busy or self.ending):
-            if not turns or link.sent >= self.turn_end or link.is_ahead():
+            if not turns or link.sent >= self.turn_end or len(link.out) >= PIPE_BYTES:
                 self.server.hold(self)
                 break
             if not self.has_room():
@@ -478,8 +491,7 @@ class Client:
     def write(self) -> None:
         """Writes what the connection takes, and closes it after its last reply."""
         try:
-            while self.out:
-                del self.out[: self.socket.send(memoryview(self.out)[:RECEIVE_BYTES].tobytes())]
+            write_all(self.out, self.socket.send)
         except (BlockingIOError, InterruptedError):
             pass
         except OSError:
@@ -494,9 +506,9 @@ class Client:
             self.server.hold(self)
         has_more = self.is_held or self.is_stopped or self.is_busy or self.pending is not None
         reads = not self.ending and not has_more
-        events = selectors.EVENT_READ * reads | selectors.EVENT_WRITE * bool(self.out)
+        events = select.EPOLLIN * reads | select.EPOLLOUT * bool(self.out)
         self.server.watch(self, events)
-        self.may_read = events == selectors.EVENT_READ
+        self.may_read = events == select.EPOLLIN
 
 
 class Group:
@@ -544,7 +556,8 @@ class Server:
         self.limits = [it.limit for it in reports]
         self.shape = pinkdrive.shape_of(link.image)
         self.greatest = self.shape.greatest_value if self.shape else pinkdrive.GREATEST_VALUE
-        self.selector = selectors.DefaultSelector()
+        self.poll = select.epoll()
+        self.takers: Dict[int, Callable[[int], None]] = {}  # by number of a file: what goes on when it is ready
         self.clients: Dict[int, Client] = {}
         self.to_write: Set[Client] = set()
         self.held: Deque[Client] = collections.deque()
@@ -575,9 +588,9 @@ class Server:
     def run(self) -> int:
         """Serves until a signal ends it, and returns the exit status."""
         self.listener.setblocking(False)
-        self.selector.register(self.listener, selectors.EVENT_READ, self._accept)
-        self.selector.register(self._wakes, selectors.EVENT_READ, self._woken)
-        self.selector.register(self.link.output, selectors.EVENT_READ, self._read_link)
+        self._wait_for(self.listener.fileno(), select.EPOLLIN, self._accept)
+        self._wait_for(self._wakes.fileno(), select.EPOLLIN, self._woken)
+        self._wait_for(self.link.output, select.EPOLLIN, self._read_link)
         while not self.ending and (not self.link.over or self._reopen()):
             self._round(None)
         status = self._last_replies() if self.link.over else self._finish()
@@ -585,27 +598,35 @@ class Server:
             self.drop(client)
         return status
 
-    def _read_link(self) -> None:
+    def _wait_for(self, number: int, events: int, taker: Callable[[int], None]) -> None:
+        """Calls the function whenever one of these events of a file has come."""
+        self.takers[number] = taker
+        self.poll.register(number, events)
+
+    def _forget(self, number: int) -> None:
+        self.poll.unregister(number)
+        del self.takers[number]
+
+    def _read_link(self, events: int) -> None:
         self.link.read()
+
+    def _write_link(self, events: int) -> None:
+        """Each round writes."""
 
     def _round(self, seconds: Optional[float]) -> None:
         """Waits, reads what came, has its changes committed, and writes what can be written."""
-        ready = self.selector.select(0 if self.held and not self.link.is_ahead() else seconds)
+        ready = self.poll.poll(0 if self.held and not self.link.is_ahead() else seconds)
         self.link.pass_time()
-        for key, events in ready:
-            if isinstance(key.data, Client):
-                if events & selectors.EVENT_READ:
-                    key.data.receive()
-                if events & selectors.EVENT_WRITE:
-                    self.to_write.add(key.data)
-            elif key.data:
-                key.data()
+        for number, events in ready:
+            self.takers[number](events)
         if self.copy:
             self._go_on_with_copy(self.copy)
-        self._take_turns()
+        if self.held:
+            self._take_turns()
         self.link.end_group()
         self.link.write()
-        self._watch_pipe()
+        if self.link.out or self._pipe_events:
+            self._watch_pipe()
         while self.to_write:
             self.to_write.pop().write()
 
@@ -631,23 +652,24 @@ class Server:
         """Waits for these events of a connection."""
         if client.closed or events == client.events:
             return
+        number = client.socket.fileno()
         if client.events == 0:
-            self.selector.register(client.socket, events, client)
+            self._wait_for(number, events, client.take)
         elif events == 0:
-            self.selector.unregister(client.socket)
+            self._forget(number)
         else:
-            self.selector.modify(client.socket, events, client)
+            self.poll.modify(number, events)
         client.events = events
 
     def _watch_pipe(self) -> None:
-        events = selectors.EVENT_WRITE if self.link.out and not self.link.over else 0
+        events = select.EPOLLOUT if self.link.out and not self.link.over else 0
         if events and not self._pipe_events:
-            self.selector.register(self.link.input, events, None)
+            self._wait_for(self.link.input, events, self._write_link)
         elif self._pipe_events and not events:
-            self.selector.unregister(self.link.input)
+            self._forget(self.link.input)
         self._pipe_events = events
 
-    def _accept(self) -> None:
+    def _accept(self, events: int) -> None:
         try:
             connection, _ = self.listener.accept()
         except OSError as fault:
@@ -660,7 +682,7 @@ class Server:
         self.connections += 1
         client = Client(self, connection, self.connections)
         self.clients[client.number] = client
-        self.selector.register(connection, selectors.EVENT_READ, client)
+        self._wait_for(connection.fileno(), client.events, client.take)
 
     def drop(self, client: Client) -> None:
         if client.closed:
@@ -672,7 +694,7 @@ class Server:
         self.clients.pop(client.number, None)
         self.paused.discard(client)
 
-    def _woken(self) -> None:
+    def _woken(self, events: int) -> None:
         try:
             self._wakes.recv(4096)
         except BlockingIOError:
@@ -710,9 +732,9 @@ class Server:
             return False
         old, frames = self.link, self.link.frames
         self._fail_waiting(f"ERR {pinkdrive._no_space(old.image)}: this command may have been done or not")
-        self.selector.unregister(old.output)
+        self._forget(old.output)
         if self._pipe_events:
-            self.selector.unregister(old.input)
+            self._forget(old.input)
             self._pipe_events = 0
         old.end()
         try:
@@ -721,7 +743,7 @@ class Server:
             self.link = old
             return False
         self.is_full_disk = True
-        self.selector.register(self.link.output, selectors.EVENT_READ, self._read_link)
+        self._wait_for(self.link.output, select.EPOLLIN, self._read_link)
         print(f"pinkctl serve: there is no space left on the disk of {old.image}: changes are refused", file=sys.stderr)
         return True
 
@@ -751,7 +773,7 @@ class Server:
 
     def _finish(self) -> int:
         """Answers what was read, and ends the session of the drive."""
-        self.selector.unregister(self.listener)
+        self._forget(self.listener.fileno())
         self.listener.close()
         for client in self.clients.values():
             client.ending = True
@@ -769,12 +791,12 @@ class Server:
             self._round(0.05)
         if self.link.over:
             return self._last_replies()
-        self.selector.unregister(self.link.output)
+        self._forget(self.link.output)
         return Exit.PROGRAM if self.link.end() else Exit.OK
 
     def _last_replies(self) -> int:
         """The program ended by itself: what it answered was sent on, and the rest is an error."""
-        self.selector.unregister(self.link.output)
+        self._forget(self.link.output)
         status = self.link.end()
         cause = pinkdrive.ended(status, self.link.image)
         self._fail_waiting(f"ERR the drive ended ({cause}); this command may have been done or not")
@@ -855,22 +877,29 @@ class Asked(NamedTuple):
     def refusal(self, status: int, opcode: int, key: bytes, size: int) -> bytes:
         return self.server.refusal(status, opcode, key, size, self.space)
 
-    def value_or_nil(self, key: bytes, answer: Answer) -> bytes:
-        if answer.status == SUCCESS:
-            return bulk(answer.data)
-        size = pinkdrive.GREATEST_VALUE
-        return NIL if answer.status == NO_KEY else self.refusal(answer.status, RETRIEVE, key, size)
+    def value_or_nil(self, key: bytes, status: int, data: bytes) -> bytes:
+        if status == SUCCESS:
+            return bulk(data)
+        return NIL if status == NO_KEY else self.refusal(status, RETRIEVE, key, GREATEST)
+
+
+class Value(Slot):
+    """The place of a value."""
+
+    __slots__ = ("asked", "key")
+
+    def __init__(self, asked: Asked, key: bytes) -> None:
+        self.client, self.reply, self.asked, self.key = asked.client, None, asked, key
+        self.client.slots.append(self)
+
+    def take(self, status: int, result: int, data: bytes) -> None:
+        self.fill(self.asked.value_or_nil(self.key, status, data))
 
 
 @command("GET", 2, 2)
 def get(server: Server, client: Client, words: List[bytes]) -> None:
-    key, slot, asked = words[1], client.slot(), client.asked
-    client.ask(
-        RETRIEVE,
-        key,
-        pinkdrive.GREATEST_VALUE,
-        lambda answer: slot.fill(asked.value_or_nil(key, answer)),
-    )
+    key = words[1]
+    client.ask(RETRIEVE, key, GREATEST, Value(client.asked, key).take)
 
 
 @command("MGET", 2, None)
@@ -882,13 +911,8 @@ def get_many(server: Server, client: Client, words: List[bytes]) -> None:
             client.say(asked.refusal(0x86, RETRIEVE, key, 0))
             return
     client.say(b"*%d\r\n" % (len(words) - 1))
-
-    def found(slot: Slot, key: bytes, answer: Answer) -> None:
-        slot.fill(asked.value_or_nil(key, answer))
-
     for key in words[1:]:
-        then = functools.partial(found, client.slot(), key)
-        client.ask(RETRIEVE, key, pinkdrive.GREATEST_VALUE, then)
+        client.ask(RETRIEVE, key, GREATEST, Value(asked, key).take)
 
 
 def set_options(words: List[bytes]) -> Union[Tuple[int, bool], str]:
@@ -916,44 +940,53 @@ def set_value(server: Server, client: Client, words: List[bytes]) -> None:
     if before:
         store_and_get(client.asked, key, value, options)
     else:
-        store(client.asked, key, value, options, OK, NIL)
+        store(client, key, value, options, OK, NIL)
 
 
-def store(
-    asked: Asked, key: bytes, value: bytes, options: int, done: bytes, not_done: bytes
-) -> None:
-    """A Store whose reply is `done`, or `not_done` if its options forbade it."""
-    slot = asked.client.slot()
+class Stored(Slot):
+    """The place of the reply to a Store: `done`, or `not_done` if its options forbade it."""
 
-    def stored(answer: Answer) -> None:
-        status = answer.status
+    __slots__ = ("asked", "key", "size", "done", "not_done")
+
+    def __init__(self, asked: Asked, key: bytes, size: int, done: bytes, not_done: Optional[bytes]) -> None:
+        self.client, self.reply, self.asked, self.key = asked.client, None, asked, key
+        self.size, self.done, self.not_done = size, done, not_done
+        self.client.slots.append(self)
+
+    def take(self, status: int, result: int, data: bytes) -> None:
         if status == SUCCESS:
-            slot.fill(done)
-        elif options and status in (NO_KEY, KEY_IS_THERE):
-            slot.fill(not_done)
+            self.fill(self.done)
+        elif self.not_done and status in (NO_KEY, KEY_IS_THERE):
+            self.fill(self.not_done)
         else:
-            slot.fill(asked.refusal(status, STORE, key, len(value)))
+            self.fill(self.asked.refusal(status, STORE, self.key, self.size))
 
-    asked.client.ask(STORE, key, len(value), stored, options, value)
+
+def store(client: Client, key: bytes, value: bytes, options: int, done: bytes, not_done: bytes) -> None:
+    size = len(value)
+    then = Stored(client.asked, key, size, done, not_done if options else None).take
+    client.ask(STORE, key, size, then, options, value)
 
 
 def store_and_get(asked: Asked, key: bytes, value: bytes, options: int) -> None:
     """SET with GET: the value before, or an error of either command."""
-    size, slot = pinkdrive.GREATEST_VALUE, asked.client.slot()
+    slot = asked.client.slot()
     old: List[bytes] = []
 
-    def stored(answer: Answer) -> None:
-        fine = answer.status in (SUCCESS, NO_KEY, KEY_IS_THERE)
-        slot.fill(old[0] if fine else asked.refusal(answer.status, STORE, key, len(value)))
+    def found(status: int, result: int, data: bytes) -> None:
+        old.append(asked.value_or_nil(key, status, data))
 
-    ask = asked.client.ask
-    ask(RETRIEVE, key, size, lambda answer: old.append(asked.value_or_nil(key, answer)))
-    ask(STORE, key, len(value), stored, options, value)
+    def stored(status: int, result: int, data: bytes) -> None:
+        fine = status in (SUCCESS, NO_KEY, KEY_IS_THERE)
+        slot.fill(old[0] if fine else asked.refusal(status, STORE, key, len(value)))
+
+    asked.client.ask(RETRIEVE, key, GREATEST, found)
+    asked.client.ask(STORE, key, len(value), stored, options, value)
 
 
 @command("SETNX", 3, 3)
 def set_absent(server: Server, client: Client, words: List[bytes]) -> None:
-    store(client.asked, words[1], words[2], IF_ABSENT, integer(1), integer(0))
+    store(client, words[1], words[2], IF_ABSENT, integer(1), integer(0))
 
 
 class Sum:
@@ -964,11 +997,11 @@ class Sum:
         self.opcode, self.count, self.done = opcode, count, done
         self.sum, self.fault = 0, b""
 
-    def take(self, key: bytes, size: int, answer: Answer) -> None:
+    def take(self, key: bytes, size: int, status: int, result: int, data: bytes) -> None:
         self.count -= 1
-        self.sum += answer.status == SUCCESS
-        if answer.status not in (SUCCESS, NO_KEY) and not self.fault:
-            self.fault = self.asked.refusal(answer.status, self.opcode, key, size)
+        self.sum += status == SUCCESS
+        if status not in (SUCCESS, NO_KEY) and not self.fault:
+            self.fault = self.asked.refusal(status, self.opcode, key, size)
         if not self.count:
             self.slot.fill(self.fault or self.done or integer(self.sum))
 
@@ -1015,8 +1048,8 @@ def delete_all(server: Server, client: Client, words: List[bytes]) -> None:
         return
     slot, asked = client.slot(), client.asked
 
-    def listed(answer: Answer) -> None:
-        keys = pinkdrive._keys_in(answer.data) if answer.status == SUCCESS else []
+    def listed(status: int, result: int, data: bytes) -> None:
+        keys = pinkdrive._keys_in(data) if status == SUCCESS else []
         for key in keys:
             client.ask(DELETE, key, 0, None)
         start = after(keys[-1]) if keys else None
@@ -1024,8 +1057,8 @@ def delete_all(server: Server, client: Client, words: List[bytes]) -> None:
             client.ask(LIST, start, LIST_BYTES, listed)
             return
         client.is_busy = False
-        fine = answer.status == SUCCESS
-        slot.fill(OK if fine else asked.refusal(answer.status, LIST, b"", LIST_BYTES))
+        fine = status == SUCCESS
+        slot.fill(OK if fine else asked.refusal(status, LIST, b"", LIST_BYTES))
         server.hold(client)
 
     client.is_busy = True
@@ -1036,25 +1069,22 @@ def delete_all(server: Server, client: Client, words: List[bytes]) -> None:
 def type_of(server: Server, client: Client, words: List[bytes]) -> None:
     slot, key, asked = client.slot(), words[1], client.asked
     replies = {SUCCESS: b"+string\r\n", NO_KEY: b"+none\r\n"}
-    client.ask(
-        EXIST,
-        key,
-        0,
-        lambda answer: slot.fill(
-            replies.get(answer.status) or asked.refusal(answer.status, EXIST, key, 0)
-        ),
-    )
+
+    def found(status: int, result: int, data: bytes) -> None:
+        slot.fill(replies.get(status) or asked.refusal(status, EXIST, key, 0))
+
+    client.ask(EXIST, key, 0, found)
 
 
 @command("STRLEN", 2, 2)
 def length(server: Server, client: Client, words: List[bytes]) -> None:
     slot, key, asked = client.slot(), words[1], client.asked
 
-    def found(answer: Answer) -> None:
-        if answer.status in (SUCCESS, NO_KEY):
-            slot.fill(integer(answer.result if answer.status == SUCCESS else 0))
+    def found(status: int, result: int, data: bytes) -> None:
+        if status in (SUCCESS, NO_KEY):
+            slot.fill(integer(result if status == SUCCESS else 0))
         else:
-            slot.fill(asked.refusal(answer.status, RETRIEVE, key, 0))
+            slot.fill(asked.refusal(status, RETRIEVE, key, 0))
 
     client.ask(RETRIEVE, key, 0, found)
 
@@ -1110,12 +1140,12 @@ def scan(server: Server, client: Client, words: List[bytes]) -> None:
     slot, size = client.slot(), 4 + KEY_ROOM * asked.most
     prefix = resp.fixed_prefix(asked.pattern)
 
-    def listed(answer: Answer) -> None:
-        if answer.status != SUCCESS:
-            slot.fill(by.refusal(answer.status, LIST, asked.start, size))
+    def listed(status: int, result: int, data: bytes) -> None:
+        if status != SUCCESS:
+            slot.fill(by.refusal(status, LIST, asked.start, size))
             return
-        keys = pinkdrive._keys_in(answer.data)
-        start = after(keys[-1]) if keys and size - len(answer.data) < KEY_ROOM else None
+        keys = pinkdrive._keys_in(data)
+        start = after(keys[-1]) if keys and size - len(data) < KEY_ROOM else None
         if start is not None and not start.startswith(prefix) and start > prefix:
             start = None  # all further keys are after those of the pattern
         cursor = server.next_cursor(start) if start is not None else 0
@@ -1130,11 +1160,11 @@ def report(server: Server, client: Client, told: Callable[[Report], bytes]) -> N
     """A reply from the drive's numbers in the namespace."""
     slot, asked = client.slot(), client.asked
 
-    def found(answer: Answer) -> None:
-        if answer.status == SUCCESS:
-            slot.fill(told(Report._make(struct.unpack("<16I", answer.data))))
+    def found(status: int, result: int, data: bytes) -> None:
+        if status == SUCCESS:
+            slot.fill(told(Report._make(struct.unpack("<16I", data))))
         else:
-            slot.fill(asked.refusal(answer.status, REPORT, b"", 0))
+            slot.fill(asked.refusal(status, REPORT, b"", 0))
 
     client.ask(REPORT, b"", 0, found)
 
@@ -1221,7 +1251,7 @@ def echo(server: Server, client: Client, words: List[bytes]) -> None:
 
 
 @command("SELECT", 2, 2)
-def select(server: Server, client: Client, words: List[bytes]) -> None:
+def choose_space(server: Server, client: Client, words: List[bytes]) -> None:
     """Database N is namespace N + 1."""
     spaces = len(server.limits)
     if not words[1].isdigit() or int(words[1]) >= spaces:
