@@ -1,7 +1,8 @@
 #!/bin/sh
 # Refuses each allocation of a run in turn, by a library that the program is started with and whose malloc fails once: whatever is
 # refused, the run ends with status 7, with nothing taken, posted or written, or as it ends without the refusal, or with 5 or 6 where the
-# output or the file failed for lack of memory. It is not part of the gate. A C compiler makes the library.
+# output or the file failed for lack of memory. Then counts what the program asked for when its drive is open, by shape and frames, beside
+# what `pinkctl shapes` prints of it. It is not part of the gate. A C compiler makes the libraries.
 #
 #   bench/memory.sh
 set -eu
@@ -140,4 +141,115 @@ for words, text, before, maps in [
             sys.exit(where + ', and the image holds another map')
     print(f'  {" ".join(words)}: of {refused - 60} allocations {ends.get(7, 0)} were refused with status 7, {ends.get(6, 0)} with 6, '
           f'{ends.get(5, 0)} with 5, and {ends[0] - 60} were not needed')
+PY
+
+cat >"$folder/count.c" <<'C'
+#define _GNU_SOURCE
+#include <dlfcn.h>
+#include <stdio.h>
+#include <stdlib.h>
+#include <unistd.h>
+
+/* The pieces that were asked for and not given back, and their bytes. */
+enum { MOST = 1 << 18 };
+static struct { void *at; size_t size; } pieces[MOST];
+static long count;
+static size_t bytes;
+
+static void *given(void *at, size_t size) {
+    if (at && count < MOST) {
+        pieces[count].at = at;
+        pieces[count++].size = size;
+        bytes += size;
+    }
+    return at;
+}
+
+static void taken(void *at) {
+    for (long i = count; i--;) {
+        if (pieces[i].at == at) {
+            bytes -= pieces[i].size;
+            pieces[i] = pieces[--count];
+            return;
+        }
+    }
+}
+
+void *malloc(size_t size) {
+    static void *(*real)(size_t);
+    if (!real) real = (void *(*)(size_t))dlsym(RTLD_NEXT, "malloc");
+    return given(real(size), size);
+}
+
+void *realloc(void *old, size_t size) {
+    static void *(*real)(void *, size_t);
+    if (!real) real = (void *(*)(void *, size_t))dlsym(RTLD_NEXT, "realloc");
+    taken(old);
+    return given(real(old, size), size);
+}
+
+void *aligned_alloc(size_t align, size_t size) {
+    static void *(*real)(size_t, size_t);
+    if (!real) real = (void *(*)(size_t, size_t))dlsym(RTLD_NEXT, "aligned_alloc");
+    return given(real(align, size), size);
+}
+
+int posix_memalign(void **into, size_t align, size_t size) {
+    static int (*real)(void **, size_t, size_t);
+    if (!real) real = (int (*)(void **, size_t, size_t))dlsym(RTLD_NEXT, "posix_memalign");
+    int failed = real(into, align, size);
+    if (!failed) given(*into, size);
+    return failed;
+}
+
+void free(void *at) {
+    static void (*real)(void *);
+    if (!real) real = (void (*)(void *))dlsym(RTLD_NEXT, "free");
+    taken(at);
+    real(at);
+}
+
+/* The first read of the input: the drive is open, and the loop has its buffers. */
+ssize_t read(int file, void *into, size_t size) {
+    static ssize_t (*real)(int, void *, size_t);
+    static int told;
+    if (!real) real = (ssize_t (*)(int, void *, size_t))dlsym(RTLD_NEXT, "read");
+    if (file == 0 && !told) {
+        told = 1;
+        size_t now = bytes;
+        FILE *out = fopen(getenv("COUNTED"), "w");
+        if (out) {
+            fprintf(out, "%zu\n", now);
+            fclose(out);
+        }
+    }
+    return real(file, into, size);
+}
+C
+cc -shared -fPIC -O1 -o "$folder/count.so" "$folder/count.c" -ldl
+python3 - "${PINK:-$top/crates/pink/out/pink}" "$folder" "$top/clients/python" <<'PY'
+import os, subprocess, sys
+
+program, folder, clients = sys.argv[1:]
+sys.path.insert(0, clients)
+from pinkctl.layout import Layout, Shape
+
+BESIDES = 2048                                      # paths, words, and what else depends on no shape
+counted = folder + '/counted'
+environment = {**os.environ, 'LD_PRELOAD': folder + '/count.so', 'COUNTED': counted}
+print('what the program asked for when an empty drive is open: bytes, and those that pinkctl shapes prints')
+for shape in (512, 16, 64), (1024, 32, 256), (4096, 64, 512), (2048, 32, 4096), (16384, 256, 64), (1024, 32, 3955):
+    image = f'{folder}/{shape[0]}-{shape[1]}-{shape[2]}.img'
+    subprocess.run([program, image, 'make', *map(str, shape)], check=True)
+    layout, first = Layout(Shape(*shape)), None
+    for frames in 0, 36, 520:
+        subprocess.run([program, image, 'serve', str(frames)], stdin=subprocess.DEVNULL, env=environment, check=True, timeout=60)
+        with open(counted) as file:
+            found = int(file.read())
+        told = layout.program_memory(frames)
+        print(f'  {shape}, {frames} frames: {found:,}; {told:,}')
+        first = found if first is None else first
+        if not 0 <= found - told <= BESIDES or found - first != layout.memory(frames) - layout.memory(0):
+            sys.exit(f'memory: {shape} with {frames} frames takes {found} bytes, and {told} are told')
+    os.remove(image)
 PY

@@ -875,6 +875,17 @@ class Shapes(OnImage):
                         self.assertEqual(os.path.getsize(new), layout.Shape(p, n, m).file_bytes)
                         os.remove(new)
 
+    def test_memory_is_that_of_the_page_on_boards(self):
+        with open(os.path.join(TOP, "docs/BOARDS.md")) as file:
+            text = file.read().split("\n## Memory\n")[1].split("\n## ")[0]
+        rows = re.findall(r"^\| \((\d+), (\d+), (\d+)\) \| ([\d,]+) \| ([\d,]+) \| ([\d,]+) \|$", text, re.M)
+        self.assertEqual(len(rows), 4)
+        for *shape, none, some, many in rows:
+            drive = layout.Layout(layout.Shape(*map(int, shape)))
+            self.assertEqual([f"{drive.memory(frames):,}" for frames in (0, 36, 520)], [none, some, many])
+        told = self.ctl("shapes", "--shape", *rows[0][:3]).decode()
+        self.assertIn(f"  36 frames: {rows[0][4]} bytes; ", told)
+
     def test_one_wording(self):
         shapes = [(500, 16, 64), (512, 9, 64), (512, 32, 64), (512, 16, 4097), (16384, 256, 65), (512, 8, 3000), (512, 16, 21), (512, 16, 64)]
         for shape in shapes:

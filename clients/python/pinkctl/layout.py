@@ -35,6 +35,10 @@ TABLE_BLOCKS = 2
 """The blocks of tables that a drive with spare blocks has."""
 FAILED_SPARE = 0xFFFF
 """In a table: the spare block failed."""
+IO_BYTES = 65536
+"""Bytes of the buffers of the program for its input, its output and the data of a command."""
+ROW_BYTES = 262144
+"""The most bytes of pages that the program writes to the file at once."""
 LIMIT_BYTES = 4 * NAMESPACES
 """Bytes of the limits in a root page that has them."""
 ERASED, WHOLE, TORN = 0, 1, 2
@@ -199,10 +203,20 @@ class Layout:
         return (self.data_blocks - 1) * self.dense
 
     def memory(self, frames: int) -> int:
-        """The bytes that the drive takes for itself when it is opened with so many frames, and keeps; docs/BOARDS.md says what takes them."""
+        """The bytes that the drive asks for when it is opened with so many frames, and keeps; docs/BOARDS.md says what for."""
         p, n, m = self.shape.page_bytes, self.shape.block_pages, self.shape.blocks
-        runs = 72 * sum(self.caps) + 8 * sum(units(cap, n) for cap in self.caps)
-        return 2 * self.shape.pages + 7 * m + runs + 10 * p + 256 * self.page_entries + 72 * n + frames * (p + 1)
+        runs = 72 * sum(self.caps) + 4 * sum(units(cap, n) for cap in self.caps)
+        return 2 * self.shape.pages + 7 * m + runs + 9 * p + 288 * self.page_entries + 72 * n + frames * (p + 1)
+
+    def program_memory(self, frames: int) -> int:
+        """The same of the program `pink` when it serves: its table of pages, the row of pages that wait for the file, and buffers besides.
+
+        The bytes of written pages, without the zeros at their ends, come on top, and one or two KB that depend on no shape.
+        """
+        p, n = self.shape.page_bytes, self.shape.block_pages
+        row = min(n * p, ROW_BYTES) + 8 * n
+        buffers = 2 * IO_BYTES + max(IO_BYTES, self.greatest) + self.greatest + 24 * self.page_entries
+        return self.memory(frames) + 40 * self.shape.pages + row + buffers
 
     @property
     def root_pages(self) -> range:

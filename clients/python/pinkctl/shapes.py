@@ -112,7 +112,7 @@ def tell_shape(shape: Shape) -> int:
     for length in (100, 1000, 10_000, 100_000, layout.greatest):
         if length <= layout.greatest:
             print(f"  values of {length:,} bytes: {held(layout, length):,}")
-    print("memory of the drive, without what the program keeps of its image:")
+    print("memory of the drive; and of the program that serves it, without the bytes of written pages:")
     for frames in FRAMES:
-        print(f"  {frames} frames: {layout.memory(frames):,} bytes")
+        print(f"  {frames} frames: {layout.memory(frames):,} bytes; {layout.program_memory(frames):,}")
     return Exit.OK

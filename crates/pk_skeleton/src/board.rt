@@ -122,6 +122,7 @@ impl<C: Chips + Drop, L: Link + Drop> Nand for ChipBoard<C, L> {
         }
     }
 
+    #[tactic(auto, using(crate::proofs::Leftovers::left_behind))]
     fn program(&mut self, page: u32, bytes: &[u8]) -> Result<(), NandFault> {
         raise(&mut self.programs);
         match self.chips.program(page, bytes) {
@@ -135,6 +136,7 @@ impl<C: Chips + Drop, L: Link + Drop> Nand for ChipBoard<C, L> {
         }
     }
 
+    #[tactic(auto, using(crate::proofs::Leftovers::left_behind))]
     fn erase(&mut self, block: u32) -> Result<(), NandFault> {
         raise(&mut self.erases);
         match self.chips.erase(block) {

@@ -51,12 +51,12 @@ impl Chips for SimulatedChips {
     }
 
     fn prepare(&mut self, shape: Shape) -> Result<(), ChipFault> {
-        if self.flash.shape().is_some() {
-            return Err(ChipFault);
-        }
-        match self.flash.make(self.alloc, shape) {
-            Ok(()) => Ok(()),
-            Err(_) => Err(ChipFault),
+        match self.flash.shape() {
+            Some(_) => Err(ChipFault),
+            None => match self.flash.make(self.alloc, shape) {
+                Ok(()) => Ok(()),
+                Err(_) => Err(ChipFault),
+            },
         }
     }
 
@@ -67,6 +67,7 @@ impl Chips for SimulatedChips {
         }
     }
 
+    #[tactic(auto, using(crate::proofs::Leftovers::interrupted_by))]
     fn program(&mut self, page: u32, bytes: &[u8]) -> Result<(), ChipFault> {
         match self.flash.program(page, bytes) {
             Ok(()) => Ok(()),
@@ -74,6 +75,7 @@ impl Chips for SimulatedChips {
         }
     }
 
+    #[tactic(auto, using(crate::proofs::Leftovers::interrupted_by))]
     fn erase(&mut self, block: u32) -> Result<(), ChipFault> {
         match self.flash.erase(block) {
             Ok(()) => Ok(()),
