@@ -196,8 +196,10 @@ def judged(edit: Edit, status: int, lines: list[str], starts: dict[str, list[int
     told = [it for it in lines if re.match(r"(note: )?\S+:\d+:\d+:", it) and (": error" in it or it.startswith("note: "))]
     own = lines_of(edit, told, starts) or (told if alone else [])
     said = [it for it in lines if re.match(r"fn \S+: ", it) and it.split(": ")[0].split("::")[-1] in edit.functions]
-    if status == 0 or said and all(it.endswith(": proved") for it in said):
-        return Verdict(edit, "ACCEPTED", "-", "the crate is proved with it") if alone else None
+    if alone and status == 0:
+        return Verdict(edit, "ACCEPTED", "-", "the crate is proved with it")
+    if not alone and said and all(it.endswith(": proved") for it in said):
+        return None
     goals = [it for it in own if not NAMES.match(it)]
     if goals:
         return Verdict(edit, "refused", kind_of(goal_of(goals[0])), goal_of(goals[0]))
