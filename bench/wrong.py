@@ -144,7 +144,7 @@ class Checker:
         return words + ["--jobs", "1"]
 
     def run(self, crate: str, room: pathlib.Path, files: set[str], functions: set[str]) -> tuple[int, list[str]]:
-        """The status of a check of the modules that these files are, and its lines; of the whole crate, if not each function is reported."""
+        """The status of a check of these files' modules, and its lines; of the whole crate, if not each function is reported."""
         modules = ["::".join(pathlib.Path(it).with_suffix("").parts[1:]) for it in sorted(files)]
         only = [] if "lib" in modules else [word for it in modules for word in ("--only", it)]
         while True:
