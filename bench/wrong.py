@@ -140,15 +140,17 @@ class Checker:
                 words += ["--extern", f"{name}={self.library(name)}"]
         for name in below(self.deps, crate):
             words += ["-L", f"dependency={self.library(name).parent}"]
-        return words + ["--antt-project", f"{self.kit}/rattle/logic/antt-project.json", "--logic-built", f"{self.kit}/logic_built", "--jobs", "1"]
+        words += ["--antt-project", f"{self.kit}/rattle/logic/antt-project.json", "--logic-built", f"{self.kit}/logic_built"]
+        return words + ["--jobs", "1"]
 
     def run(self, crate: str, room: pathlib.Path, files: set[str], functions: set[str]) -> tuple[int, list[str]]:
-        """The status of a check of the modules that these files are, and its lines; of the whole crate, if it does not report each function."""
+        """The status of a check of these files' modules, and its lines; of the whole crate, if not each function is reported."""
         modules = ["::".join(pathlib.Path(it).with_suffix("").parts[1:]) for it in sorted(files)]
         only = [] if "lib" in modules else [word for it in modules for word in ("--only", it)]
         while True:
             words = [*self.words(crate), "--incremental", str(room / "kept"), *only]
-            ran = subprocess.run(words, cwd=room, stdin=subprocess.DEVNULL, stdout=subprocess.PIPE, stderr=subprocess.STDOUT, text=True, errors="replace")
+            both = {"stdout": subprocess.PIPE, "stderr": subprocess.STDOUT}
+            ran = subprocess.run(words, cwd=room, stdin=subprocess.DEVNULL, **both, text=True, errors="replace")
             lines = ran.stdout.split("\n")
             reported = {it.split(": ")[0].split("::")[-1] for it in lines if re.match(r"fn \S+: ", it)}
             if not only or functions <= reported or any(re.search(r"\berror\[[\w-]+\]", it) for it in lines):
@@ -196,8 +198,10 @@ def judged(edit: Edit, status: int, lines: list[str], starts: dict[str, list[int
     told = [it for it in lines if re.match(r"(note: )?\S+:\d+:\d+:", it) and (": error" in it or it.startswith("note: "))]
     own = lines_of(edit, told, starts) or (told if alone else [])
     said = [it for it in lines if re.match(r"fn \S+: ", it) and it.split(": ")[0].split("::")[-1] in edit.functions]
-    if status == 0 or said and all(it.endswith(": proved") for it in said):
-        return Verdict(edit, "ACCEPTED", "-", "the crate is proved with it") if alone else None
+    if alone and status == 0:
+        return Verdict(edit, "ACCEPTED", "-", "the crate is proved with it")
+    if not alone and said and all(it.endswith(": proved") for it in said):
+        return None
     goals = [it for it in own if not NAMES.match(it)]
     if goals:
         return Verdict(edit, "refused", kind_of(goal_of(goals[0])), goal_of(goals[0]))
@@ -225,6 +229,11 @@ def batches(edits: list[Edit]) -> list[list[Edit]]:
     return found
 
 
+def heads(file: pathlib.Path) -> list[int]:
+    """The lines at which a function begins."""
+    return [at + 1 for at, line in enumerate(file.read_text(encoding="utf-8").split("\n")) if HEAD.match(line)]
+
+
 def tried(checker: Checker, crate: str, edits: list[Edit], is_late, tell) -> None:
     folder = TOP / "crates" / crate
     with tempfile.TemporaryDirectory(prefix="wrong-") as name:
@@ -233,8 +242,7 @@ def tried(checker: Checker, crate: str, edits: list[Edit], is_late, tell) -> Non
         for part in PARTS:
             if (folder / part).is_dir():
                 shutil.copytree(folder / part, room / part)
-        starts = {f"src/{it.relative_to(folder / 'src')}": [at + 1 for at, line in enumerate(it.read_text(encoding="utf-8").split("\n")) if HEAD.match(line)]
-                  for it in (folder / "src").rglob("*.rt")}
+        starts = {f"src/{it.relative_to(folder / 'src')}": heads(it) for it in (folder / "src").rglob("*.rt")}
         waiting = batches([it for it in edits if not it.fault])
         for it in edits:
             if it.fault:
@@ -263,13 +271,16 @@ def tried(checker: Checker, crate: str, edits: list[Edit], is_late, tell) -> Non
 
 
 def wanted(args: argparse.Namespace) -> dict[str, list[Edit]]:
-    names = args.crates or sorted({it.parent.name for it in TOP.glob("bench/wrong-bodies/*/*.edit")} | ({it.parent.parent.name for it in TOP.glob("crates/*/must-fail/*.edit")} if args.gate else set()))
+    by_hand = {it.parent.name for it in TOP.glob("bench/wrong-bodies/*/*.edit")}
+    by_gate = {it.parent.parent.name for it in TOP.glob("crates/*/must-fail/*.edit")} if args.gate else set()
+    names = args.crates or by_hand | by_gate
     if args.since:
-        changed = lambda it: subprocess.run(["git", "-C", str(TOP), "diff", "--quiet", args.since, "HEAD", "--", f"crates/{it}", f"bench/wrong-bodies/{it}"]).returncode
-        names = [it for it in names if changed(it)]
+        diff = ["git", "-C", str(TOP), "diff", "--quiet", args.since, "HEAD", "--"]
+        names = [it for it in names if subprocess.run([*diff, f"crates/{it}", f"bench/wrong-bodies/{it}"]).returncode]
     found = {}
     for crate in sorted(names, key=list(crates()).index):
-        paths = [*(TOP / "bench" / "wrong-bodies" / crate).glob("*.edit"), *((TOP / "crates" / crate / "must-fail").glob("*.edit") if args.gate else [])]
+        folders = [TOP / "bench" / "wrong-bodies" / crate, *([TOP / "crates" / crate / "must-fail"] if args.gate else [])]
+        paths = [it for folder in folders for it in folder.glob("*.edit")]
         found[crate] = [read_edit(it, crate) for it in sorted(paths)]
     return found
 
@@ -308,7 +319,8 @@ def main() -> int:
     with ThreadPoolExecutor(args.jobs) as pool:
         left = {crate: [it for it in edits if (crate, it.name) not in rows] for crate, edits in all_edits.items()}
         size = lambda crate: sum(it.stat().st_size for part in PARTS for it in (TOP / "crates" / crate / part).rglob("*") if it.is_file())
-        jobs = [pool.submit(tried, checker, it, left[it], lambda: time.monotonic() > end, tell) for it in sorted(left, key=size, reverse=True) if left[it]]
+        largest = sorted((it for it in left if left[it]), key=size, reverse=True)
+        jobs = [pool.submit(tried, checker, it, left[it], lambda: time.monotonic() > end, tell) for it in largest]
         for job in jobs:
             job.result()
     print("| crate | edit | answer | kind | first goal |\n|---|---|---|---|---|")
@@ -317,7 +329,8 @@ def main() -> int:
         print(f"| `{row[0]}` | `{row[1]}` | {row[2]} | {row[3]} | `{row[4]}` |")
     total = sum(map(len, all_edits.values()))
     count = lambda answer: sum(row[2] == answer for row in told)
-    print(f"{count('refused')} of {total} wrong bodies refused; accepted {count('ACCEPTED')}, bad {count('BAD')}, not tried {total - len(told) + count('untried')}")
+    untried = total - len(told) + count("untried")
+    print(f"{count('refused')} of {total} wrong bodies refused; accepted {count('ACCEPTED')}, bad {count('BAD')}, not tried {untried}")
     return 0 if count("refused") == total else 1
 
 
