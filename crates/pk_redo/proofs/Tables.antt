@@ -5,9 +5,9 @@ use Rattle.std.{proofs.lemmas.Bool.cases_eq, proofs.lemmas.Bool.cases_lt, proofs
 use Rattle.std.{proofs.lemmas.List.take_more, proofs.lemmas.List.map-append, proofs.lemmas.List.get_or-set_other}
 use Rattle.std.specs.Prelude.{if◌then◌else◌, ◌==◌, ◌↔◌}
 use Rattle.std.proofs.Math.Nat.{mul_assoc}
-use Rattle.pk_base.{specs.Shape.Shape, specs.Shape.IsShape, specs.Shape.page_count, specs.Page.erased, specs.Page.whole, specs.Page.torn, specs.Mark.Mark}
+use Rattle.pk_base.{specs.Shape.Shape, specs.Shape.IsShape, specs.Shape.page_count, specs.Page.Page, specs.Page.erased, specs.Page.whole, specs.Page.torn, specs.Mark.Mark}
 use Rattle.pk_base.proofs.BlockLemmas.{in_block, of_block}
-use Rattle.pk_image.specs.Image.{state_byte}
+use Rattle.pk_image.specs.Image.{state_byte, page_by}
 use Rattle.pk_redo.specs.declared.step.Step.{Step}
 use Rattle.pk_redo.specs.Steps.{SetBy, Sets, step_mark, step_marks}
 use Rattle.pk_redo.proofs.Replaying.{sets_first}
@@ -71,6 +71,27 @@ state_small false false bytes = omega arith
 
 pub said_small : (byte : ℕ) → said byte < 4
 said_small byte = state_small (byte == 0) (byte == 1) []
+
+-- and it is the state of a page with any bytes
+state_of_tests : (a b : Bool) (one other : List ℕ)
+    → state_byte (if a then erased else if b then whole one else torn) ≡ state_byte (if a then erased else if b then whole other else torn)
+state_of_tests true b one other = refl
+state_of_tests false true one other = refl
+state_of_tests false false one other = refl
+
+pub said_page : (byte : ℕ) (bytes : List ℕ) → state_byte (page_by byte bytes) ≡ said byte
+said_page byte bytes = state_of_tests (byte == 0) (byte == 1) bytes []
+
+pub said_state : (page : Page) → said (state_byte page) ≡ state_byte page
+said_state erased = refl
+said_state (whole bytes) = refl
+said_state torn = refl
+
+-- a page by its state and by the bytes that it has if it is Whole
+pub page_shown : (page : Page) (byte : ℕ) (bytes : List ℕ) → byte ≡ state_byte page → ((own : List ℕ) → page ≡ whole own → own ≡ bytes) → page_by byte bytes ≡ page
+page_shown erased byte bytes is own = rw is refl
+page_shown (whole other) byte bytes is own = rw is (ap whole (sym (own other refl)))
+page_shown torn byte bytes is own = rw is refl
 
 -- a shape has a multiple of four pages
 pub fours : (shape : Shape) → IsShape shape → page_count shape % 4 ≡ 0

@@ -186,26 +186,26 @@ pub fn checkpoint<D: Disk, P: Pages>(
     image: &mut D,
     shape: &Shape,
     pages: &P,
-    lacks: &[bool],
+    lacks: &Vec<bool>,
     buffer: &mut [u8],
 ) -> io::Result<()>
     requires usable { IsTrue (D.Disk.is_usable image.old) }
     requires shape { P.shape_of pages.now ≡ shape.now }
     requires buffer { length buffer.old ≡ shape.now.page_bytes }
-    requires lacks { length lacks.now ≡ spec.page_count shape.now }
+    requires lacks { length lacks.now.items ≡ spec.page_count shape.now }
     // If steps set these pages, the image differs as before at most in pages that steps set.
     ensures crash { (marks : List Mark) (base : List ℕ)
-        → ((k : ℕ) → get_or lacks.now k false ≡ true → Sets shape.now marks k)
+        → ((k : ℕ) → get_or lacks.now.items k false ≡ true → Sets shape.now marks k)
         → AllSameBut D.Disk image.old shape.now marks base
         → AllSameBut D.Disk image.new shape.now marks base }
     // The others are as they were.
     ensures others { (k : ℕ) → file_size shape.now ≤ length (D.Disk.seen image.old)
-        → k < spec.page_count shape.now → get_or lacks.now k false ≡ false
+        → k < spec.page_count shape.now → get_or lacks.now.items k false ≡ false
         → page_in_file shape.now (D.Disk.seen image.new) k
         ≡ page_in_file shape.now (D.Disk.seen image.old) k }
     // If it had the others, it has all.
     ensures written { OnOk result (file_size shape.now ≤ length (D.Disk.seen image.old)
-        → ((k : ℕ) → k < spec.page_count shape.now → get_or lacks.now k false ≡ false
+        → ((k : ℕ) → k < spec.page_count shape.now → get_or lacks.now.items k false ≡ false
         → page_in_file shape.now (D.Disk.seen image.old) k ≡ page_at (P.flash_of pages.now) k)
         → (k : ℕ) → k < spec.page_count shape.now
         → page_in_file shape.now (D.Disk.seen image.new) k ≡ page_at (P.flash_of pages.now) k) }

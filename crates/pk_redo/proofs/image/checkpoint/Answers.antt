@@ -1,41 +1,24 @@
-use Rattle.std.proofs.Common.{arith, sym, ◌∙◌, inl, inr}
-use Rattle.std.proofs.lemmas.Bool.{cases_eq}
-use Rattle.pk_redo.proofs.Replaying.{unset_page}
-use Rattle.pk_redo.proofs.Writes.{only, only_sets, sets_only, same_itself}
+use Rattle.std.proofs.Common.{rules, ◌≡◌, ◌⊎◌, ◌+◌, ◌^◌, ◌<◌, ◌≤◌, ℕ, List, [], ◌∷◌, ◌++◌, length, slice_index, get_or, drop, true, false, OnOk, IsTrue, ◌-◌, ◌*◌, ◌/◌, ◌%◌, Bool, nat_eq, nat_lt, slice_set, bit_and, bit_or, Fits, w8, w32, w64, Bor, MutBor}
+use Rattle.sqlite_disk.specs.Disk.{Holds, Torn, Only}
+use Rattle.pk_base.specs.Shape as spec
+use Rattle.pk_base.specs.Fields.{padded}
+use Rattle.pk_base.specs.Page.{Flash, page_at, whole}
+use Rattle.pk_base.specs.Mark.{Mark}
+use Rattle.pk_image.specs.Header.{file_size}
+use Rattle.pk_image.specs.Image.{byte_of, page_by, page_in_file, state_byte, state_place, page_place}
+use Rattle.pk_redo.specs.Log.{IsSealed}
+use Rattle.pk_redo.specs.Steps.{BodySays, Sets}
+use Rattle.pk_redo.specs.Image.{SameButSet, AllSameBut, BelongTo, LogSays, LogStands, ReadAs, BothRead, flash_after}
 use Rattle.pk_redo.proofs.image.checkpoint.Goals as goal
-use Rattle.pk_redo.proofs.image.checkpoint.Goals.{then-differs+in_ok-put_cell, else-differs}
 
+-- src/image.rt:219:13
 pub returns-in_err-put_cell-clause-crash : goal.returns-in_err-put_cell-clause-crash
-returns-in_err-put_cell-clause-crash g c marks base all within =
-    c.put_cell.ensures.crash marks base (all c.loop-page.page (sym c.if-differs.ensures)) (c.loop-page.invariant.crash marks base all within)
+returns-in_err-put_cell-clause-crash g c = ?
 
+-- src/image.rt:219:13
+pub returns-in_err-put_cell-clause-others : goal.returns-in_err-put_cell-clause-others
+returns-in_err-put_cell-clause-others g c = ?
+
+-- src/image.rt:215:5
 pub loop-page-preserved : goal.loop-page-preserved
-loop-page-preserved g c =
-    let shape = c.args.shape.now in
-    let page = c.loop-page.page in
-    let before = c.loop-page.invariant in
-    elim c.if-differs.branch [
-      | then-differs+in_ok-put_cell w ↦ rw w.image-is (record {
-        usable = w.put_cell.ensures.usable;
-        crash = λ marks base all within. w.put_cell.ensures.crash marks base (all page (sym w.if-differs.ensures)) (before.crash marks base all within);
-        long = λ fits.
-            let same = w.put_cell.ensures.seen (only page) _ (only_sets shape page) (same_itself shape (only page) _ (before.long fits)) in
-            omega (arith, before.long fits, same.same_size);
-        written = λ fits known k low which.
-            let same = w.put_cell.ensures.seen (only page) _ (only_sets shape page) (same_itself shape (only page) _ (before.long fits)) in
-            elim (cases_eq k page) [
-              | inl is ↦ rw is (w.in_ok-put_cell.ensures.own ∙ sym w.copy_to-tag.ensures.page)
-              | inr other ↦ unset_page shape (only page) _ _ same k low (sets_only shape page k other)
-                  ∙ before.written fits known k low (elim which [ inl early ↦ inl (omega arith) | inr still ↦ inr still ])
-            ];
-      })
-      | else-differs w ↦ rw w.image-is (record {
-        usable = before.usable;
-        crash = before.crash;
-        long = before.long;
-        written = λ fits known k low which. before.written fits known k low (elim which [
-          | inl early ↦ elim (cases_eq k page) [ inl is ↦ inr (rw is (sym w.if-differs.ensures)) | inr other ↦ inl (omega arith) ]
-          | inr still ↦ inr still
-        ]);
-      })
-    ]
+loop-page-preserved g c = ?
