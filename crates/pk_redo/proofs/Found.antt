@@ -1,10 +1,11 @@
 -- A log as it is found beside an image.
-use Rattle.std.proofs.Common.{◌≡◌, ◌≢◌, ℕ, ◌+◌, ◌<◌, ◌≤◌, List, [], ◌∷◌, length, take, drop, slice_index, sym, refl, ◌∙◌, ap, subst, inl, inr, arith, zero-add, ext_get_or, get_or-take, get_or-drop}
+use Rattle.std.proofs.Common.{◌≡◌, ◌≢◌, ℕ, ◌+◌, ◌-◌, ◌<◌, ◌≤◌, List, [], ◌∷◌, length, take, drop, slice_index, slice_range, sym, refl, ◌∙◌, ap, subst, inl, inr, arith, zero-add, ext_get_or, get_or-take, get_or-drop}
 use Rattle.std.proofs.lemmas.List.{length-take-le}
 use Rattle.sqlite_disk.specs.Disk.{Holds}
 use Rattle.pk_image.specs.Image.{state_place}
 use Rattle.pk_base.{specs.Shape.Shape, specs.Shape.page_count, specs.Mark.Mark}
 use Rattle.pk_redo.specs.declared.batch.TheConstants.{OPEN, FIRST_BATCH}
+use Rattle.pk_redo.specs.Bytes.{bytes_at}
 use Rattle.pk_redo.specs.Log.{IsBatch, Walks, LogHolds, body_at, next_at}
 use Rattle.pk_redo.specs.Record.{RecordFits, RecordedAs, said}
 use Rattle.pk_redo.specs.Image.{BelongTo}
@@ -38,6 +39,11 @@ recorded_belongs shape (first ∷ later) marks image header states same is own =
     }
 
 -- ---- the first batch of a log
+
+-- a slice is a part
+pub part_of_log : (log : List ℕ) (at len n : ℕ) → len ≡ n → slice_range log at (at + len) ≡ bytes_at log at n
+unfolding bytes_at
+part_of_log log at len n is = let count : at + len - at ≡ n = omega (arith, is) in ap (λ (m : ℕ). take m (drop at log)) count
 
 module _ (shape : Shape) (log header states : List ℕ) (marks : List Mark) where
   none_first : (batches : List (List ℕ)) (at end : ℕ) → ¬ IsBatch log at → Walks log at batches end → RecordedAs shape batches header states marks

@@ -1,5 +1,5 @@
 -- What the calls of a log keep.
-use Rattle.std.proofs.Common.{◌≡◌, ◌≢◌, ◌⊎◌, ℕ, ◌+◌, ◌<◌, ◌≤◌, List, [], ◌∷◌, ◌++◌, Bool, true, false, length, take, get_or, sym, refl, ◌∙◌, ap, subst, inl, inr, arith, append_assoc, zero-add, ◌/◌}
+use Rattle.std.proofs.Common.{◌≡◌, ◌≢◌, ◌⊎◌, ℕ, ◌+◌, ◌<◌, ◌≤◌, List, [], ◌∷◌, ◌++◌, Bool, true, false, length, take, get_or, sym, refl, ◌∙◌, ap, subst, inl, inr, arith, append_assoc, zero-add, ◌/◌, ◌↔◌}
 use Rattle.std.{proofs.lemmas.List.append-nil}
 use Rattle.sqlite_disk.specs.declared.Disk.{Ghosts}
 use Rattle.sqlite_disk.specs.Disk.{Only}
@@ -17,8 +17,8 @@ use Rattle.pk_redo.specs.declared.redo_log.LogState.TheVariants.{Ready, Ended}
 use Rattle.pk_redo.specs.declared.redo_log.RedoLog.{RedoLog}
 use Rattle.pk_redo.proofs.Batches.{ready_stands}
 use Rattle.pk_redo.proofs.Stepping.{none_left}
-use Rattle.pk_redo.proofs.Replaying.{replay_is_absolute, belongs_more, sets_first, has_room, same_header, written_flash, recorded_of}
-use Rattle.pk_redo.proofs.Tables.{sets_last}
+use Rattle.pk_redo.proofs.Replaying.{replay_is_absolute, belongs_more, sets_first, has_room, same_header, written_flash, recorded_of, page_of_flash}
+use Rattle.pk_redo.proofs.Tables.{sets_last, set_within, set_apart}
 use Rattle.pk_redo.proofs.Writes.{same_itself}
 
 -- ---- steps after others
@@ -28,6 +28,24 @@ after_unset : (shape : Shape) (mark : Mark) (flash : Flash) (k : ℕ) → ¬ Set
 after_unset shape (program at bytes) flash k not = page_at-slice_set flash at k _ not
 after_unset shape (erase block) flash k not = page_at-erased_from shape block 0 flash k (λ e. not (ap (λ (n : ℕ). n / shape.block_pages) (sym (zero-add k)) ∙ e))
 after_unset shape (post bytes) flash k not = refl
+
+-- and so do many steps
+unset_after : (shape : Shape) (marks : List Mark) (flash : Flash) (k : ℕ) → ¬ Sets shape marks k → page_at (after_all shape marks flash) k ≡ page_at flash k
+unset_after shape [] flash k not = refl
+unset_after shape (mark ∷ marks) flash k not =
+    unset_after shape marks (after shape mark flash) k (λ later. not (inr later)) ∙ after_unset shape mark flash k (λ is. not (inl is))
+
+-- ---- what a log and an image are found with
+
+module _ (shape : Shape) (marks : List Mark) (image : List ℕ) (kept : Flash) (lacks : List Bool) (gives : flash_after shape marks image ≡ kept) (sized : length lacks ≡ page_count shape)
+    (set : (page : ℕ) → page < page_count shape → (get_or lacks page false ≡ true) ↔ Sets shape marks page) where
+  pub found_lacking : (page : ℕ) → get_or lacks page false ≡ true → Sets shape (marks ++ []) page
+  found_lacking page is = sets_first shape marks [] page ((set page (omega (arith, set_within lacks page is, sized))).0 is)
+
+  pub found_others : (page : ℕ) → page < page_count shape → get_or lacks page false ≡ false → page_in_file shape image page ≡ page_at kept page
+  found_others page low not =
+      let unset = λ (is : Sets shape marks page). set_apart lacks page page not ((set page low).1 is) refl in
+      sym (page_of_flash shape image page low) ∙ sym (unset_after shape marks (flash_in_file shape image) page unset) ∙ ap (λ (f : Flash). page_at f page) gives
 
 -- a log that is ready has not ended
 pub ready_not_ended : (state : LogState) → state ≡ Ready → state ≢ Ended
@@ -49,6 +67,12 @@ module _ {D : Type 0} (g : Ghosts D) where
       → LogSays g log shape base marks end room → LogSays g new shape base marks end room
   says_fewer log new shape base marks end room fewer says =
       record { first = says.first; later = says.later; ready = λ c may. says.ready c (fewer c may); says = says.says; of_base = says.of_base }
+
+  -- the same places by other names
+  pub says_at : (log : D) (shape : Shape) (base : List ℕ) (marks : List Mark) (end room from to : ℕ) → end ≡ from → room ≡ to → LogSays g log shape base marks end room
+      → LogSays g log shape base marks from to
+  says_at log shape base marks end room from to is_end is_room says =
+      subst (λ (n : ℕ). LogSays g log shape base marks from n) is_room (subst (λ (n : ℕ). LogSays g log shape base marks n room) is_end says)
 
   -- what a log is read as whose batches say these steps
   pub says_read : (log image : D) (shape : Shape) (base : List ℕ) (marks : List Mark) (end room : ℕ) → end < room → LogSays g log shape base marks end room

@@ -1,5 +1,5 @@
 -- Tables of states, four in a byte; and pages that are noted as set.
-use Rattle.std.proofs.Common.{◌≡◌, ◌≢◌, ◌⊎◌, ℕ, ◌+◌, ◌*◌, ◌/◌, ◌%◌, ◌^◌, ◌<◌, ◌≤◌, List, [], ◌∷◌, ◌++◌}
+use Rattle.std.proofs.Common.{◌≡◌, ◌≢◌, ◌⊎◌, ℕ, zero, suc, ◌+◌, ◌*◌, ◌/◌, ◌%◌, ◌^◌, ◌<◌, ◌≤◌, List, [], ◌∷◌, ◌++◌}
 use Rattle.std.proofs.Common.{length, take, slice_index, slice_set, get_or, sym, refl, ◌∙◌, ap, inl, inr, arith, Bool, true, false}
 use Rattle.std.{proofs.lemmas.Bool.cases_eq, proofs.lemmas.Bool.cases_lt, proofs.lemmas.List.get_or-set_same}
 use Rattle.std.{proofs.lemmas.List.take_more, proofs.lemmas.List.map-append, proofs.lemmas.List.get_or-set_other}
@@ -115,6 +115,33 @@ pub sets_either : (shape : Shape) (xs : List Mark) (mark : Mark) (k : ℕ) → S
 sets_either shape [] mark k sets = elim sets [ inl is ↦ inr is | inr none ↦ absurd none ]
 sets_either shape (x ∷ xs) mark k sets =
     elim sets [ inl is ↦ inl (inl is) | inr later ↦ elim (sets_either shape xs mark k later) [ inl early ↦ inl (inr early) | inr last ↦ inr last ] ]
+
+-- a page that is set is no page that is not
+pub set_apart : (set : List Bool) (k page : ℕ) → get_or set k false ≡ false → get_or set page false ≡ true → k ≢ page
+set_apart set k page not is same = let both : false ≡ true = sym not ∙ ap (λ (n : ℕ). get_or set n false) same ∙ is in cc
+
+-- a page that is set is one of them
+pub set_within : (set : List Bool) (k : ℕ) → get_or set k false ≡ true → k < length set
+set_within [] k is = absurd (let clash : false ≡ true = is in cc)
+set_within (x ∷ xs) zero is = omega arith
+set_within (x ∷ xs) (suc k) is = let below = set_within xs k is in omega (arith, below)
+
+-- what is not set now was not, and did not become so
+pub unset_both : (a b : Bool) (P : Type 0) → ((b ≡ true) ⊎ P → a ≡ true) → a ≡ false → (b ≡ false) × (¬ P)
+unset_both a true P back not = absurd (let clash : false ≡ true = sym not ∙ back (inl refl) in cc)
+unset_both a false P back not = (refl, λ p. let clash : false ≡ true = sym not ∙ back (inr p) in cc)
+
+-- one page became set, and the others are as they were
+pub one_set : (at k : ℕ) (old new : List Bool) → at < length old → ((k : ℕ) → at ≤ k → k < at + 1 → k < length old → get_or new k false ≡ true)
+    → ((k : ℕ) → (k < at) ⊎ (at + 1 ≤ k) → get_or new k false ≡ get_or old k false)
+    → (get_or new k false ≡ true → (get_or old k false ≡ true) ⊎ (k ≡ at)) × ((get_or old k false ≡ true) ⊎ (k ≡ at) → get_or new k false ≡ true)
+one_set at k old new low inside outside =
+    elim (cases_eq k at) [
+      | inl is ↦ (λ lacks. inr is, λ known. inside k (omega (arith, is)) (omega (arith, is)) (omega (arith, is, low)))
+      | inr other ↦
+          let same = outside k (elim (cases_lt k at) [ inl before ↦ inl before | inr from ↦ inr (omega (arith, from, other)) ]) in
+          (λ lacks. inl (sym same ∙ lacks), λ known. elim known [ inl was ↦ same ∙ was | inr is ↦ absurd (other is) ])
+    ]
 
 -- the pages of a row became set, and the others are as they were
 pub row_set : (shape : Shape) (block k : ℕ) (old new : List Bool) → 0 < shape.block_pages → k < length old

@@ -106,6 +106,14 @@ pub(crate) fn note_row(set: &mut Vec<bool>, first: usize, count: usize)
     }
 }
 
+/// Whether a page is among those that are set.
+pub(crate) fn is_set(set: &Vec<bool>, page: u32) -> bool
+    requires { page < length set.now.items }
+    ensures { result ≡ get_or set.now.items page false }
+{
+    set[page as usize]
+}
+
 /// No page is among those that steps set.
 pub(crate) fn clear_pages(set: &mut Vec<bool>)
     ensures none { (k : ℕ) → get_or set.new.items k false ≡ false }

@@ -45,18 +45,18 @@ fn note_states<P: Pages>(states: &mut [u8], shape: &Shape, pages: &P)
 }
 
 /// Makes the record of an image that has these pages.
-fn note_record<P: Pages>(record: &mut Vec<u8>, states: &mut Vec<u8>, shape: &Shape, pages: &P)
+fn note_record<P: Pages>(first: &mut Vec<u8>, states: &mut Vec<u8>, shape: &Shape, pages: &P)
     requires shape { P.shape_of pages.now ≡ shape.now }
     requires states { length states.old.items ≡ spec.page_count shape.now }
-    requires room { length record.old.items ≡ BATCH_HEAD + record_size shape.now }
-    ensures sealed { IsSealed record.new.items }
-    ensures record { RecordFits shape.now (drop BATCH_HEAD record.new.items) (header_bytes shape.now)
+    requires room { length first.old.items ≡ BATCH_HEAD + record_size shape.now }
+    ensures sealed { IsSealed first.new.items }
+    ensures fits { RecordFits shape.now (drop BATCH_HEAD first.new.items) (header_bytes shape.now)
         (λ k. state_byte (page_at (P.flash_of pages.now) k)) [] }
     ensures states_len { length states.new.items ≡ length states.old.items }
-    ensures record_len { length record.new.items ≡ length record.old.items }
+    ensures len { length first.new.items ≡ length first.old.items }
 {
     note_states(states.as_mut_slice(), shape, pages);
-    put_record(record.as_mut_slice(), shape, states.as_slice());
+    put_record(first.as_mut_slice(), shape, states.as_slice());
 }
 
 /// Commits the batch in memory behind the batches of the log, which end at a place. A log that was

@@ -1,16 +1,15 @@
-use Rattle.std.proofs.Common.{rules, ◌≡◌, ◌≢◌, ◌+◌, ◌<◌, ◌≤◌, ◌↔◌, ℕ, List, [], length, take, drop, get_or, Ok, Err, true, false, IfOk, IsTrue, ◌-◌, ◌*◌, ◌/◌, ◌%◌, Bool, nat_eq, nat_lt, ◌∷◌, ◌++◌, slice_set, bit_and, bit_or, Fits, w8, w32, w64, Bor, MutBor}
-use Rattle.sqlite_disk.specs.Disk.{Holds}
-use Rattle.pk_base.specs.Mark.{Mark}
-use Rattle.pk_base.specs.Shape as spec
-use Rattle.pk_image.specs.Header.{file_size, header_bytes}
-use Rattle.pk_redo.specs.Log.{LogHolds}
-use Rattle.pk_redo.specs.Steps.{Sets, step_marks}
-use Rattle.pk_redo.specs.Record.{RecordedAs}
-use Rattle.pk_redo.specs.Image.{flash_after}
-use Rattle.pk_redo.specs.Kept.{ReplayedTo, replay_marks}
-use Rattle.pk_redo.specs.declared.reader.LogFault.{LogFault}
+use Rattle.std.proofs.Common.{◌≡◌, ℕ, List, subst, slice_index}
+use Rattle.pk_redo.specs.Log.{len_at}
+use Rattle.pk_redo.specs.Record.{RecordFits, said}
+use Rattle.pk_redo.proofs.Found.{first_there, part_of_log}
 use Rattle.pk_redo.proofs.replay.is_of.Goals as goal
 
--- src/replay.rt:74:1
 pub returns : goal.returns
-returns c = ?
+returns c is_true batches marks holds set =
+    let shape = c.args.shape.now in
+    let log = c.args.log.now in
+    let (some, len) = c.in-Some.ensures in
+    let fits = (c.is_record_of.ensures marks set).0 is_true in
+    let own = subst (λ (bytes : List ℕ). RecordFits shape bytes c.args.header.now (λ k. said (slice_index c.args.states.now k)) marks)
+    (part_of_log log 25 c.in-Some.len (len_at log 16) len) fits in
+    first_there shape log c.args.header.now c.args.states.now marks batches some own holds
