@@ -82,9 +82,3 @@ pub record HasRoomForStep {D : Type 0} {g : Ghosts D} (redo : RedoLog D g) (len 
   pub ready : redo.state ≡ Ready
   pub in_batch : redo.batch.filled + (STEP_BYTES + len) ≤ length redo.batch.bytes.items
   pub in_log : redo.end + redo.batch.filled + (STEP_BYTES + len) < redo.room
-
--- ---- laws
-
--- What is kept is read.
-abbrev pub KeptIsRead : Type 1
-KeptIsRead = (D : Type 0) (g : Ghosts D) (redo : RedoLog D g) (kept now : Flash) → StillKeeps g redo kept now → EitherRead g redo kept now

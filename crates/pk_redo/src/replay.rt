@@ -69,6 +69,24 @@ fn read_head<D: Disk>(image: &mut D, alloc: Global, shape: &Shape) -> Result<Vec
     }
 }
 
+/// The header in the head of an image.
+fn header_of(head: &[u8]) -> &[u8]
+    requires { HEADER_BYTES ≤ length head.now }
+    ensures value { result.now ≡ take HEADER_BYTES head.now }
+    ensures len { length result.now ≡ HEADER_BYTES }
+{
+    &head[..HEADER_BYTES]
+}
+
+/// The states of the pages behind it.
+fn states_of(head: &[u8]) -> &[u8]
+    requires { HEADER_BYTES ≤ length head.now }
+    ensures value { result.now ≡ drop HEADER_BYTES head.now }
+    ensures len { HEADER_BYTES + length result.now ≡ length head.now }
+{
+    &head[HEADER_BYTES..]
+}
+
 /// Whether a log is of an image with this header and these states: it has no record, or one of
 /// them, but for pages that its steps set.
 fn is_of(shape: &Shape, log: &[u8], set: &[bool], header: &[u8], states: &[u8]) -> bool
@@ -108,7 +126,7 @@ fn belongs(
     let Ok(set) = set_pages(alloc, shape, steps) else {
         return Err(LogFault::Memory);
     };
-    let (own, states) = (&head[..HEADER_BYTES], &head[HEADER_BYTES..]);
+    let (own, states) = (header_of(head), states_of(head));
     let wanted = header(shape);
     if own != &wanted[..] {
         return Ok(false);
