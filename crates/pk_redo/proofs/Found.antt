@@ -1,12 +1,12 @@
 -- A log as it is found beside an image.
-use Rattle.std.proofs.Common.{◌≡◌, ◌≢◌, ℕ, ◌+◌, ◌-◌, ◌<◌, ◌≤◌, List, [], ◌∷◌, length, take, drop, slice_index, slice_range, sym, refl, ◌∙◌, ap, subst, inl, inr, arith, zero-add, ext_get_or, get_or-take, get_or-drop}
+use Rattle.std.proofs.Common.{◌≡◌, ◌≢◌, ℕ, ◌+◌, ◌-◌, ◌<◌, ◌≤◌, List, [], ◌∷◌, length, take, drop, slice_index, slice_range, sym, ◌∙◌, ap, inl, inr, arith, zero-add, ext_get_or, get_or-take, get_or-drop}
 use Rattle.std.proofs.lemmas.List.{length-take-le}
 use Rattle.sqlite_disk.specs.Disk.{Holds}
 use Rattle.pk_image.specs.Image.{state_place}
 use Rattle.pk_base.{specs.Shape.Shape, specs.Shape.page_count, specs.Mark.Mark}
 use Rattle.pk_redo.specs.declared.batch.TheConstants.{OPEN, FIRST_BATCH}
 use Rattle.pk_redo.specs.Bytes.{bytes_at}
-use Rattle.pk_redo.specs.Log.{IsBatch, Walks, LogHolds, body_at, next_at}
+use Rattle.pk_redo.specs.Log.{IsBatch, Walks, LogHolds, body_at}
 use Rattle.pk_redo.specs.Record.{RecordFits, RecordedAs, said}
 use Rattle.pk_redo.specs.Image.{BelongTo}
 use Rattle.pk_redo.proofs.Tables.{said_page}

@@ -1,5 +1,5 @@
 -- What the calls of a log keep.
-use Rattle.std.proofs.Common.{◌≡◌, ◌≢◌, ◌⊎◌, ℕ, ◌+◌, ◌<◌, ◌≤◌, List, [], ◌∷◌, ◌++◌, Bool, true, false, length, take, get_or, sym, refl, ◌∙◌, ap, subst, inl, inr, arith, append_assoc, zero-add, ◌/◌, ◌↔◌}
+use Rattle.std.proofs.Common.{◌≡◌, ◌≢◌, ◌⊎◌, ℕ, ◌<◌, ◌≤◌, List, [], ◌∷◌, ◌++◌, Bool, true, false, length, take, get_or, sym, refl, ◌∙◌, ap, subst, inl, inr, arith, append_assoc, zero-add, ◌/◌, ◌↔◌}
 use Rattle.std.{proofs.lemmas.List.append-nil}
 use Rattle.sqlite_disk.specs.declared.Disk.{Ghosts}
 use Rattle.sqlite_disk.specs.Disk.{Only}
@@ -11,7 +11,7 @@ use Rattle.pk_nand.proofs.Leaving.{page_at-slice_set, page_at-erased_from}
 use Rattle.pk_redo.specs.Steps.{SetBy, Sets, AreSteps}
 use Rattle.pk_redo.specs.Record.{RecordFits}
 use Rattle.pk_redo.specs.Image.{SameButSet, AllSameBut, BelongTo, LogSays, LogStands, ReadAs, flash_after}
-use Rattle.pk_redo.specs.Kept.{KeepsPages, StillKeeps, EitherRead, BatchSays, FilesSay, is_lacking}
+use Rattle.pk_redo.specs.Kept.{KeepsPages, StillKeeps, EitherRead, is_lacking}
 use Rattle.pk_redo.specs.declared.redo_log.LogState.{LogState}
 use Rattle.pk_redo.specs.declared.redo_log.LogState.TheVariants.{Ready, Ended}
 use Rattle.pk_redo.specs.declared.redo_log.RedoLog.{RedoLog}

@@ -1,5 +1,5 @@
 -- Steps one after another.
-use Rattle.std.proofs.Common.{◌≡◌, ◌⊎◌, ℕ, ◌+◌, ◌-◌, ◌*◌, ◌<◌, ◌≤◌, List, [], ◌∷◌, ◌++◌, length, drop}
+use Rattle.std.proofs.Common.{◌≡◌, ℕ, ◌+◌, ◌-◌, ◌*◌, ◌<◌, ◌≤◌, List, [], ◌∷◌, ◌++◌, length, drop}
 use Rattle.std.proofs.Common.{slice_index, sym, refl, ◌∙◌, ap, subst, inl, inr, arith, append_assoc, zero-add, take, true, false}
 use Rattle.std.specs.Prelude.{nat_lt}
 use Rattle.std.{proofs.lemmas.List.append-nil, proofs.lemmas.List.take_at, proofs.lemmas.List.drop-take, proofs.lemmas.List.drop_all, proofs.lemmas.List.take_all, proofs.lemmas.Bool.Decides.nat_tests, proofs.Math.Nat.mul-le-mul}

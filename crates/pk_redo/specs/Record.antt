@@ -1,8 +1,8 @@
 -- The record with which a log begins: the image that it belongs to, by its header and the states of its pages.
-use Rattle.std.specs.Prelude.{◌≡◌, ℕ, ◌+◌, ◌*◌, ◌/◌, ◌%◌, ◌^◌, ◌<◌, List, [], ◌∷◌, length, take, slice_index}
+use Rattle.std.specs.Prelude.{◌≡◌, ℕ, ◌+◌, ◌/◌, ◌%◌, ◌^◌, ◌<◌, List, [], ◌∷◌, length, take, slice_index}
 use Rattle.pk_image.specs.declared.head.TheConstants.{HEADER_BYTES}
 use Rattle.pk_image.{specs.Image.page_by, specs.Image.state_byte}
-use Rattle.pk_base.{specs.Shape.Shape, specs.Shape.page_count, specs.Page.Page, specs.Mark.Mark}
+use Rattle.pk_base.{specs.Shape.Shape, specs.Shape.page_count, specs.Mark.Mark}
 use Rattle.pk_redo.specs.Steps.{Sets}
 
 -- the bytes of a record: the header of the image, and two bits for the state of each page

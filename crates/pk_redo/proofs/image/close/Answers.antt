@@ -1,4 +1,4 @@
-use Rattle.std.proofs.Common.{ℕ, List, [], ◌∷◌, refl, inl, inr}
+use Rattle.std.proofs.Common.{inl, inr}
 use Rattle.std.specs.Prelude.{Result, Ok, Err, OnOk}
 use Rattle.pk_redo.proofs.Gates.{shut_stands}
 use Rattle.pk_redo.proofs.Replaying.{replay_is_absolute, written_reads}

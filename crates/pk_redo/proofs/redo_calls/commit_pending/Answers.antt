@@ -1,4 +1,4 @@
-use Rattle.std.proofs.Common.{◌≡◌, ◌∙◌, ◌+◌, ℕ, List, ◌++◌, drop, sym, subst, inl, arith}
+use Rattle.std.proofs.Common.{◌∙◌, ◌+◌, ℕ, List, ◌++◌, drop, sym, subst, inl, arith}
 use Rattle.std.proofs.lemmas.Result.{on_ok_weaker}
 use Rattle.pk_redo.specs.Steps.{BodySays}
 use Rattle.pk_redo.specs.Image.{LogSays}

@@ -1,4 +1,4 @@
-use Rattle.std.proofs.Common.{◌≡◌, ℕ, List, Bool, true, take, drop, subst}
+use Rattle.std.proofs.Common.{◌≡◌, ℕ, List, true, take, subst}
 use Rattle.pk_redo.specs.Record.{RecordedAs}
 use Rattle.pk_redo.specs.Steps.{step_marks}
 use Rattle.pk_redo.proofs.replay.belongs.Goals as goal

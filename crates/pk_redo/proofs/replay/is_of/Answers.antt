@@ -1,4 +1,4 @@
-use Rattle.std.proofs.Common.{◌≡◌, ℕ, List, subst, slice_index}
+use Rattle.std.proofs.Common.{ℕ, List, subst, slice_index}
 use Rattle.pk_redo.specs.Log.{len_at}
 use Rattle.pk_redo.specs.Record.{RecordFits, said}
 use Rattle.pk_redo.proofs.Found.{first_there, part_of_log}

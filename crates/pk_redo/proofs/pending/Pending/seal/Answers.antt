@@ -1,4 +1,4 @@
-use Rattle.std.proofs.Common.{◌≡◌, ◌∙◌, ◌++◌, List, ℕ, length, take, drop, sym, arith}
+use Rattle.std.proofs.Common.{◌≡◌, take, drop, arith}
 use Rattle.pk_redo.proofs.Stepping.{steps_sealed, written_back}
 use Rattle.pk_redo.proofs.pending.Pending.seal.Goals as goal
 

@@ -1,4 +1,4 @@
-use Rattle.std.proofs.Common.{◌≡◌, ◌∙◌, ◌+◌, ◌++◌, ℕ, List, [], refl, sym, subst, inl, inr, arith}
+use Rattle.std.proofs.Common.{◌∙◌, ◌+◌, ◌++◌, ℕ, [], refl, sym, subst, inl, inr, arith}
 use Rattle.pk_redo.specs.Image.{LogSays}
 use Rattle.pk_redo.proofs.Keeping.{all_kept, all_after, all_set, either_after, says_stands}
 use Rattle.pk_redo.proofs.redo_log.RedoLog.barrier.Goals as goal

@@ -1,4 +1,4 @@
-use Rattle.std.proofs.Common.{◌≡◌, ◌∙◌, ◌<◌, ℕ, List, ap, subst, sym, refl, inl, inr}
+use Rattle.std.proofs.Common.{◌∙◌, ◌<◌, ℕ, ap, subst, sym, refl, inl, inr}
 use Rattle.std.proofs.lemmas.Result.{on_ok_weaker}
 use Rattle.pk_base.{specs.Shape.page_count, specs.Page.Flash, specs.Page.page_at}
 use Rattle.pk_image.specs.Image.{flash_in_file}

@@ -1,4 +1,4 @@
-use Rattle.std.proofs.Common.{◌≡◌, ◌∙◌, ◌++◌, ◌<◌, ℕ, List, [], ◌∷◌, length, arith}
+use Rattle.std.proofs.Common.{◌++◌, ◌<◌, ℕ, [], ◌∷◌, length, arith}
 use Rattle.pk_base.{specs.Mark.Mark, specs.Mark.erase}
 use Rattle.pk_redo.proofs.Tables.{row_set, set_within, unset_both}
 use Rattle.pk_redo.proofs.Keeping.{now_after, lacking_after, others_after}

@@ -1,4 +1,4 @@
-use Rattle.std.proofs.Common.{◌≡◌, ◌+◌, ℕ, List, ◌∷◌, length, sym, subst, arith}
+use Rattle.std.proofs.Common.{◌≡◌, ◌+◌, ℕ, ◌∷◌, length, sym, subst, arith}
 use Rattle.pk_redo.specs.Log.{AllReady}
 use Rattle.pk_redo.specs.Image.{LogSays}
 use Rattle.pk_redo.proofs.Keeping.{says_stands}

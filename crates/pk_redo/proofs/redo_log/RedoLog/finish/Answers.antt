@@ -1,4 +1,3 @@
-use Rattle.std.proofs.Common.{◌≡◌}
 use Rattle.std.proofs.lemmas.Result.{on_ok_weaker}
 use Rattle.pk_redo.proofs.Keeping.{still_now}
 use Rattle.pk_redo.proofs.redo_log.RedoLog.finish.Goals as goal

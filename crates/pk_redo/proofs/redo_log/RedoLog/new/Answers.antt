@@ -1,7 +1,6 @@
-use Rattle.std.proofs.Common.{◌≡◌, ◌∙◌, ◌↔◌, ◌<◌, ℕ, List, [], Bool, true, false, get_or, sym, refl, subst, arith}
-use Rattle.pk_base.{specs.Shape.page_count, specs.Mark.Mark}
+use Rattle.std.proofs.Common.{◌≡◌, ◌<◌, ℕ, [], sym, refl}
+use Rattle.pk_base.{specs.Shape.page_count}
 use Rattle.pk_redo.specs.declared.redo_log.LogState.TheVariants.{Found, Ready}
-use Rattle.pk_redo.specs.Steps.{Sets, step_marks}
 use Rattle.pk_redo.specs.Kept.{replay_marks}
 use Rattle.pk_redo.proofs.Writes.{same_itself}
 use Rattle.pk_redo.proofs.Keeping.{found_lacking, found_others}

@@ -1,4 +1,4 @@
-use Rattle.std.proofs.Common.{◌≡◌, ◌++◌, ℕ, List, [], ◌∷◌, arith}
+use Rattle.std.proofs.Common.{◌++◌, ℕ, [], ◌∷◌, arith}
 use Rattle.pk_base.{specs.Fields.padded, specs.Mark.Mark, specs.Mark.program}
 use Rattle.pk_redo.proofs.Tables.{one_set, unset_both}
 use Rattle.pk_redo.proofs.Keeping.{now_after, lacking_after, others_after}

@@ -1,4 +1,4 @@
-use Rattle.std.proofs.Common.{◌≡◌, ◌∙◌}
+use Rattle.std.proofs.Common.{◌∙◌}
 use Rattle.pk_redo.proofs.Keeping.{still_then, ready_not_ended}
 use Rattle.pk_redo.proofs.redo_log.RedoLog.ready.Goals as goal
 

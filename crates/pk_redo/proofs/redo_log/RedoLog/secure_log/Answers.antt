@@ -1,4 +1,3 @@
-use Rattle.std.proofs.Common.{◌≡◌}
 use Rattle.pk_redo.proofs.Keeping.{still_now}
 use Rattle.pk_redo.proofs.redo_log.RedoLog.secure_log.Goals as goal
 

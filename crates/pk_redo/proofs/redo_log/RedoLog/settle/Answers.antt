@@ -1,4 +1,4 @@
-use Rattle.std.proofs.Common.{◌≡◌, ◌+◌, ◌<◌, ℕ, List, [], ◌∷◌, drop, refl, sym, ◌∙◌, ap, subst, inl, inr, arith}
+use Rattle.std.proofs.Common.{◌+◌, ◌<◌, ℕ, List, [], drop, refl, sym, ◌∙◌, ap, subst, inl, inr, arith}
 use Rattle.pk_base.{specs.Shape.page_count, specs.Page.Flash, specs.Page.page_at}
 use Rattle.pk_image.{specs.Header.header_bytes, specs.Image.state_byte, specs.Image.page_in_file}
 use Rattle.pk_redo.specs.Record.{RecordFits}
