@@ -93,7 +93,8 @@ fn is_of(shape: &Shape, log: &[u8], set: &[bool], header: &[u8], states: &[u8]) 
     requires header { length header.now ≡ HEADER_BYTES }
     requires states { length states.now ≡ spec.page_count shape.now }
     requires set { length set.now ≡ spec.page_count shape.now }
-    ensures { result ≡ true → (batches : List (List ℕ)) (marks : List Mark) → LogHolds log.now batches
+    ensures { result ≡ true → (batches : List (List ℕ)) (marks : List Mark)
+        → LogHolds log.now batches
         → ((k : ℕ) → k < spec.page_count shape.now
         → (get_or set.now k false ≡ true) ↔ Sets shape.now marks k)
         → RecordedAs shape.now batches header.now states.now marks }
