@@ -92,7 +92,7 @@ fn state_at_page(bytes: &[u8], page: usize) -> u8
 }
 
 /// Pages that stand in a row are among those that steps set; there may be none of these numbers.
-fn note_row(set: &mut Vec<bool>, first: usize, count: usize)
+pub(crate) fn note_row(set: &mut Vec<bool>, first: usize, count: usize)
     requires { first + count < 2 ^ 63 }
     ensures inside { (k : ℕ) → first ≤ k → k < first + count → k < length set.old.items
         → get_or set.new.items k false ≡ true }
@@ -104,6 +104,22 @@ fn note_row(set: &mut Vec<bool>, first: usize, count: usize)
     for page in first..end {
         set[page] = true;
     }
+}
+
+/// Whether a page is among those that are set.
+pub(crate) fn is_set(set: &Vec<bool>, page: u32) -> bool
+    requires { page < length set.now.items }
+    ensures { result ≡ get_or set.now.items page false }
+{
+    set[page as usize]
+}
+
+/// No page is among those that steps set.
+pub(crate) fn clear_pages(set: &mut Vec<bool>)
+    ensures none { (k : ℕ) → get_or set.new.items k false ≡ false }
+    ensures len { length set.new.items ≡ length set.old.items }
+{
+    set.as_mut_slice().fill(false);
 }
 
 /// The pages that a step sets are among those that steps set.

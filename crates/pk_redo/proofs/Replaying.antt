@@ -2,7 +2,6 @@
 use Rattle.std.proofs.Common.{◌≡◌, ◌≢◌, ◌⊎◌, ℕ, zero, suc, ◌+◌, ◌*◌, ◌/◌, ◌<◌, ◌≤◌, List, [], ◌∷◌}
 use Rattle.std.proofs.Common.{◌++◌, length, take, drop, slice_index, sym, refl, ◌∙◌, ap, inl, inr, arith, zero-add, get_or-take, ext_get_or}
 use Rattle.std.{proofs.Math.Nat.mul-le-mul_right, proofs.Math.Nat.mul-suc, proofs.lemmas.Bool.cases_eq, proofs.lemmas.Bool.cases_lt, proofs.lemmas.List.length-take-le}
-use Rattle.sqlite_disk.specs.Disk.{Holds, Torn}
 use Rattle.pk_image.{specs.Header.file_size, specs.Image.state_place, specs.Image.page_place, specs.Image.page_by}
 use Rattle.pk_image.{specs.Image.page_in_file, specs.Image.pages_in_file, specs.Image.flash_in_file, specs.Image.state_byte}
 use Rattle.pk_base.{specs.Shape.Shape, specs.Shape.page_count, specs.Page.Page, specs.Page.Flash, specs.Page.page_at, specs.Page.torn}
@@ -13,7 +12,7 @@ use Rattle.pk_redo.specs.Steps.{SetBy, Sets}
 use Rattle.pk_redo.specs.Image.{SameButSet, BelongTo, ReadAs, ReplayIsAbsolute, flash_after}
 use Rattle.pk_redo.specs.Log.{LogHolds}
 use Rattle.pk_redo.specs.Record.{RecordFits}
-use Rattle.pk_redo.proofs.Parts.{same_parts, held_is_part}
+use Rattle.pk_redo.proofs.Parts.{same_parts}
 
 -- ---- steps that set a page
 
@@ -150,15 +149,20 @@ same_header shape marks base file same =
     get_or-take 32 file i 0 below ∙ same.header i below ∙ sym (get_or-take 32 base i 0 below))
 
 -- the record of an image is one of each file that differs from it in pages that steps set
-pub belongs_still : (shape : Shape) (batches : List (List ℕ)) (marks : List Mark) (base file : List ℕ) → BelongTo shape batches [] base → SameButSet shape marks base file
+pub belongs_still : (shape : Shape) (batches : List (List ℕ)) (marks : List Mark) (base file : List ℕ) → BelongTo shape batches marks base → SameButSet shape marks base file
     → BelongTo shape batches marks file
 belongs_still shape [] marks base file own same = tt
 belongs_still shape (first ∷ later) marks base file own same =
     record {
       size = own.size;
       same_header = own.same_header ∙ sym (same_header shape marks base file same);
-      same_states = λ k low not. own.same_states k low (λ none. none) ∙ sym (ap state_byte (unset_page shape marks base file same k low not));
+      same_states = λ k low not. own.same_states k low not ∙ sym (ap state_byte (unset_page shape marks base file same k low not));
     }
+
+-- and one of itself, whatever steps follow
+pub belongs_more : (shape : Shape) (batches : List (List ℕ)) (marks : List Mark) (base : List ℕ) → BelongTo shape batches [] base → BelongTo shape batches marks base
+belongs_more shape [] marks base own = tt
+belongs_more shape (first ∷ later) marks base own = record { size = own.size; same_header = own.same_header; same_states = λ k low not. own.same_states k low (λ none. none) }
 
 pub replay_is_absolute : ReplayIsAbsolute
 replay_is_absolute shape log base image batches marks stands says own same =
