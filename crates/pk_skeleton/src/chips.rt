@@ -1,5 +1,5 @@
 //! What a driver of flash parts promises: a page is Erased, Whole or Torn, and each call says what it leaves.
-ghost use Rattle.std.specs.Prelude.{◌≡◌, ◌<◌, ℕ, List, length, replicate, Option, Some, IfOk, OnOk, OnErr, []};
+ghost use Rattle.std.specs.Prelude.{◌≡◌, ◌<◌, length, replicate, Option, Some, IfOk, OnOk, OnErr, []};
 ghost use Rattle.pk_base.specs.Shape as spec;
 ghost use Rattle.pk_base.specs.Page.{Flash, page_at, erased, IsFlash};
 ghost use Rattle.pk_base.specs.Mark.{program, erase, after};
