@@ -162,7 +162,7 @@ fn write_waiting(
     }
 }
 
-/// Sends what is gathered, and these bytes behind it, once no page waits. If pages that waited were
+/// Sends what is gathered, and these bytes after it, once no page waits. If pages that waited were
 /// lost, now or before, nothing leaves.
 fn deliver<W: Write + Drop>(
     file: &mut Option<ImageFile>,
@@ -303,7 +303,7 @@ impl<'a> FileBoard<'a> {
         }
     }
 
-    /// Sends what was posted and has not left, behind a barrier: the end of a run, without which it
+    /// Sends what was posted and has not left, after a barrier: the end of a run, without which it
     /// is lost. Success means that all pages are in the file, and on the disk if they have to be,
     /// and that all that was posted was sent.
     pub fn finish(&mut self) -> Result<(), EndFault>

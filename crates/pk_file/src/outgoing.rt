@@ -42,7 +42,7 @@ fn room(alloc: Global) -> Vec<u8>
     }
 }
 
-/// Writes bytes, and others behind them.
+/// Writes bytes, and others after them.
 fn write_both<W: Write>(to: &mut W, bytes: &[u8], more: &[u8]) -> io::Result<()>
     ensures { OnOk result
         (Appends (W.contents to.old) (W.contents to.new) (bytes.now ++ more.now)) }
@@ -91,7 +91,7 @@ impl<W: Write + Drop> Outgoing<W> {
         self.gathered.extend_from_slice(bytes).is_ok()
     }
 
-    /// Sends what is gathered, and these bytes behind it, where no page waits for the file and none
+    /// Sends what is gathered, and these bytes after it, where no page waits for the file and none
     /// that waited was lost. After a write that failed nothing more is written.
     pub fn send(&mut self, row: &Row, bytes: &[u8]) -> Result<(), HostFault>
         requires none_waits { row.now.extents.items ≡ [] }

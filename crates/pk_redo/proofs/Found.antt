@@ -1,5 +1,6 @@
 -- A log as it is found beside an image.
-use Rattle.std.proofs.Common.{◌≡◌, ◌≢◌, ℕ, ◌+◌, ◌-◌, ◌<◌, ◌≤◌, List, [], ◌∷◌, length, take, drop, slice_index, slice_range, sym, ◌∙◌, ap, inl, inr, arith, zero-add, ext_get_or, get_or-take, get_or-drop}
+use Rattle.std.proofs.Common.{◌≡◌, ◌≢◌, ℕ, ◌+◌, ◌-◌, ◌<◌, ◌≤◌, List, [], ◌∷◌, length, take}
+use Rattle.std.proofs.Common.{drop, slice_index, slice_range, sym, ◌∙◌, ap, inl, inr, arith, zero-add, ext_get_or, get_or-take, get_or-drop}
 use Rattle.std.proofs.lemmas.List.{length-take-le}
 use Rattle.sqlite_disk.specs.Disk.{Holds}
 use Rattle.pk_image.specs.Image.{state_place}

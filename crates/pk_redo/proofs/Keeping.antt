@@ -52,7 +52,7 @@ pub ready_not_ended : (state : LogState) → state ≡ Ready → state ≢ Ended
 ready_not_ended state is ended = cc
 
 module _ {D : Type 0} (g : Ghosts D) where
-  -- a log that is ready stands
+  -- a log that is ready has its batches
   pub says_stands : (log : D) (shape : Shape) (base : List ℕ) (marks : List Mark) (end room : ℕ) → end < room → LogSays g log shape base marks end room → LogStands g log shape base marks
   says_stands log shape base marks end room low says =
       record {
@@ -169,7 +169,8 @@ module _ {D : Type 0} (g : Ghosts D) where
   -- ---- a checkpoint
 
   -- the steps of the log set the pages that the image may lack
-  pub lacks_set : (redo : RedoLog D g) (kept now : Flash) (k : KeepsPages g redo kept now) → redo.batch.filled ≡ 9 → (page : ℕ) → is_lacking redo page ≡ true → Sets redo.shape k.marks page
+  pub lacks_set : (redo : RedoLog D g) (kept now : Flash) (k : KeepsPages g redo kept now)
+      → redo.batch.filled ≡ 9 → (page : ℕ) → is_lacking redo page ≡ true → Sets redo.shape k.marks page
   lacks_set redo kept now k empty page lacks =
       subst (λ (marks : List Mark). Sets redo.shape marks page) (ap (λ (later : List Mark). k.marks ++ later) (no_later redo kept now k empty) ∙ append-nil k.marks) (k.lacking page lacks)
 

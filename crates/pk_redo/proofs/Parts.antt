@@ -14,7 +14,8 @@ unfolding bytes_at
 length-part file at n h = search (rules, places)
 
 -- two parts with the same bytes
-pub same_parts : (f g : List ℕ) (a b n : ℕ) → a + n ≤ length f → b + n ≤ length g → ((i : ℕ) → i < n → slice_index f (a + i) ≡ slice_index g (b + i)) → bytes_at f a n ≡ bytes_at g b n
+pub same_parts : (f g : List ℕ) (a b n : ℕ) → a + n ≤ length f → b + n ≤ length g
+    → ((i : ℕ) → i < n → slice_index f (a + i) ≡ slice_index g (b + i)) → bytes_at f a n ≡ bytes_at g b n
 same_parts f g a b n in_f in_g same =
     let whole = length-part f a n in_f in
     ext_get_or 0 _ _ (whole ∙ sym (length-part g b n in_g)) λ i h.

@@ -2,7 +2,8 @@
 use Rattle.std.proofs.Common.{◌≡◌, ℕ, ◌+◌, ◌-◌, ◌*◌, ◌<◌, ◌≤◌, List, [], ◌∷◌, ◌++◌, length, drop}
 use Rattle.std.proofs.Common.{slice_index, sym, refl, ◌∙◌, ap, subst, inl, inr, arith, append_assoc, zero-add, take, true, false}
 use Rattle.std.specs.Prelude.{nat_lt}
-use Rattle.std.{proofs.lemmas.List.append-nil, proofs.lemmas.List.take_at, proofs.lemmas.List.drop-take, proofs.lemmas.List.drop_all, proofs.lemmas.List.take_all, proofs.lemmas.Bool.Decides.nat_tests, proofs.Math.Nat.mul-le-mul}
+use Rattle.std.{proofs.lemmas.List.append-nil, proofs.lemmas.List.take_at, proofs.lemmas.List.drop-take}
+use Rattle.std.{proofs.lemmas.List.drop_all, proofs.lemmas.List.take_all, proofs.lemmas.Bool.Decides.nat_tests, proofs.Math.Nat.mul-le-mul}
 use Rattle.sqlite_disk.specs.Disk.{Torn}
 use Rattle.pk_base.{specs.Shape.Shape, specs.Shape.IsShape, specs.Shape.page_count, specs.Fields.padded, specs.Mark.Mark, specs.Mark.program, specs.Mark.erase}
 use Rattle.pk_redo.specs.Bytes.{bytes_at, number_in}
@@ -123,13 +124,15 @@ bodies_behind shape [] body later marks says = let (first, rest, here, more, is)
 bodies_behind shape (b ∷ bodies) body later marks says = let (first, rest, here, more, is) = says in bodies_behind shape bodies body later rest more
 
 -- the steps in a part of a log are those of the bytes of the part, and the other way round
-pub steps_of_body : (shape : Shape) (log : List ℕ) (at len : ℕ) (marks : List Mark) → at + len ≤ length log → AreSteps shape log at marks (at + len) → BodySays shape (bytes_at log at len) marks
+pub steps_of_body : (shape : Shape) (log : List ℕ) (at len : ℕ) (marks : List Mark) → at + len ≤ length log
+    → AreSteps shape log at marks (at + len) → BodySays shape (bytes_at log at len) marks
 steps_of_body shape log at len marks fits steps =
     let sized = length-part log at len fits in
     let own = steps_same shape log (bytes_at log at len) at 0 marks len (omega (arith, sized)) (λ i low. rw (zero-add i) (index-part log at len i low)) steps in
     subst (λ (end : ℕ). AreSteps shape (bytes_at log at len) 0 marks end) (zero-add len ∙ sym sized) own
 
-pub body_of_steps : (shape : Shape) (log : List ℕ) (at len : ℕ) (marks : List Mark) → at + len ≤ length log → BodySays shape (bytes_at log at len) marks → AreSteps shape log at marks (at + len)
+pub body_of_steps : (shape : Shape) (log : List ℕ) (at len : ℕ) (marks : List Mark) → at + len ≤ length log
+    → BodySays shape (bytes_at log at len) marks → AreSteps shape log at marks (at + len)
 body_of_steps shape log at len marks fits says =
     let sized = length-part log at len fits in
     let own = subst (λ (end : ℕ). AreSteps shape (bytes_at log at len) 0 marks end) (sized ∙ sym (zero-add len)) says in

@@ -76,7 +76,7 @@ pub record ReplayedTo (shape : Shape) (log image : List ℕ) (replay : Replay) (
 
 -- ---- room
 
--- there is room in the batch and in the log for a step with a front of so many bytes
+-- there is room in the batch and in the log for a step whose front has this length
 pub record HasRoomForStep {D : Type 0} {g : Ghosts D} (redo : RedoLog D g) (len : ℕ) : Type 0 where
   pub ready : redo.state ≡ Ready
   pub in_batch : redo.batch.filled + (STEP_BYTES + len) ≤ length redo.batch.bytes.items

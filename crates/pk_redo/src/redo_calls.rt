@@ -59,7 +59,7 @@ fn note_record<P: Pages>(first: &mut Vec<u8>, states: &mut Vec<u8>, shape: &Shap
     put_record(first.as_mut_slice(), shape, states.as_slice());
 }
 
-/// Commits the batch in memory behind the batches of the log, which end at a place. A log that was
+/// Commits the batch in memory after the batches of the log, which end at a place. A log that was
 /// cut short is not filled up.
 fn commit_pending<D: Disk>(
     log: &mut D,
@@ -168,7 +168,7 @@ impl<D: Disk> RedoLog<D> {
         !self.batch.is_empty()
     }
 
-    /// Whether there is room for a step with a front of so many bytes.
+    /// Whether there is room for a step whose front has this length.
     pub fn has_room(&self, len: usize) -> bool
         requires { len ≤ self.now.shape.page_bytes }
         ensures { IsTrue result ↔ HasRoomForStep self.now len }
@@ -267,7 +267,7 @@ impl<D: Disk> RedoLog<D> {
         }
     }
 
-    /// Sees that a step with a front of so many bytes fits the batch: a full one is committed.
+    /// Sees that a step whose front has this length fits the batch: a full one is committed.
     fn secure_batch(&mut self, len: usize) -> io::Result<()>
         requires { len ≤ self.old.shape.page_bytes }
         ensures keeps { IsTrue (D.Disk.is_clean self.new.log) → (kept now : Flash)
@@ -310,7 +310,7 @@ impl<D: Disk> RedoLog<D> {
         }
     }
 
-    /// Sees that a step with a front of so many bytes, which fits the batch, fits the log.
+    /// Sees that a step whose front has this length, which fits the batch, fits the log.
     fn secure_log<P: Pages>(&mut self, pages: &P, len: usize) -> io::Result<()>
         requires shape { P.shape_of pages.now ≡ self.old.shape }
         requires short { len ≤ self.old.shape.page_bytes }
@@ -337,7 +337,7 @@ impl<D: Disk> RedoLog<D> {
         }
     }
 
-    /// Secures room for one more step, with a front of so many bytes: commits a full batch, writes
+    /// Secures room for one more step, whose front has this length: commits a full batch, writes
     /// zeros ahead, or makes a checkpoint of a log that is long, or as it was found. After an error
     /// nothing of the step was done.
     pub fn ready<P: Pages>(&mut self, pages: &P, len: usize) -> io::Result<()>
@@ -379,7 +379,7 @@ impl<D: Disk> RedoLog<D> {
         }
     }
 
-    /// Adds the step that programs a page with this front, behind which it has zeros.
+    /// Adds the step that programs a page with this front, after which it has zeros.
     pub fn program(&mut self, page: u32, front: &[u8])
         requires exists { page < spec.page_count self.old.shape }
         requires short { length front.now ≤ self.old.shape.page_bytes }

@@ -78,7 +78,7 @@ fn header_of(head: &[u8]) -> &[u8]
     &head[..HEADER_BYTES]
 }
 
-/// The states of the pages behind it.
+/// The states of the pages after it.
 fn states_of(head: &[u8]) -> &[u8]
     requires { HEADER_BYTES ≤ length head.now }
     ensures value { result.now ≡ drop HEADER_BYTES head.now }
