@@ -1,0 +1,398 @@
+//! The files behind the pages of a board: the image, and its log once there is one.
+ghost use Rattle.std.specs.Prelude.{◌≡◌, ◌<◌, ◌≤◌, ◌+◌, ◌*◌, [], length, None, OnOk, OnErr, true, false, slice_set};
+ghost use Rattle.pk_base.specs.Shape as spec;
+ghost use Rattle.pk_base.specs.Page.{whole};
+ghost use Rattle.pk_base.specs.Mark.{program, erase, after};
+ghost use Rattle.pk_nand.specs.BoardState.{shape_or_none};
+ghost use Rattle.pk_nand.specs.Calls.{LeftBehind};
+ghost use Rattle.pk_file.specs.Slots.{pages_of, AllFit};
+
+use crate::image_file::{ImageFile, PageFile};
+use crate::image_log::{ImageLog, new_log};
+use crate::logged::{SlotPages, erase_logged, program_logged};
+use crate::pages_to_file::{Image, create_image, find_image};
+use crate::row::{PageWrites, Row};
+use crate::slot::Slot;
+use crate::slots::{erase_slots, extents_in, known, set_slot};
+use crate::trimmed::Trimmed;
+use pk_base::Shape;
+use pk_disk::Start;
+use pk_nand::{LoadFault, NandFault};
+use std::alloc::Global;
+use std::io;
+
+/// How changes get to the image, and when they are on the disk.
+#[derive(Clone, Copy, Debug, PartialEq, Eq)]
+pub enum Keeping {
+    /// Pages that follow one another are written together, and the system brings them to the disk
+    /// when it likes.
+    Rows,
+    /// Each page is written by its program, and is on the disk when this returns or when the system
+    /// likes.
+    Direct { is_durable: bool },
+    /// Changes go to a log beside the image, and are on the disk before anything leaves. If no log
+    /// can be made, or for so few changes that none is worth while, rows are, each synced.
+    Log,
+}
+
+/// Changes of a run that are written to the image before a log is made.
+const CHANGES_WITHOUT_LOG: u32 = 16;
+
+impl Keeping {
+    /// Whether what is written has to be on the disk.
+    pub fn is_durable(self) -> bool {
+        match self {
+            Keeping::Rows => false,
+            Keeping::Direct { is_durable } => is_durable,
+            Keeping::Log => true,
+        }
+    }
+
+    /// When a page is written that goes to no log.
+    pub fn writes(self) -> PageWrites {
+        match self {
+            Keeping::Direct { .. } => PageWrites::Direct,
+            _ => PageWrites::Gathered,
+        }
+    }
+}
+
+/// The image file of a board, and its log.
+#[derive(Drop)]
+pub struct Backing<'a, S: Start> {
+    rt: &'a HostRuntime,
+    path: &'a str,
+    keeping: Keeping,
+    /// Whether changes go to a log.
+    uses_log: bool,
+    file: Option<ImageFile>,
+    /// The pages that are not in the file yet, where they go to no log.
+    pub row: Row,
+    /// The log that was found, or made by this run.
+    log: Option<ImageLog<S>>,
+    /// How many more changes are written to the image before a log is made.
+    left: u32,
+}
+
+/// Whether a page has the same bytes as the one before it, as the second of a pair that ends a
+/// commit or a root.
+fn ends_pair(slots: &Vec<Slot>, page: u32, kept: &Trimmed) -> bool
+    requires { page < length slots.now.items }
+{
+    if page == 0 {
+        return false;
+    }
+    match &slots[page as usize - 1] {
+        Slot::Whole(other) => other.front.as_slice() == kept.front.as_slice(),
+        _ => false,
+    }
+}
+
+/// Programs a page in memory, and adds it to those that wait for the file. They are written before,
+/// if it is not the next of them; and after it, if it ends a pair or is not to wait. Without memory
+/// for the page nothing is done.
+fn program_page(
+    alloc: Global,
+    file: &mut Option<ImageFile>,
+    shape: &Option<Shape>,
+    slots: &mut Vec<Slot>,
+    row: &mut Row,
+    page: u32,
+    bytes: &[u8],
+) -> Result<(), NandFault>
+    requires exists { page < length slots.old.items }
+    requires full { length bytes.now ≡ (shape_or_none shape.now).page_bytes }
+    requires count { length slots.old.items ≡ spec.page_count (shape_or_none shape.now) }
+    requires fit { AllFit (shape_or_none shape.now) slots.old.items }
+    requires row { row.old.first + length row.old.extents.items ≤ length slots.old.items }
+
+    // The whole effect, or a part of it as a cut may leave it.
+    ensures pages { OnOk result
+        (pages_of slots.new.items ≡ slice_set (pages_of slots.old.items) page (whole bytes.now)) }
+    ensures left { OnErr result (LeftBehind (shape_or_none shape.now) (program page bytes.now)
+        (pages_of slots.old.items) (pages_of slots.new.items) None None) }
+
+    // The board keeps its form.
+    ensures count { length slots.new.items ≡ length slots.old.items }
+    ensures fit { AllFit (shape_or_none shape.now) slots.new.items }
+    ensures row { row.new.first + length row.new.extents.items ≤ length slots.new.items }
+
+    // A page that is not to wait does not.
+    ensures direct { OnOk result (row.old.writes ≡ PageWrites.Direct
+        → row.new.extents.items ≡ []) }
+{
+    known(bytes);
+    let Ok(kept) = Trimmed::of(alloc, bytes) else {
+        return Err(NandFault);
+    };
+    match (file, shape) {
+        (Some(file), Some(shape)) => {
+            if !row.add(file, shape, slots, page) {
+                return Err(NandFault);
+            }
+            let is_direct = row.is_direct();
+            let is_end = ends_pair(slots, page, &kept);
+            let torn = slots[page as usize].torn(bytes, kept.front.len());
+            set_slot(slots, page as usize, Slot::Whole(kept));
+            if !is_direct && !is_end {
+                return Ok(());
+            }
+            if row.write(file, shape, slots) {
+                return Ok(());
+            }
+            if !is_direct {
+                return Err(NandFault);
+            }
+            // the file may have it in part
+            set_slot(slots, page as usize, torn);
+            Err(NandFault)
+        }
+        _ => Err(NandFault),
+    }
+}
+
+/// The barrier before posts leave: writes the pages that wait to the file.
+fn write_waiting(
+    file: &mut Option<ImageFile>,
+    shape: &Option<Shape>,
+    slots: &Vec<Slot>,
+    row: &mut Row,
+) -> bool
+    requires count { length slots.now.items ≡ spec.page_count (shape_or_none shape.now) }
+    requires fit { AllFit (shape_or_none shape.now) slots.now.items }
+    requires row { row.old.first + length row.old.extents.items ≤ length slots.now.items }
+    ensures row { row.new.first + length row.new.extents.items ≤ length slots.now.items }
+    ensures none { result ≡ true → row.new.extents.items ≡ [] }
+    ensures kept { result ≡ true → row.new.is_lost ≡ false }
+    ensures lost { row.old.is_lost ≡ true → (result ≡ false) × (row.new.is_lost ≡ true) }
+{
+    match (file, shape) {
+        (Some(file), Some(shape)) => row.write(file, shape, slots),
+        _ => row.is_empty() && !row.is_lost(),
+    }
+}
+
+/// Erases a block in the file and in memory, after the pages that wait were written. A write or
+/// sync that fails erases the pages whose state bytes were set.
+fn erase_block(
+    file: &mut Option<ImageFile>,
+    shape: &Option<Shape>,
+    slots: &mut Vec<Slot>,
+    row: &mut Row,
+    block: u32,
+) -> Result<(), NandFault>
+    requires exists { block < (shape_or_none shape.now).blocks }
+    requires count { length slots.old.items ≡ spec.page_count (shape_or_none shape.now) }
+    requires fit { AllFit (shape_or_none shape.now) slots.old.items }
+    requires row { row.old.first + length row.old.extents.items ≤ length slots.old.items }
+
+    // The whole effect, or a part of it as a cut may leave it.
+    ensures pages { OnOk result (pages_of slots.new.items
+        ≡ after (shape_or_none shape.now) (erase block) (pages_of slots.old.items)) }
+    ensures left { OnErr result (LeftBehind (shape_or_none shape.now) (erase block)
+        (pages_of slots.old.items) (pages_of slots.new.items) None None) }
+
+    // The board keeps its form.
+    ensures count { length slots.new.items ≡ length slots.old.items }
+    ensures fit { AllFit (shape_or_none shape.now) slots.new.items }
+    ensures row { row.new.first + length row.new.extents.items ≤ length slots.new.items }
+{
+    let (Some(file), Some(shape)) = (file, shape) else {
+        return Err(NandFault);
+    };
+    let count = shape.block_pages();
+    let first = block * count;
+    let cleared = row.erase(file, shape, slots, first, count);
+    erase_slots(slots, first as usize, cleared.count as usize);
+    if cleared.is_done {
+        return Ok(());
+    }
+    Err(NandFault)
+}
+
+/// The pages of a board of this shape, as a log sees them.
+fn pages<'s>(shape: &Shape, slots: &'s Vec<Slot>) -> SlotPages<'s>
+    requires count { length slots.now.items ≡ spec.page_count shape.now }
+    requires fit { AllFit shape.now slots.now.items }
+{
+    SlotPages {
+        shape: *shape,
+        slots,
+    }
+}
+
+/// Makes the steps that wait durable, if neither file was cut short: a write would fill it up with
+/// zeros.
+fn commit<S: Start>(file: &mut Option<ImageFile>, row: &mut Row, log: &mut ImageLog<S>) -> bool {
+    if row.is_lost() || log.redo.is_lost() {
+        return false;
+    }
+    if !log.redo.has_steps() {
+        return true;
+    }
+    let is_whole = match file {
+        Some(file) => file.begin().is_ok(),
+        None => false,
+    };
+    if is_whole && log.redo.barrier().is_ok() {
+        return true;
+    }
+    row.lose();
+    false
+}
+
+impl<'a, S: Start> Backing<'a, S> {
+    /// No file is open.
+    pub fn new(rt: &'a HostRuntime, path: &'a str, keeping: Keeping) -> Backing<'a, S> {
+        Backing {
+            rt,
+            path,
+            keeping,
+            uses_log: keeping == Keeping::Log,
+            file: None,
+            row: Row::new(rt.alloc(), keeping.is_durable(), keeping.writes()),
+            log: None,
+            left: CHANGES_WITHOUT_LOG,
+        }
+    }
+
+    /// Opens the image, and reads it and its log. None if there is no image.
+    pub fn find(&mut self, alloc: Global) -> Result<Option<(Shape, Vec<Slot>)>, LoadFault> {
+        match find_image(self.rt, alloc, self.path, self.keeping) {
+            Ok(Some(image)) => {
+                let Image {
+                    file,
+                    shape,
+                    slots,
+                    row,
+                    log,
+                } = image;
+                self.file = Some(file);
+                self.row = row;
+                self.log = log;
+                Ok(Some((shape, slots)))
+            }
+            Ok(None) => Ok(None),
+            Err(fault) => Err(fault),
+        }
+    }
+
+    /// Makes an image with all pages Erased.
+    pub fn create(&mut self, shape: &Shape, row: Row) -> io::Result<()> {
+        match create_image(self.rt, self.path, shape, self.keeping.is_durable()) {
+            Ok(file) => {
+                self.file = Some(file);
+                self.row = row;
+                self.log = None;
+                Ok(())
+            }
+            Err(error) => Err(error),
+        }
+    }
+
+    /// Brings what a log says into the image, and removes it.
+    fn end_log(&mut self, shape: &Shape, slots: &Vec<Slot>) -> bool {
+        let Some(log) = &mut self.log else {
+            return true;
+        };
+        if log.end(self.rt, &pages(shape, slots)).is_err() {
+            self.row.lose();
+            return false;
+        }
+        self.log = None;
+        true
+    }
+
+    /// Makes the log of an image that has all pages. If that fails, each row is synced from now on.
+    fn begin_log(&mut self, shape: &Shape, slots: &Vec<Slot>) -> bool {
+        if !write_waiting(&mut self.file, &Some(*shape), slots, &mut self.row) {
+            return false;
+        }
+        let Ok(extents) = extents_in(self.rt.alloc(), slots) else {
+            return true;
+        };
+        if let Some(file) = &self.file {
+            match new_log(self.rt, self.path, file, *shape, extents) {
+                Ok(log) => self.log = Some(log),
+                Err(_) => self.uses_log = false,
+            }
+        }
+        true
+    }
+
+    /// Sees before a change that it can go where it has to.
+    fn prepare(&mut self, shape: &Option<Shape>, slots: &Vec<Slot>) -> bool {
+        let Some(shape) = shape else {
+            return false;
+        };
+        if self.row.is_lost() {
+            return false;
+        }
+        match &mut self.log {
+            Some(log) if self.uses_log => {
+                log.is_begun = true;
+                true
+            }
+            Some(_) => self.end_log(shape, slots),
+            None if !self.uses_log => true,
+            None if self.left > 0 => {
+                self.left -= 1;
+                true
+            }
+            None => self.begin_log(shape, slots),
+        }
+    }
+
+    /// Programs a page in memory, and brings it to where it has to go.
+    pub fn program(
+        &mut self,
+        shape: &Option<Shape>,
+        slots: &mut Vec<Slot>,
+        page: u32,
+        bytes: &[u8],
+    ) -> Result<(), NandFault> {
+        if !self.prepare(shape, slots) {
+            return Err(NandFault);
+        }
+        let alloc = self.rt.alloc();
+        match (&mut self.log, shape) {
+            (Some(log), Some(shape)) => {
+                program_logged(alloc, &mut log.redo, shape, slots, page, bytes)
+            }
+            _ => program_page(alloc, &mut self.file, shape, slots, &mut self.row, page, bytes),
+        }
+    }
+
+    /// Erases a block in memory, and where it has to be.
+    pub fn erase(
+        &mut self,
+        shape: &Option<Shape>,
+        slots: &mut Vec<Slot>,
+        block: u32,
+    ) -> Result<(), NandFault> {
+        if !self.prepare(shape, slots) {
+            return Err(NandFault);
+        }
+        match (&mut self.log, shape) {
+            (Some(log), Some(shape)) => erase_logged(&mut log.redo, shape, slots, block),
+            _ => erase_block(&mut self.file, shape, slots, &mut self.row, block),
+        }
+    }
+
+    /// The barrier before posts leave: all changes are in the files, and on the disk if they have
+    /// to be.
+    pub fn barrier(&mut self, shape: &Option<Shape>, slots: &Vec<Slot>) -> bool {
+        match &mut self.log {
+            Some(log) => commit(&mut self.file, &mut self.row, log),
+            None => write_waiting(&mut self.file, shape, slots, &mut self.row),
+        }
+    }
+
+    /// The end of a run: the image alone is the drive, unless the run changed nothing.
+    pub fn end(&mut self, shape: &Option<Shape>, slots: &Vec<Slot>) -> bool {
+        match (&self.log, shape) {
+            (Some(log), Some(shape)) if log.is_begun => self.end_log(shape, slots),
+            _ => true,
+        }
+    }
+}

@@ -1,0 +1,141 @@
+//! The log that lies beside an image file.
+ghost use Rattle.std.specs.Prelude.{◌≡◌, length};
+ghost use Rattle.pk_base.specs.Shape as spec;
+
+use crate::image_file::ImageFile;
+use crate::logged::SlotPages;
+use pk_base::Shape;
+use pk_disk::{DiskFile, Start, Syncs, Unknown, find_log, log_path, make_log, open_disk, remove_log};
+use pk_nand::LoadFault;
+use pk_redo::{LogFault, LogSizes, RedoLog, Replay, shut};
+use std::alloc::Global;
+use std::fs::File;
+use std::io;
+
+/// The file of a log, and its path.
+#[derive(Drop)]
+pub struct LogFile {
+    file: File,
+    path: String,
+}
+
+/// An image and its log, both open as disks.
+#[derive(Drop)]
+pub struct ImageLog<S: Start> {
+    pub redo: RedoLog<DiskFile<S>>,
+    path: String,
+    /// Whether a change of this run was asked of it.
+    pub is_begun: bool,
+}
+
+/// The log that lies beside the image at this path, if there is one.
+pub fn log_beside(rt: &HostRuntime, image: &str, file: &File) -> io::Result<Option<LogFile>> {
+    let path = log_path(rt, image)?;
+    match find_log(rt, path.as_str(), file)? {
+        Some(file) => Ok(Some(LogFile { file, path })),
+        None => Ok(None),
+    }
+}
+
+/// Shuts the log that an earlier image of this name left, and removes it.
+pub fn drop_log(rt: &HostRuntime, image: &str, file: &File) -> io::Result<()> {
+    let Some(log) = log_beside(rt, image, file)? else {
+        return Ok(());
+    };
+    let LogFile { file, path } = log;
+    let mut disk = open_disk::<Unknown>(file, true, Syncs::Made)?;
+    shut(&mut disk)?;
+    remove_log(rt, path.as_str())
+}
+
+/// Why a log is not read, as a load reports it.
+fn fault_of(fault: LogFault) -> LoadFault {
+    match fault {
+        LogFault::Memory => LoadFault::Memory,
+        _ => LoadFault::Fault,
+    }
+}
+
+/// Opens an image and its log as disks, and reads what the log says. The extents say of each page
+/// how many bytes at its place in the image may differ from zero.
+pub fn open_log<S: Start>(
+    alloc: Global,
+    image: File,
+    log: LogFile,
+    shape: Shape,
+    extents: Vec<usize>,
+) -> Result<(ImageLog<S>, Replay), LoadFault>
+    requires { length extents.items ≡ spec.page_count shape }
+{
+    let LogFile { file, path } = log;
+    let Ok(mut disk) = open_disk::<S>(file, true, Syncs::Made) else {
+        return Err(LoadFault::Fault);
+    };
+    let Ok(mut image) = open_disk::<S>(image, false, Syncs::Made) else {
+        return Err(LoadFault::Fault);
+    };
+    let replay = match Replay::read(alloc, &mut disk, &mut image, &shape) {
+        Ok(replay) => replay,
+        Err(fault) => return Err(fault_of(fault)),
+    };
+    let sizes = LogSizes::usual(&shape);
+    match RedoLog::new(alloc, disk, image, shape, &replay, extents, sizes) {
+        Ok(redo) => Ok((
+            ImageLog {
+                redo,
+                path,
+                is_begun: false,
+            },
+            replay,
+        )),
+        Err(_) => Err(LoadFault::Memory),
+    }
+}
+
+/// Makes the log of an image that has none, with its name on the disk.
+fn new_log_file(rt: &HostRuntime, path: &str, file: &File) -> io::Result<LogFile> {
+    let path = log_path(rt, path)?;
+    let file = make_log(rt, path.as_str(), file, Syncs::Made)?;
+    Ok(LogFile { file, path })
+}
+
+/// Makes the log of an image at this path that has none. If that fails there is none.
+pub fn new_log<S: Start>(
+    rt: &HostRuntime,
+    path: &str,
+    image: &ImageFile,
+    shape: Shape,
+    extents: Vec<usize>,
+) -> Result<ImageLog<S>, LoadFault>
+    requires { length extents.items ≡ spec.page_count shape }
+{
+    let Ok(file) = image.copy() else {
+        return Err(LoadFault::Fault);
+    };
+    let Ok(log) = new_log_file(rt, path, &file) else {
+        return Err(LoadFault::Fault);
+    };
+    match open_log(rt.alloc(), file, log, shape, extents) {
+        Ok((log, _)) => Ok(log),
+        Err(fault) => {
+            let _ = remove_beside(rt, path);
+            Err(fault)
+        }
+    }
+}
+
+/// Removes the name of the log of an image.
+fn remove_beside(rt: &HostRuntime, image: &str) -> io::Result<()> {
+    let path = log_path(rt, image)?;
+    remove_log(rt, path.as_str())
+}
+
+impl<S: Start> ImageLog<S> {
+    /// Brings all pages into the image, and removes the log.
+    pub fn end(&mut self, rt: &HostRuntime, pages: &SlotPages<'_>) -> io::Result<()>
+        requires { pages.now.shape ≡ self.old.redo.shape }
+    {
+        self.redo.finish(pages)?;
+        remove_log(rt, self.path.as_str())
+    }
+}
