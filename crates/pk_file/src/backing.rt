@@ -9,17 +9,15 @@ ghost use Rattle.pk_file.specs.Slots.{pages_of, AllFit};
 
 use crate::image_file::{ImageFile, PageFile};
 use crate::image_log::{ImageLog, new_log};
-use crate::logged::{SlotPages, erase_logged, program_logged};
-use crate::pages_to_file::{Image, create_image, find_image};
+use crate::logged::{erase_logged, program_logged};
 use crate::row::{PageWrites, Row};
 use crate::slot::Slot;
 use crate::slots::{erase_slots, extents_in, known, set_slot};
 use crate::trimmed::Trimmed;
 use pk_base::Shape;
 use pk_disk::Start;
-use pk_nand::{LoadFault, NandFault};
+use pk_nand::NandFault;
 use std::alloc::Global;
-use std::io;
 
 /// How changes get to the image, and when they are on the disk.
 #[derive(Clone, Copy, Debug, PartialEq, Eq)]
@@ -35,7 +33,8 @@ pub enum Keeping {
     Log,
 }
 
-/// Changes of a run that are written to the image before a log is made.
+/// Changes of a run that are written to the image before a log is made, if a disk writes a sector
+/// whole or not at all: a run of one word makes no log.
 const CHANGES_WITHOUT_LOG: u32 = 16;
 
 impl Keeping {
@@ -62,16 +61,17 @@ impl Keeping {
 pub struct Backing<'a, S: Start> {
     rt: &'a HostRuntime,
     path: &'a str,
-    keeping: Keeping,
-    /// Whether changes go to a log.
-    uses_log: bool,
-    file: Option<ImageFile>,
+    pub file: Option<ImageFile>,
     /// The pages that are not in the file yet, where they go to no log.
     pub row: Row,
     /// The log that was found, or made by this run.
-    log: Option<ImageLog<S>>,
+    pub log: Option<ImageLog<S>>,
+    /// Whether changes go to a log.
+    uses_log: bool,
     /// How many more changes are written to the image before a log is made.
     left: u32,
+    /// Whether a change was asked for.
+    is_changed: bool,
 }
 
 /// Whether a page has the same bytes as the one before it, as the second of a pair that ends a
@@ -210,19 +210,8 @@ fn erase_block(
     Err(NandFault)
 }
 
-/// The pages of a board of this shape, as a log sees them.
-fn pages<'s>(shape: &Shape, slots: &'s Vec<Slot>) -> SlotPages<'s>
-    requires count { length slots.now.items ≡ spec.page_count shape.now }
-    requires fit { AllFit shape.now slots.now.items }
-{
-    SlotPages {
-        shape: *shape,
-        slots,
-    }
-}
-
-/// Makes the steps that wait durable, if neither file was cut short: a write would fill it up with
-/// zeros.
+/// Makes the steps that wait durable, if the image was not cut short: a checkpoint would fill it up
+/// with zeros.
 fn commit<S: Start>(file: &mut Option<ImageFile>, row: &mut Row, log: &mut ImageLog<S>) -> bool {
     if row.is_lost() || log.redo.is_lost() {
         return false;
@@ -247,46 +236,12 @@ impl<'a, S: Start> Backing<'a, S> {
         Backing {
             rt,
             path,
-            keeping,
-            uses_log: keeping == Keeping::Log,
             file: None,
             row: Row::new(rt.alloc(), keeping.is_durable(), keeping.writes()),
             log: None,
-            left: CHANGES_WITHOUT_LOG,
-        }
-    }
-
-    /// Opens the image, and reads it and its log. None if there is no image.
-    pub fn find(&mut self, alloc: Global) -> Result<Option<(Shape, Vec<Slot>)>, LoadFault> {
-        match find_image(self.rt, alloc, self.path, self.keeping) {
-            Ok(Some(image)) => {
-                let Image {
-                    file,
-                    shape,
-                    slots,
-                    row,
-                    log,
-                } = image;
-                self.file = Some(file);
-                self.row = row;
-                self.log = log;
-                Ok(Some((shape, slots)))
-            }
-            Ok(None) => Ok(None),
-            Err(fault) => Err(fault),
-        }
-    }
-
-    /// Makes an image with all pages Erased.
-    pub fn create(&mut self, shape: &Shape, row: Row) -> io::Result<()> {
-        match create_image(self.rt, self.path, shape, self.keeping.is_durable()) {
-            Ok(file) => {
-                self.file = Some(file);
-                self.row = row;
-                self.log = None;
-                Ok(())
-            }
-            Err(error) => Err(error),
+            uses_log: keeping == Keeping::Log,
+            left: if S::mixes() { CHANGES_WITHOUT_LOG } else { 0 },
+            is_changed: false,
         }
     }
 
@@ -295,7 +250,7 @@ impl<'a, S: Start> Backing<'a, S> {
         let Some(log) = &mut self.log else {
             return true;
         };
-        if log.end(self.rt, &pages(shape, slots)).is_err() {
+        if log.end(self.rt, shape, slots).is_err() {
             self.row.lose();
             return false;
         }
@@ -325,22 +280,21 @@ impl<'a, S: Start> Backing<'a, S> {
         let Some(shape) = shape else {
             return false;
         };
+        self.is_changed = true;
         if self.row.is_lost() {
             return false;
         }
-        match &mut self.log {
-            Some(log) if self.uses_log => {
-                log.is_begun = true;
-                true
-            }
-            Some(_) => self.end_log(shape, slots),
-            None if !self.uses_log => true,
-            None if self.left > 0 => {
-                self.left -= 1;
-                true
-            }
-            None => self.begin_log(shape, slots),
+        if self.log.is_some() {
+            return self.uses_log || self.end_log(shape, slots);
         }
+        if !self.uses_log {
+            return true;
+        }
+        if self.left > 0 {
+            self.left -= 1;
+            return true;
+        }
+        self.begin_log(shape, slots)
     }
 
     /// Programs a page in memory, and brings it to where it has to go.
@@ -356,10 +310,11 @@ impl<'a, S: Start> Backing<'a, S> {
         }
         let alloc = self.rt.alloc();
         match (&mut self.log, shape) {
-            (Some(log), Some(shape)) => {
+            (Some(log), Some(shape)) if log.is_of(shape) => {
                 program_logged(alloc, &mut log.redo, shape, slots, page, bytes)
             }
-            _ => program_page(alloc, &mut self.file, shape, slots, &mut self.row, page, bytes),
+            (Some(_), _) => Err(NandFault),
+            (None, _) => program_page(alloc, &mut self.file, shape, slots, &mut self.row, page, bytes),
         }
     }
 
@@ -374,8 +329,11 @@ impl<'a, S: Start> Backing<'a, S> {
             return Err(NandFault);
         }
         match (&mut self.log, shape) {
-            (Some(log), Some(shape)) => erase_logged(&mut log.redo, shape, slots, block),
-            _ => erase_block(&mut self.file, shape, slots, &mut self.row, block),
+            (Some(log), Some(shape)) if log.is_of(shape) => {
+                erase_logged(&mut log.redo, shape, slots, block)
+            }
+            (Some(_), _) => Err(NandFault),
+            (None, _) => erase_block(&mut self.file, shape, slots, &mut self.row, block),
         }
     }
 
@@ -390,8 +348,8 @@ impl<'a, S: Start> Backing<'a, S> {
 
     /// The end of a run: the image alone is the drive, unless the run changed nothing.
     pub fn end(&mut self, shape: &Option<Shape>, slots: &Vec<Slot>) -> bool {
-        match (&self.log, shape) {
-            (Some(log), Some(shape)) if log.is_begun => self.end_log(shape, slots),
+        match shape {
+            Some(shape) if self.is_changed => self.end_log(shape, slots),
             _ => true,
         }
     }

@@ -12,6 +12,7 @@ ghost use Rattle.pk_file.specs.Slots.{pages_of, AllFit};
 use crate::backing::{Backing, Keeping};
 use crate::incoming::Incoming;
 use crate::outgoing::Outgoing;
+use crate::pages_to_file::{create_image, find_image};
 use crate::row::Row;
 use crate::slot::Slot;
 use crate::slots::{erased_slots, read_slot};
@@ -26,6 +27,7 @@ use std::rt::{Stdin, Stdout};
 #[derive(Drop)]
 pub struct FileBoard<'a, S: Start = Unknown> {
     rt: &'a HostRuntime,
+    path: &'a str,
     keeping: Keeping,
     backing: Backing<'a, S>,
     /// Whether a load found no file, and none was made since.
@@ -97,6 +99,7 @@ impl<'a, S: Start> FileBoard<'a, S> {
     {
         FileBoard {
             rt,
+            path,
             keeping,
             backing: Backing::new(rt, path, keeping),
             bare: false,
@@ -188,15 +191,18 @@ impl<S: Start> Nand for FileBoard<'_, S> {
         if self.shape.is_some() {
             return Ok(self.shape);
         }
-        match self.backing.find(alloc) {
+        match find_image(self.rt, alloc, self.path, self.keeping) {
             Ok(None) => {
                 self.bare = true;
                 Ok(None)
             }
-            Ok(Some((shape, slots))) => {
+            Ok(Some(image)) => {
                 self.bare = false;
-                self.slots = slots;
-                self.shape = Some(shape);
+                self.backing.row = image.row;
+                self.backing.file = Some(image.file);
+                self.backing.log = image.log;
+                self.slots = image.slots;
+                self.shape = Some(image.shape);
                 Ok(self.shape)
             }
             Err(LoadFault::Fault) => {
@@ -221,10 +227,13 @@ impl<S: Start> Nand for FileBoard<'_, S> {
             return Err(LoadFault::Memory);
         };
         self.bare = false;
-        let Ok(()) = self.backing.create(&shape, row) else {
+        let Ok(file) = create_image(self.rt, self.path, &shape, keeping.is_durable()) else {
             raise(&mut self.flash_faults);
             return Err(LoadFault::Fault);
         };
+        self.backing.row = row;
+        self.backing.file = Some(file);
+        self.backing.log = None;
         self.slots = slots;
         self.shape = Some(shape);
         Ok(())

@@ -1,9 +1,11 @@
 //! The log that lies beside an image file.
-ghost use Rattle.std.specs.Prelude.{◌≡◌, length};
+ghost use Rattle.std.specs.Prelude.{◌≡◌, length, true};
 ghost use Rattle.pk_base.specs.Shape as spec;
+ghost use Rattle.pk_file.specs.Slots.{AllFit};
 
 use crate::image_file::ImageFile;
 use crate::logged::SlotPages;
+use crate::slot::Slot;
 use pk_base::Shape;
 use pk_disk::{DiskFile, Start, Syncs, Unknown, find_log, log_path, make_log, open_disk, remove_log};
 use pk_nand::LoadFault;
@@ -23,9 +25,8 @@ pub struct LogFile {
 #[derive(Drop)]
 pub struct ImageLog<S: Start> {
     pub redo: RedoLog<DiskFile<S>>,
+    pub shape: Shape,
     path: String,
-    /// Whether a change of this run was asked of it.
-    pub is_begun: bool,
 }
 
 /// The log that lies beside the image at this path, if there is one.
@@ -81,11 +82,7 @@ pub fn open_log<S: Start>(
     let sizes = LogSizes::usual(&shape);
     match RedoLog::new(alloc, disk, image, shape, &replay, extents, sizes) {
         Ok(redo) => Ok((
-            ImageLog {
-                redo,
-                path,
-                is_begun: false,
-            },
+            ImageLog { redo, shape, path },
             replay,
         )),
         Err(_) => Err(LoadFault::Memory),
@@ -131,11 +128,29 @@ fn remove_beside(rt: &HostRuntime, image: &str) -> io::Result<()> {
 }
 
 impl<S: Start> ImageLog<S> {
-    /// Brings all pages into the image, and removes the log.
-    pub fn end(&mut self, rt: &HostRuntime, pages: &SlotPages<'_>) -> io::Result<()>
-        requires { pages.now.shape ≡ self.old.redo.shape }
+    /// Whether it is the log of an image of this shape.
+    pub fn is_of(&self, shape: &Shape) -> bool
+        ensures { result ≡ true → self.now.redo.shape ≡ shape.now }
     {
-        self.redo.finish(pages)?;
+        let own = self.shape;
+        own.page_bytes() == shape.page_bytes()
+            && own.block_pages() == shape.block_pages()
+            && own.blocks() == shape.blocks()
+    }
+
+    /// Brings all pages into the image, and removes the log.
+    pub fn end(&mut self, rt: &HostRuntime, shape: &Shape, slots: &Vec<Slot>) -> io::Result<()>
+        requires count { length slots.now.items ≡ spec.page_count shape.now }
+        requires fit { AllFit shape.now slots.now.items }
+    {
+        if !self.is_of(shape) {
+            return Err(io::ErrorKind::InvalidInput.into());
+        }
+        let pages = SlotPages {
+            shape: *shape,
+            slots,
+        };
+        self.redo.finish(&pages)?;
         remove_log(rt, self.path.as_str())
     }
 }
