@@ -1,14 +1,15 @@
 //! The image beside its log: what a barrier promises of both, what a checkpoint writes, and its end.
-ghost use Rattle.std.specs.Prelude.{◌≡◌, ◌⊎◌, ◌+◌, ◌^◌, ◌<◌, ◌≤◌, ℕ, List, [], ◌∷◌, ◌++◌, length, slice_index, drop, Bool, true, false, OnOk, IsTrue};
+ghost use Rattle.std.specs.Prelude.{◌≡◌, ◌⊎◌, ◌+◌, ◌^◌, ◌<◌, ◌≤◌, ℕ, List, [], ◌∷◌, ◌++◌, length, slice_index, get_or, drop, true, false, OnOk, IsTrue};
 ghost use Rattle.sqlite_disk.specs.Disk.{Holds, Torn, Only};
 ghost use Rattle.pk_base.specs.Shape as spec;
-ghost use Rattle.pk_base.specs.Page.{Page, page_at};
+ghost use Rattle.pk_base.specs.Fields.{padded};
+ghost use Rattle.pk_base.specs.Page.{Flash, page_at, whole};
 ghost use Rattle.pk_base.specs.Mark.{Mark};
 ghost use Rattle.pk_image.specs.Header.{file_size};
-ghost use Rattle.pk_image.specs.Image.{byte_of, page_by, page_in_file, state_place, page_place};
+ghost use Rattle.pk_image.specs.Image.{byte_of, page_by, page_in_file, state_byte, state_place, page_place};
 ghost use Rattle.pk_redo.specs.Log.{IsSealed};
 ghost use Rattle.pk_redo.specs.Steps.{BodySays, Sets};
-ghost use Rattle.pk_redo.specs.Image.{SameButSet, AllSameBut, BelongTo, LogSays, LogStands, MayCheckpoint, ReadAs, BothRead, flash_after};
+ghost use Rattle.pk_redo.specs.Image.{SameButSet, AllSameBut, BelongTo, LogSays, LogStands, ReadAs, BothRead, flash_after};
 
 use crate::batch::{BATCH_HEAD, FIRST_BATCH};
 use crate::log::{commit, reset, shut};
