@@ -75,6 +75,7 @@ fn ended(status: Status, end: Result<(), EndFault>) -> Status {
         Ok(()) => status,
         Err(EndFault::Flash) => Status::FLASH,
         Err(EndFault::Output) => Status::OUTPUT,
+        Err(EndFault::Log) => Status::FLASH,
     }
 }
 

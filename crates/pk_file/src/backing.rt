@@ -1,15 +1,16 @@
 //! The files behind the pages of a board: the image, and its log once there is one.
-ghost use Rattle.std.specs.Prelude.{◌≡◌, ◌<◌, ◌≤◌, ◌+◌, ◌*◌, [], length, None, OnOk, OnErr, true, false, slice_set};
+ghost use Rattle.std.specs.Prelude.{◌≡◌, ◌<◌, ◌≤◌, ◌+◌, ◌*◌, [], length, None, IfSome, OnOk, OnErr, true, false, slice_set};
 ghost use Rattle.pk_base.specs.Shape as spec;
 ghost use Rattle.pk_base.specs.Page.{whole};
 ghost use Rattle.pk_base.specs.Mark.{program, erase, after};
 ghost use Rattle.pk_nand.specs.BoardState.{shape_or_none};
 ghost use Rattle.pk_nand.specs.Calls.{LeftBehind};
+ghost use Rattle.pk_redo.specs.declared.batch.TheConstants.{BATCH_HEAD};
 ghost use Rattle.pk_file.specs.Slots.{pages_of, AllFit};
 
 use crate::image_file::{ImageFile, PageFile};
 use crate::image_log::{ImageLog, new_log};
-use crate::logged::{erase_logged, program_logged};
+use crate::logged::{commit_steps, erase_logged, program_logged};
 use crate::row::{PageWrites, Row};
 use crate::slot::Slot;
 use crate::slots::{erase_slots, extents_in, known, set_slot};
@@ -210,29 +211,95 @@ fn erase_block(
     Err(NandFault)
 }
 
+/// Programs a page of an image that has a log.
+fn program_beside<S: Start>(
+    alloc: Global,
+    log: &mut ImageLog<S>,
+    shape: &Option<Shape>,
+    slots: &mut Vec<Slot>,
+    page: u32,
+    bytes: &[u8],
+) -> Result<(), NandFault>
+    requires exists { page < length slots.old.items }
+    requires full { length bytes.now ≡ (shape_or_none shape.now).page_bytes }
+    requires count { length slots.old.items ≡ spec.page_count (shape_or_none shape.now) }
+    requires fit { AllFit (shape_or_none shape.now) slots.old.items }
+    ensures pages { OnOk result
+        (pages_of slots.new.items ≡ slice_set (pages_of slots.old.items) page (whole bytes.now)) }
+    ensures left { OnErr result (slots.new ≡ slots.old) }
+    ensures count { length slots.new.items ≡ length slots.old.items }
+    ensures fit { AllFit (shape_or_none shape.now) slots.new.items }
+{
+    let Some(shape) = shape else {
+        return Err(NandFault);
+    };
+    if !log.is_of(shape) {
+        return Err(NandFault);
+    }
+    program_logged(alloc, &mut log.redo, shape, slots, page, bytes)
+}
+
+/// Erases a block of an image that has a log.
+fn erase_beside<S: Start>(
+    log: &mut ImageLog<S>,
+    shape: &Option<Shape>,
+    slots: &mut Vec<Slot>,
+    block: u32,
+) -> Result<(), NandFault>
+    requires exists { block < (shape_or_none shape.now).blocks }
+    requires count { length slots.old.items ≡ spec.page_count (shape_or_none shape.now) }
+    requires fit { AllFit (shape_or_none shape.now) slots.old.items }
+    ensures pages { OnOk result (pages_of slots.new.items
+        ≡ after (shape_or_none shape.now) (erase block) (pages_of slots.old.items)) }
+    ensures left { OnErr result (slots.new ≡ slots.old) }
+    ensures count { length slots.new.items ≡ length slots.old.items }
+    ensures fit { AllFit (shape_or_none shape.now) slots.new.items }
+{
+    let Some(shape) = shape else {
+        return Err(NandFault);
+    };
+    if !log.is_of(shape) {
+        return Err(NandFault);
+    }
+    erase_logged(&mut log.redo, shape, slots, block)
+}
+
 /// Makes the steps that wait durable, if the image was not cut short: a checkpoint would fill it up
 /// with zeros.
-fn commit<S: Start>(file: &mut Option<ImageFile>, row: &mut Row, log: &mut ImageLog<S>) -> bool {
-    if row.is_lost() || log.redo.is_lost() {
+fn commit<S: Start>(file: &mut Option<ImageFile>, row: &mut Row, log: &mut ImageLog<S>) -> bool
+    ensures row { (row.new.first ≡ row.old.first) × (row.new.extents ≡ row.old.extents) }
+    ensures none { result ≡ true → row.new.extents.items ≡ [] }
+    ensures kept { result ≡ true → row.new.is_lost ≡ false }
+    ensures lost { row.old.is_lost ≡ true → (result ≡ false) × (row.new.is_lost ≡ true) }
+    ensures none_waits { result ≡ true → log.new.redo.batch.filled ≡ BATCH_HEAD }
+{
+    if row.is_lost() || !row.is_empty() || log.redo.is_lost() {
         return false;
     }
     if !log.redo.has_steps() {
         return true;
     }
-    let is_whole = match file {
-        Some(file) => file.begin().is_ok(),
-        None => false,
-    };
-    if is_whole && log.redo.barrier().is_ok() {
+    if is_whole(file) && commit_steps(&mut log.redo) {
         return true;
     }
     row.lose();
     false
 }
 
+/// Whether an image is as long as it was.
+fn is_whole(file: &mut Option<ImageFile>) -> bool {
+    match file {
+        Some(file) => file.begin().is_ok(),
+        None => false,
+    }
+}
+
 impl<'a, S: Start> Backing<'a, S> {
     /// No file is open.
-    pub fn new(rt: &'a HostRuntime, path: &'a str, keeping: Keeping) -> Backing<'a, S> {
+    pub fn new(rt: &'a HostRuntime, path: &'a str, keeping: Keeping) -> Backing<'a, S>
+        ensures first { result.row.first ≡ 0 }
+        ensures none { length result.row.extents.items ≡ 0 }
+    {
         Backing {
             rt,
             path,
@@ -246,7 +313,12 @@ impl<'a, S: Start> Backing<'a, S> {
     }
 
     /// Brings what a log says into the image, and removes it.
-    fn end_log(&mut self, shape: &Shape, slots: &Vec<Slot>) -> bool {
+    fn end_log(&mut self, shape: &Shape, slots: &Vec<Slot>) -> bool
+        requires count { length slots.now.items ≡ spec.page_count shape.now }
+        requires fit { AllFit shape.now slots.now.items }
+        ensures { (self.new.row.first ≡ self.old.row.first)
+            × (self.new.row.extents ≡ self.old.row.extents) }
+    {
         let Some(log) = &mut self.log else {
             return true;
         };
@@ -259,7 +331,14 @@ impl<'a, S: Start> Backing<'a, S> {
     }
 
     /// Makes the log of an image that has all pages. If that fails, each row is synced from now on.
-    fn begin_log(&mut self, shape: &Shape, slots: &Vec<Slot>) -> bool {
+    fn begin_log(&mut self, shape: &Shape, slots: &Vec<Slot>) -> bool
+        requires count { length slots.now.items ≡ spec.page_count shape.now }
+        requires fit { AllFit shape.now slots.now.items }
+        requires row { self.old.row.first + length self.old.row.extents.items
+            ≤ length slots.now.items }
+        ensures { self.new.row.first + length self.new.row.extents.items
+            ≤ length slots.now.items }
+    {
         if !write_waiting(&mut self.file, &Some(*shape), slots, &mut self.row) {
             return false;
         }
@@ -276,7 +355,14 @@ impl<'a, S: Start> Backing<'a, S> {
     }
 
     /// Sees before a change that it can go where it has to.
-    fn prepare(&mut self, shape: &Option<Shape>, slots: &Vec<Slot>) -> bool {
+    fn prepare(&mut self, shape: &Option<Shape>, slots: &Vec<Slot>) -> bool
+        requires count { length slots.now.items ≡ spec.page_count (shape_or_none shape.now) }
+        requires fit { AllFit (shape_or_none shape.now) slots.now.items }
+        requires row { self.old.row.first + length self.old.row.extents.items
+            ≤ length slots.now.items }
+        ensures { self.new.row.first + length self.new.row.extents.items
+            ≤ length slots.now.items }
+    {
         let Some(shape) = shape else {
             return false;
         };
@@ -304,17 +390,41 @@ impl<'a, S: Start> Backing<'a, S> {
         slots: &mut Vec<Slot>,
         page: u32,
         bytes: &[u8],
-    ) -> Result<(), NandFault> {
+    ) -> Result<(), NandFault>
+        requires exists { page < length slots.old.items }
+        requires full { length bytes.now ≡ (shape_or_none shape.now).page_bytes }
+        requires count { length slots.old.items ≡ spec.page_count (shape_or_none shape.now) }
+        requires fit { AllFit (shape_or_none shape.now) slots.old.items }
+        requires row { self.old.row.first + length self.old.row.extents.items
+            ≤ length slots.old.items }
+
+        // The whole effect, or a part of it as a cut may leave it.
+        ensures pages { OnOk result
+            (pages_of slots.new.items ≡ slice_set (pages_of slots.old.items) page (whole bytes.now)) }
+        ensures left { OnErr result (LeftBehind (shape_or_none shape.now) (program page bytes.now)
+            (pages_of slots.old.items) (pages_of slots.new.items) None None) }
+
+        // The board keeps its form.
+        ensures count { length slots.new.items ≡ length slots.old.items }
+        ensures fit { AllFit (shape_or_none shape.now) slots.new.items }
+        ensures row { self.new.row.first + length self.new.row.extents.items
+            ≤ length slots.new.items }
+    {
         if !self.prepare(shape, slots) {
             return Err(NandFault);
         }
         let alloc = self.rt.alloc();
-        match (&mut self.log, shape) {
-            (Some(log), Some(shape)) if log.is_of(shape) => {
-                program_logged(alloc, &mut log.redo, shape, slots, page, bytes)
-            }
-            (Some(_), _) => Err(NandFault),
-            (None, _) => program_page(alloc, &mut self.file, shape, slots, &mut self.row, page, bytes),
+        match &mut self.log {
+            Some(log) => program_beside(alloc, log, shape, slots, page, bytes),
+            None => program_page(
+                alloc,
+                &mut self.file,
+                shape,
+                slots,
+                &mut self.row,
+                page,
+                bytes,
+            ),
         }
     }
 
@@ -324,22 +434,50 @@ impl<'a, S: Start> Backing<'a, S> {
         shape: &Option<Shape>,
         slots: &mut Vec<Slot>,
         block: u32,
-    ) -> Result<(), NandFault> {
+    ) -> Result<(), NandFault>
+        requires exists { block < (shape_or_none shape.now).blocks }
+        requires count { length slots.old.items ≡ spec.page_count (shape_or_none shape.now) }
+        requires fit { AllFit (shape_or_none shape.now) slots.old.items }
+        requires row { self.old.row.first + length self.old.row.extents.items
+            ≤ length slots.old.items }
+
+        // The whole effect, or a part of it as a cut may leave it.
+        ensures pages { OnOk result (pages_of slots.new.items
+            ≡ after (shape_or_none shape.now) (erase block) (pages_of slots.old.items)) }
+        ensures left { OnErr result (LeftBehind (shape_or_none shape.now) (erase block)
+            (pages_of slots.old.items) (pages_of slots.new.items) None None) }
+
+        // The board keeps its form.
+        ensures count { length slots.new.items ≡ length slots.old.items }
+        ensures fit { AllFit (shape_or_none shape.now) slots.new.items }
+        ensures row { self.new.row.first + length self.new.row.extents.items
+            ≤ length slots.new.items }
+    {
         if !self.prepare(shape, slots) {
             return Err(NandFault);
         }
-        match (&mut self.log, shape) {
-            (Some(log), Some(shape)) if log.is_of(shape) => {
-                erase_logged(&mut log.redo, shape, slots, block)
-            }
-            (Some(_), _) => Err(NandFault),
-            (None, _) => erase_block(&mut self.file, shape, slots, &mut self.row, block),
+        match &mut self.log {
+            Some(log) => erase_beside(log, shape, slots, block),
+            None => erase_block(&mut self.file, shape, slots, &mut self.row, block),
         }
     }
 
     /// The barrier before posts leave: all changes are in the files, and on the disk if they have
     /// to be.
-    pub fn barrier(&mut self, shape: &Option<Shape>, slots: &Vec<Slot>) -> bool {
+    pub fn barrier(&mut self, shape: &Option<Shape>, slots: &Vec<Slot>) -> bool
+        requires count { length slots.now.items ≡ spec.page_count (shape_or_none shape.now) }
+        requires fit { AllFit (shape_or_none shape.now) slots.now.items }
+        requires row { self.old.row.first + length self.old.row.extents.items
+            ≤ length slots.now.items }
+        ensures row { self.new.row.first + length self.new.row.extents.items
+            ≤ length slots.now.items }
+        ensures none { result ≡ true → self.new.row.extents.items ≡ [] }
+        ensures kept { result ≡ true → self.new.row.is_lost ≡ false }
+        ensures lost { self.old.row.is_lost ≡ true
+            → (result ≡ false) × (self.new.row.is_lost ≡ true) }
+        ensures none_waits { result ≡ true
+            → IfSome self.new.log (λ log. log.redo.batch.filled ≡ BATCH_HEAD) }
+    {
         match &mut self.log {
             Some(log) => commit(&mut self.file, &mut self.row, log),
             None => write_waiting(&mut self.file, shape, slots, &mut self.row),
@@ -347,7 +485,12 @@ impl<'a, S: Start> Backing<'a, S> {
     }
 
     /// The end of a run: the image alone is the drive, unless the run changed nothing.
-    pub fn end(&mut self, shape: &Option<Shape>, slots: &Vec<Slot>) -> bool {
+    pub fn end(&mut self, shape: &Option<Shape>, slots: &Vec<Slot>) -> bool
+        requires count { length slots.now.items ≡ spec.page_count (shape_or_none shape.now) }
+        requires fit { AllFit (shape_or_none shape.now) slots.now.items }
+        ensures { (self.new.row.first ≡ self.old.row.first)
+            × (self.new.row.extents ≡ self.old.row.extents) }
+    {
         match shape {
             Some(shape) if self.is_changed => self.end_log(shape, slots),
             _ => true,

@@ -1,6 +1,6 @@
 //! A board over a file, standard input and standard output. It records neither input, posted bytes
 //! nor trail.
-ghost use Rattle.std.specs.Prelude.{◌≡◌, ◌<◌, ◌≤◌, ◌+◌, ◌*◌, ◌/◌, ◌++◌, [], length, Option, None, Some, Err, OnOk, OnErr, true, false, slice_set};
+ghost use Rattle.std.specs.Prelude.{◌≡◌, ◌≢◌, ◌<◌, ◌≤◌, ◌+◌, ◌*◌, ◌/◌, ◌++◌, [], length, Option, None, Some, Err, OnOk, OnErr, true, false, slice_set};
 ghost use Rattle.std.specs.Io.KnownBytes.{Appends};
 ghost use Rattle.pk_base.specs.Shape as spec;
 ghost use Rattle.pk_base.specs.Page.{whole};
@@ -51,13 +51,15 @@ pub struct FileBoard<'a, S: Start = Unknown> {
     ghost waiting: { backing.row.first + length backing.row.extents.items ≤ length slots.items },
 }
 
-/// Why what was posted has not left.
+/// How the end of a run failed.
 #[derive(Clone, Copy, Debug, PartialEq, Eq)]
 pub enum EndFault {
-    /// Pages that waited could not be written, or brought to the disk. Nothing leaves after it.
+    /// Changes that waited could not be written, or brought to the disk. Nothing leaves after it.
     Flash,
     /// The output failed.
     Output,
+    /// All that was posted has left, but the log could not be brought into the image, and stays.
+    Log,
 }
 
 /// Sends what is gathered, and these bytes behind it, once no change waits. If changes that waited
@@ -69,14 +71,85 @@ fn deliver<S: Start, W: Write + Drop>(
     output: &mut Outgoing<W>,
     bytes: &[u8],
 ) -> Result<(), EndFault>
+    requires count { length slots.now.items ≡ spec.page_count (shape_or_none shape.now) }
+    requires fit { AllFit (shape_or_none shape.now) slots.now.items }
+    requires row { backing.old.row.first + length backing.old.row.extents.items
+        ≤ length slots.now.items }
+    ensures row { backing.new.row.first + length backing.new.row.extents.items
+        ≤ length slots.now.items }
+
+    // What was posted has left, and no page waits.
+    ensures sent { OnOk result (Appends (W.contents output.old.to) (W.contents output.new.to)
+        (output.old.gathered.items ++ bytes.now)) }
+    ensures none_waits { OnOk result
+        ((backing.new.row.extents.items ≡ []) × (output.new.gathered.items ≡ [])) }
+    ensures written { result ≡ Err EndFault.Output → backing.new.row.extents.items ≡ [] }
+
+    // Nothing has left, nor will.
+    ensures held { result ≡ Err EndFault.Flash → output.new ≡ output.old }
+    ensures lost { backing.old.row.is_lost ≡ true
+        → (result ≡ Err EndFault.Flash) × (backing.new.row.is_lost ≡ true) }
+    ensures sent_or_not { result ≢ Err EndFault.Log }
 {
     if !backing.barrier(shape, slots) {
         return Err(EndFault::Flash);
     }
-    match output.send(&backing.row, bytes) {
+    match output.send(backing, bytes) {
         Ok(()) => Ok(()),
         Err(_) => Err(EndFault::Output),
     }
+}
+
+/// Sends what is gathered if the input may wait. A failure is reported by the next post, or at the
+/// end.
+fn deliver_gathered<S: Start, W: Write + Drop>(
+    may_wait: bool,
+    backing: &mut Backing<'_, S>,
+    shape: &Option<Shape>,
+    slots: &Vec<Slot>,
+    output: &mut Outgoing<W>,
+)
+    requires count { length slots.now.items ≡ spec.page_count (shape_or_none shape.now) }
+    requires fit { AllFit (shape_or_none shape.now) slots.now.items }
+    requires row { backing.old.row.first + length backing.old.row.extents.items
+        ≤ length slots.now.items }
+    ensures { backing.new.row.first + length backing.new.row.extents.items
+        ≤ length slots.now.items }
+{
+    if !may_wait || output.is_empty() {
+        return;
+    }
+    let _ = deliver(backing, shape, slots, output, &[]);
+}
+
+/// The end of a run: what was posted leaves, and the image alone is the drive.
+fn close<S: Start, W: Write + Drop>(
+    backing: &mut Backing<'_, S>,
+    shape: &Option<Shape>,
+    slots: &Vec<Slot>,
+    output: &mut Outgoing<W>,
+) -> Result<(), EndFault>
+    requires count { length slots.now.items ≡ spec.page_count (shape_or_none shape.now) }
+    requires fit { AllFit (shape_or_none shape.now) slots.now.items }
+    requires row { backing.old.row.first + length backing.old.row.extents.items
+        ≤ length slots.now.items }
+    ensures row { backing.new.row.first + length backing.new.row.extents.items
+        ≤ length slots.now.items }
+    ensures none_waits { OnOk result
+        ((backing.new.row.extents.items ≡ []) × (output.new.gathered.items ≡ [])) }
+    ensures written { result ≡ Err EndFault.Output → backing.new.row.extents.items ≡ [] }
+    ensures held { result ≡ Err EndFault.Flash → output.new ≡ output.old }
+    ensures sent { result ≡ Err EndFault.Log → output.new.gathered.items ≡ [] }
+    ensures lost { backing.old.row.is_lost ≡ true → result ≡ Err EndFault.Flash }
+{
+    match deliver(backing, shape, slots, output, &[]) {
+        Ok(()) => {}
+        Err(fault) => return Err(fault),
+    }
+    if backing.end(shape, slots) {
+        return Ok(());
+    }
+    Err(EndFault::Log)
 }
 
 impl<'a> FileBoard<'a> {
@@ -120,9 +193,9 @@ impl<'a, S: Start> FileBoard<'a, S> {
         }
     }
 
-    /// Sends what was posted and has not left, behind a barrier: the end of a run, without which it
-    /// is lost. Success means that all pages are in the file, and on the disk if they have to be,
-    /// and that all that was posted was sent.
+    /// Sends what was posted and has not left, behind a barrier, and brings the log into the image:
+    /// the end of a run, without which what was posted last is lost. Success means that all pages
+    /// are in the image, and on the disk if they have to be, and that all that was posted was sent.
     pub fn finish(&mut self) -> Result<(), EndFault>
         ensures ok { OnOk result (self.new.out_faults ≡ self.old.out_faults) }
         ensures err { OnErr result (Rose self.old.out_faults self.new.out_faults) }
@@ -130,21 +203,18 @@ impl<'a, S: Start> FileBoard<'a, S> {
         ensures written { OnOk result ((self.new.backing.row.extents.items ≡ [])
             × (self.new.output.gathered.items ≡ [])) }
 
-        // Pages that waited were lost in this run exactly where this is the cause.
+        // What is left by each cause.
         ensures output { result ≡ Err EndFault.Output → self.new.backing.row.extents.items ≡ [] }
         ensures held { result ≡ Err EndFault.Flash → self.new.output ≡ self.old.output }
+        ensures sent { result ≡ Err EndFault.Log → self.new.output.gathered.items ≡ [] }
         ensures lost { self.old.backing.row.is_lost ≡ true → result ≡ Err EndFault.Flash }
     {
-        let mut outcome = deliver(
+        let outcome = close(
             &mut self.backing,
             &self.shape,
             &self.slots,
             &mut self.output,
-            &[],
         );
-        if outcome.is_ok() && !self.backing.end(&self.shape, &self.slots) {
-            outcome = Err(EndFault::Flash);
-        }
         match outcome {
             Ok(()) => Ok(()),
             Err(fault) => {
@@ -281,16 +351,13 @@ impl<S: Start> Nand for FileBoard<'_, S> {
 
 impl<S: Start> Board for FileBoard<'_, S> {
     fn fetch(&mut self, into: &mut [u8]) -> Result<usize, HostFault> {
-        if self.input.may_wait() && !self.output.is_empty() {
-            // A failure is reported by the next post, or at the end.
-            let _ = deliver(
-                &mut self.backing,
-                &self.shape,
-                &self.slots,
-                &mut self.output,
-                &[],
-            );
-        }
+        deliver_gathered(
+            self.input.may_wait(),
+            &mut self.backing,
+            &self.shape,
+            &self.slots,
+            &mut self.output,
+        );
         match self.input.fetch(into) {
             Ok(count) => Ok(count),
             Err(_) => {

@@ -4,7 +4,7 @@ ghost use Rattle.pk_base.specs.Shape as spec;
 ghost use Rattle.pk_file.specs.Slots.{AllFit};
 
 use crate::image_file::ImageFile;
-use crate::logged::SlotPages;
+use crate::logged::end_logged;
 use crate::slot::Slot;
 use pk_base::Shape;
 use pk_disk::{DiskFile, Start, Syncs, Unknown, find_log, log_path, make_log, open_disk, remove_log};
@@ -27,6 +27,7 @@ pub struct ImageLog<S: Start> {
     pub redo: RedoLog<DiskFile<S>>,
     pub shape: Shape,
     path: String,
+    ghost same: { redo.shape ≡ shape },
 }
 
 /// The log that lies beside the image at this path, if there is one.
@@ -146,11 +147,9 @@ impl<S: Start> ImageLog<S> {
         if !self.is_of(shape) {
             return Err(io::ErrorKind::InvalidInput.into());
         }
-        let pages = SlotPages {
-            shape: *shape,
-            slots,
-        };
-        self.redo.finish(&pages)?;
+        if !end_logged(&mut self.redo, shape, slots) {
+            return Err(io::ErrorKind::Other.into());
+        }
         remove_log(rt, self.path.as_str())
     }
 }

@@ -140,38 +140,73 @@ fn slots_after(
     }
 }
 
+/// The pages of a file that has no log.
+fn slots_in(alloc: Global, file: &File, shape: &Shape) -> Result<Vec<Slot>, LoadFault>
+    ensures count { IfOk result (λ v. length v.items ≡ spec.page_count shape.now) }
+    ensures fit { IfOk result (λ v. AllFit shape.now v.items) }
+{
+    match states_in(alloc, file, shape) {
+        Ok(states) => slots_by(alloc, file, shape, states.as_slice()),
+        Err(fault) => Err(fault),
+    }
+}
+
+/// Opens a file and its log, and reads what the log says. What an earlier run left behind the pages
+/// of the file is not known.
+fn log_of<S: Start>(
+    alloc: Global,
+    file: &File,
+    shape: &Shape,
+    log: LogFile,
+) -> Result<(ImageLog<S>, Replay), LoadFault> {
+    let size = shape.page_bytes() as usize;
+    let Ok(extents) = Vec::from_elem(alloc, size, shape.page_count() as usize) else {
+        return Err(LoadFault::Memory);
+    };
+    match file.try_clone() {
+        Ok(copy) => open_log(alloc, copy, log, *shape, extents),
+        Err(_) => Err(LoadFault::Fault),
+    }
+}
+
+/// The pages of a file after the steps of its log.
+fn slots_beside<S: Start>(
+    alloc: Global,
+    file: &File,
+    shape: &Shape,
+    log: LogFile,
+) -> Result<(Vec<Slot>, ImageLog<S>), LoadFault>
+    ensures count { IfOk result (λ it. length it.0.items ≡ spec.page_count shape.now) }
+    ensures fit { IfOk result (λ it. AllFit shape.now it.0.items) }
+{
+    match log_of(alloc, file, shape, log) {
+        Ok((log, replay)) => match slots_after(alloc, file, shape, &replay) {
+            Ok(slots) => Ok((slots, log)),
+            Err(fault) => Err(fault),
+        },
+        Err(fault) => Err(fault),
+    }
+}
+
 /// What an open image holds, and its log, if it has one.
 fn pages_in<S: Start>(
     alloc: Global,
     file: &File,
     shape: &Shape,
     log: Option<LogFile>,
-) -> Result<(Vec<Slot>, Option<ImageLog<S>>), LoadFault> {
-    let Some(log) = log else {
-        let states = match states_in(alloc, file, shape) {
-            Ok(states) => states,
-            Err(fault) => return Err(fault),
-        };
-        return match slots_by(alloc, file, shape, states.as_slice()) {
+) -> Result<(Vec<Slot>, Option<ImageLog<S>>), LoadFault>
+    ensures count { IfOk result (λ it. length it.0.items ≡ spec.page_count shape.now) }
+    ensures fit { IfOk result (λ it. AllFit shape.now it.0.items) }
+{
+    match log {
+        None => match slots_in(alloc, file, shape) {
             Ok(slots) => Ok((slots, None)),
             Err(fault) => Err(fault),
-        };
-    };
-    // what an earlier run left behind the pages is not known
-    let size = shape.page_bytes() as usize;
-    let Ok(extents) = Vec::from_elem(alloc, size, shape.page_count() as usize) else {
-        return Err(LoadFault::Memory);
-    };
-    let Ok(copy) = file.try_clone() else {
-        return Err(LoadFault::Fault);
-    };
-    let (log, replay) = match open_log(alloc, copy, log, *shape, extents) {
-        Ok(opened) => opened,
-        Err(fault) => return Err(fault),
-    };
-    match slots_after(alloc, file, shape, &replay) {
-        Ok(slots) => Ok((slots, Some(log))),
-        Err(fault) => Err(fault),
+        },
+        Some(log) => match slots_beside(alloc, file, shape, log) {
+            Ok((slots, log)) => Ok((slots, Some(log))),
+            Err(fault) => Err(fault),
+        },
     }
 }
 

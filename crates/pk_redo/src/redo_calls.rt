@@ -75,7 +75,7 @@ fn commit_pending<D: Disk>(
     barrier(log, image, shape, end, room, batch.as_slice())
 }
 
-impl<D: Disk> RedoLog<D> {
+impl<D: Disk + Drop> RedoLog<D> {
     /// Takes an image and its log, as both were read, and the memory for all later calls. Nothing
     /// is asked of the disks. The extents say of each page how many bytes at its place in the image
     /// may differ from zero.
@@ -118,7 +118,9 @@ impl<D: Disk> RedoLog<D> {
             shape,
         })
     }
+}
 
+impl<D: Disk> RedoLog<D> {
     /// Whether nothing more is written: a write or a sync failed, or the run has ended.
     pub fn is_lost(&self) -> bool
         ensures ended { self.now.state ≡ LogState.Ended → result ≡ true }
