@@ -7,7 +7,7 @@ use Rattle.sqlite_disk.specs.declared.Disk.{Ghosts}
 use Rattle.pk_base.{specs.Shape.Shape, specs.Page.Flash}
 use Rattle.pk_base.specs.Mark.{Mark, after, after_all}
 use Rattle.pk_nand.proofs.CutLemmas.{after_all-append}
-use Rattle.pk_redo.{specs.Image.ReadAs, specs.RedoLog.KeepsPages, specs.RedoLog.StillKeeps, proofs.Keeping.still_read}
+use Rattle.pk_redo.{specs.Image.ReadAs, specs.Kept.KeepsPages, specs.Kept.StillKeeps, proofs.Keeping.still_read}
 use Rattle.pk_redo.{specs.declared.redo_log.RedoLog.RedoLog, specs.declared.redo_log.LogState.TheVariants.Ready, specs.declared.redo_log.LogState.TheVariants.Ended}
 use Rattle.pk_file.specs.Logged.{AfterPrefix, ReadsPrefix, KeepsTrail}
 
@@ -47,7 +47,7 @@ after_more shape start trail mark pages e = after_all-append shape start trail (
 module _ {D : Type 0} (g : Ghosts D) (shape : Shape) (start : Flash) (trail : List Mark) (least : ℕ) where
   -- ---- what is read
 
-  pub reads_prefix : (redo : RedoLog D) (kept pages : Flash) → redo.shape ≡ shape → AfterPrefix shape start trail least kept
+  pub reads_prefix : (redo : RedoLog D g) (kept pages : Flash) → redo.shape ≡ shape → AfterPrefix shape start trail least kept
       → after_all shape trail start ≡ pages → StillKeeps g redo kept pages → ReadsPrefix g redo shape start trail least
   reads_prefix redo kept pages same p e still l i may_l may_i =
       elim (still_read g redo kept pages still l i may_l may_i) [
@@ -55,10 +55,10 @@ module _ {D : Type 0} (g : Ghosts D) (shape : Shape) (start : Flash) (trail : Li
         | inr all ↦ (pages, subst (λ (s : Shape). ReadAs s l i pages) same all, all_of shape start trail least pages e (prefix_short shape start trail least kept p))
       ]
 
-  pub reads_kept : (redo : RedoLog D) (pages : Flash) → KeepsTrail g redo shape start trail least pages → ReadsPrefix g redo shape start trail least
+  pub reads_kept : (redo : RedoLog D g) (pages : Flash) → KeepsTrail g redo shape start trail least pages → ReadsPrefix g redo shape start trail least
   reads_kept redo pages k = reads_prefix redo k.kept pages k.same_shape k.is_prefix k.are_after (inl k.keeps)
 
-  pub reads_more : (redo : RedoLog D) (mark : Mark) → ReadsPrefix g redo shape start trail least → ReadsPrefix g redo shape start (trail ++ mark ∷ []) least
+  pub reads_more : (redo : RedoLog D g) (mark : Mark) → ReadsPrefix g redo shape start trail least → ReadsPrefix g redo shape start (trail ++ mark ∷ []) least
   reads_more redo mark reads l i may_l may_i =
       let it = reads l i may_l may_i in
       (it.0, it.1, prefix_more shape start trail least it.0 mark it.2)
@@ -66,7 +66,7 @@ module _ {D : Type 0} (g : Ghosts D) (shape : Shape) (start : Flash) (trail : Li
   -- ---- what is kept
 
   -- after a call that was answered with Ok
-  pub keeps_on : (redo : RedoLog D) (kept pages : Flash) → redo.shape ≡ shape → redo.state ≡ Ready → AfterPrefix shape start trail least kept
+  pub keeps_on : (redo : RedoLog D g) (kept pages : Flash) → redo.shape ≡ shape → redo.state ≡ Ready → AfterPrefix shape start trail least kept
       → after_all shape trail start ≡ pages → StillKeeps g redo kept pages → KeepsTrail g redo shape start trail least pages
   keeps_on redo kept pages same ready p e still = elim still [
     | inl k ↦ record { kept = kept; is_prefix = p; keeps = k; are_after = e; same_shape = same }
@@ -75,7 +75,7 @@ module _ {D : Type 0} (g : Ghosts D) (shape : Shape) (start : Flash) (trail : Li
   ]
 
   -- after a step
-  pub keeps_more : (old new : RedoLog D) (mark : Mark) (before behind : Flash) → new.shape ≡ shape → KeepsTrail g old shape start trail least before
+  pub keeps_more : (old new : RedoLog D g) (mark : Mark) (before behind : Flash) → new.shape ≡ shape → KeepsTrail g old shape start trail least before
       → ((kept : Flash) → KeepsPages g old kept before → KeepsPages g new kept (after shape mark before)) → behind ≡ after shape mark before
       → KeepsTrail g new shape start (trail ++ mark ∷ []) least behind
   keeps_more old new mark before behind same k step e = record {
@@ -87,7 +87,7 @@ module _ {D : Type 0} (g : Ghosts D) (shape : Shape) (start : Flash) (trail : Li
   }
 
   -- after a barrier
-  pub keeps_all : (old new : RedoLog D) (pages : Flash) → new.shape ≡ shape → KeepsTrail g old shape start trail least pages
+  pub keeps_all : (old new : RedoLog D g) (pages : Flash) → new.shape ≡ shape → KeepsTrail g old shape start trail least pages
       → KeepsPages g new pages pages → KeepsTrail g new shape start trail (length trail) pages
   keeps_all old new pages same k all = record {
     kept = pages;

@@ -3,7 +3,7 @@ ghost use Rattle.std.specs.Prelude.{◌≡◌, ◌⊎◌, ◌≤◌, ◌<◌, �
 ghost use Rattle.pk_base.specs.Shape as spec;
 ghost use Rattle.pk_base.specs.Page.{Flash, IsPage, whole};
 ghost use Rattle.pk_base.specs.Mark.{Mark, program, erase, after};
-ghost use Rattle.pk_redo.specs.RedoLog.{ImageAlone};
+ghost use Rattle.pk_redo.specs.Kept.{ImageAlone};
 ghost use Rattle.pk_redo.specs.declared.batch.TheConstants.{BATCH_HEAD};
 ghost use Rattle.pk_redo.specs.declared.redo_log.LogState.{LogState};
 ghost use Rattle.pk_file.specs.Slots.{pages_of, AllFit};
