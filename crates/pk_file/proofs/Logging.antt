@@ -4,7 +4,8 @@ use Rattle.std.{proofs.lemmas.List.append-nil, proofs.lemmas.List.length-replica
 use Rattle.pk_base.specs.Fields.{padded}
 use Rattle.pk_file.{specs.declared.trimmed.Trimmed.Trimmed, specs.Trims.bytes_in}
 use Rattle.sqlite_disk.specs.declared.Disk.{Ghosts}
-use Rattle.pk_base.{specs.Shape.Shape, specs.Page.Flash}
+use Rattle.pk_base.{specs.Shape.Shape, specs.Page.Flash, specs.Page.page_at, specs.Page.whole}
+use Rattle.pk_file.{specs.declared.slot.Slot.Slot, specs.Slots.pages_of, specs.Slots.AllFit}
 use Rattle.pk_base.specs.Mark.{Mark, after, after_all}
 use Rattle.pk_nand.proofs.CutLemmas.{after_all-append}
 use Rattle.pk_redo.{specs.Image.ReadAs, specs.Kept.KeepsPages, specs.Kept.StillKeeps, proofs.Keeping.still_read}
@@ -20,6 +21,16 @@ front_padded kept bytes size is full =
     let tail : List ℕ = replicate kept.zeros 0 in
     let n : size - length front ≡ kept.zeros = omega (arith, full, ap (λ (l : List ℕ). length l) is, length-append front tail, length-replicate kept.zeros 0) in
     ap (λ (k : ℕ). front ++ replicate k 0) n ∙ is
+
+-- the front of a slot
+pub front_short : (shape : Shape) (slots : List Slot) (page : ℕ) (kept : Trimmed) → AllFit shape slots → page_at (pages_of slots) page ≡ whole (bytes_in kept) → length kept.front.items ≤ shape.page_bytes
+front_short shape slots page kept fit is = let full = (fit page (bytes_in kept) is).0 in omega (arith, full, length-append kept.front.items (replicate kept.zeros 0))
+
+pub front_is : (shape : Shape) (slots : List Slot) (page : ℕ) (kept : Trimmed) → AllFit shape slots → page_at (pages_of slots) page ≡ whole (bytes_in kept)
+    → (own : List ℕ) → page_at (pages_of slots) page ≡ whole own → own ≡ padded shape.page_bytes kept.front.items
+front_is shape slots page kept fit is own owns =
+    let same : own ≡ bytes_in kept = cc in
+    same ∙ sym (front_padded kept (bytes_in kept) shape.page_bytes refl (fit page (bytes_in kept) is).0)
 
 -- ---- the first steps of a trail
 
@@ -96,3 +107,24 @@ module _ {D : Type 0} (g : Ghosts D) (shape : Shape) (start : Flash) (trail : Li
     are_after = k.are_after;
     same_shape = same;
   }
+
+  -- ---- calls
+
+  module _ (old new : RedoLog D g) (pages : Flash) (same : new.shape ≡ old.shape) (k : KeepsTrail g old shape start trail least pages)
+      (still : (kept : Flash) → KeepsPages g old kept pages → StillKeeps g new kept pages) where
+    -- whatever the call answered
+    pub call_reads : ReadsPrefix g new shape start trail least
+    call_reads = reads_prefix new k.kept pages (same ∙ k.same_shape) k.is_prefix k.are_after (still k.kept k.keeps)
+
+    pub call_keeps : KeepsTrail g new shape start trail least pages ⊎ (new.state ≡ Ended)
+    call_keeps = elim (still k.kept k.keeps) [
+      | inl kept ↦ inl (record { kept = k.kept; is_prefix = k.is_prefix; keeps = kept; are_after = k.are_after; same_shape = same ∙ k.same_shape })
+      | inr (inl all) ↦
+          let some = prefix_short shape start trail least k.kept k.is_prefix in
+          inl (record { kept = pages; is_prefix = all_of shape start trail least pages k.are_after some; keeps = all; are_after = k.are_after; same_shape = same ∙ k.same_shape })
+      | inr (inr ended) ↦ inr ended.0
+    ]
+
+    -- it was answered with Ok
+    pub call_kept : new.state ≡ Ready → KeepsTrail g new shape start trail least pages
+    call_kept ready = keeps_on new k.kept pages (same ∙ k.same_shape) ready k.is_prefix k.are_after (still k.kept k.keeps)
