@@ -36,6 +36,7 @@ struct disk {
     char path[PATH_MAX];
     int fds[4], open;           /* the descriptors of it */
     int is_new;                 /* its name is not on the disk */
+    int is_gone;                /* its name was removed, and may come back */
     off_t size_kept;            /* its length on the disk */
     struct kept *kept;
     size_t count, room;
@@ -109,6 +110,10 @@ static void release(struct disk *it, int by_chance) {
 }
 
 static void lose_one(struct disk *it) {
+    char gone[PATH_MAX + 8];
+    snprintf(gone, sizeof gone, "%s.gone", it->path);
+    if (it->is_gone && (random() % 2 || access(it->path, F_OK) == 0 || rename(gone, it->path))) real_unlink(gone);
+    it->is_gone = 0;
     if (!it->open) return;
     struct stat now;
     fstat(it->fds[0], &now);
@@ -185,12 +190,15 @@ int fcntl64(int fd, int command, ...) __attribute__((alias("fcntl")));
 int unlink(const char *name) {
     start();
     struct disk *own = disk_at(name);
-    if (own && own->open) {
-        if (fails()) { errno = EIO; return -1; }
-        keep();                                 /* the name may come back: what it names is on the disk then */
-        own->open = 0;
-    }
-    return real_unlink(name);
+    if (!own || !own->open) return real_unlink(name);
+    if (fails()) { errno = EIO; return -1; }
+    if (getenv("DISK_ALL")) return real_unlink(name);
+    char gone[PATH_MAX + 8];
+    snprintf(gone, sizeof gone, "%s.gone", name);
+    release(own, 1);
+    own->open = 0;
+    own->is_gone = 1;
+    return rename(name, gone);
 }
 
 ssize_t pwrite(int fd, const void *bytes, size_t len, off_t at) {

@@ -319,15 +319,29 @@ impl<'a, S: Start> Backing<'a, S> {
         ensures { (self.new.row.first ≡ self.old.row.first)
             × (self.new.row.extents ≡ self.old.row.extents) }
     {
-        let Some(log) = &mut self.log else {
+        let Some(log) = self.log.take() else {
             return true;
         };
-        if log.end(self.rt, shape, slots).is_err() {
-            self.row.lose();
-            return false;
+        match log.end(self.rt, shape, slots) {
+            Ok(()) => true,
+            Err(_) => {
+                self.row.lose();
+                false
+            }
         }
-        self.log = None;
-        true
+    }
+
+    /// A log for the image, which has all pages; None if none can be made.
+    fn made_log(&self, shape: &Shape, slots: &Vec<Slot>) -> Option<ImageLog<S>>
+        requires { length slots.now.items ≡ spec.page_count shape.now }
+    {
+        let Ok(extents) = extents_in(self.rt.alloc(), slots) else {
+            return None;
+        };
+        match &self.file {
+            Some(file) => new_log(self.rt, self.path, file, *shape, extents).ok(),
+            None => None,
+        }
     }
 
     /// Makes the log of an image that has all pages. If that fails, each row is synced from now on.
@@ -339,18 +353,12 @@ impl<'a, S: Start> Backing<'a, S> {
         ensures { self.new.row.first + length self.new.row.extents.items
             ≤ length slots.now.items }
     {
-        if !write_waiting(&mut self.file, &Some(*shape), slots, &mut self.row) {
+        let own = Some(*shape);
+        if !write_waiting(&mut self.file, &own, slots, &mut self.row) {
             return false;
         }
-        let Ok(extents) = extents_in(self.rt.alloc(), slots) else {
-            return true;
-        };
-        if let Some(file) = &self.file {
-            match new_log(self.rt, self.path, file, *shape, extents) {
-                Ok(log) => self.log = Some(log),
-                Err(_) => self.uses_log = false,
-            }
-        }
+        self.log = self.made_log(shape, slots);
+        self.uses_log = self.log.is_some();
         true
     }
 

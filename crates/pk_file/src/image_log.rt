@@ -140,16 +140,21 @@ impl<S: Start> ImageLog<S> {
     }
 
     /// Brings all pages into the image, and removes the log.
-    pub fn end(&mut self, rt: &HostRuntime, shape: &Shape, slots: &Vec<Slot>) -> io::Result<()>
+    pub fn end(self, rt: &HostRuntime, shape: &Shape, slots: &Vec<Slot>) -> io::Result<()>
         requires count { length slots.now.items ≡ spec.page_count shape.now }
         requires fit { AllFit shape.now slots.now.items }
     {
         if !self.is_of(shape) {
             return Err(io::ErrorKind::InvalidInput.into());
         }
-        if !end_logged(&mut self.redo, shape, slots) {
+        let ImageLog {
+            mut redo,
+            shape: _,
+            path,
+        } = self;
+        if !end_logged(&mut redo, shape, slots) {
             return Err(io::ErrorKind::Other.into());
         }
-        remove_log(rt, self.path.as_str())
+        remove_log(rt, path.as_str())
     }
 }
