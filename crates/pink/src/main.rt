@@ -1,7 +1,7 @@
 //! The program: serves a key-value drive in an image file, over standard input and output.
 #![tactic(auto)]
 
-use pk_file::{EndFault, FileBoard, PageWrites};
+use pk_file::{EndFault, FileBoard, Keeping, Start, Unknown, Wary};
 use pk_top::{Status, run, run_pair, run_spared};
 use std::env;
 use std::env::VarError;
@@ -29,19 +29,43 @@ fn words_of(rt: &HostRuntime) -> Result<Vec<String>, Status> {
     Ok(words)
 }
 
-/// Whether each change has to be on the disk before its answer leaves: `PINK_SYNC` is in the
-/// environment, and is not 0.
-fn is_durable(rt: &HostRuntime) -> bool {
-    match env::var(rt, "PINK_SYNC") {
-        Ok(value) => value.as_str() != "0",
-        Err(VarError::NotPresent) => false,
-        Err(_) => true,
-    }
+/// When a change is on the disk: what `PINK_SYNC` in the environment asks for.
+#[derive(Clone, Copy, Debug, PartialEq, Eq)]
+enum Syncs {
+    /// When the system likes.
+    None,
+    /// Before its answer leaves, by one sync.
+    Once,
+    /// Before its answer leaves, by two syncs, so that no premise on torn writes is needed.
+    Twice,
 }
 
-/// The board over the image file of this path.
-fn board_over<'a>(rt: &'a HostRuntime, image: &'a str, writes: PageWrites) -> FileBoard<'a> {
-    FileBoard::with(rt, image, is_durable(rt), writes)
+impl Syncs {
+    /// What the environment asks for; `Once` if that is not known.
+    fn wanted(rt: &HostRuntime) -> Syncs {
+        match env::var(rt, "PINK_SYNC") {
+            Ok(value) if value.as_str() == "0" => Syncs::None,
+            Ok(value) if value.as_str() == "2" => Syncs::Twice,
+            Ok(_) => Syncs::Once,
+            Err(VarError::NotPresent) => Syncs::None,
+            Err(_) => Syncs::Once,
+        }
+    }
+
+    /// How an image is kept whose texts leave behind its changes.
+    fn gathered(self) -> Keeping {
+        match self {
+            Syncs::None => Keeping::Rows,
+            _ => Keeping::Log,
+        }
+    }
+
+    /// How an image is kept each of whose changes is written at once.
+    fn direct(self) -> Keeping {
+        Keeping::Direct {
+            is_durable: self != Syncs::None,
+        }
+    }
 }
 
 /// The status of a run that ended so. If what was posted last could not be written, or its pages
@@ -51,12 +75,13 @@ fn ended(status: Status, end: Result<(), EndFault>) -> Status {
         Ok(()) => status,
         Err(EndFault::Flash) => Status::FLASH,
         Err(EndFault::Output) => Status::OUTPUT,
+        Err(EndFault::Log) => Status::FLASH,
     }
 }
 
 /// Does over the image file of this path what the other words ask for.
-fn run_on(rt: &HostRuntime, image: &str, words: &[&str]) -> Status {
-    let mut board = board_over(rt, image, PageWrites::Gathered);
+fn run_on<S: Start>(rt: &HostRuntime, image: &str, words: &[&str], syncs: Syncs) -> Status {
+    let mut board = FileBoard::<S>::with(rt, image, syncs.gathered());
     let status = run(rt.alloc(), words, &mut board);
     ended(status, board.finish())
 }
@@ -64,8 +89,8 @@ fn run_on(rt: &HostRuntime, image: &str, words: &[&str]) -> Status {
 /// Does over the image file of this path, which has spare blocks, what these words ask for; the
 /// first of them says so. A block is moved when a program of it fails, so each page is written by
 /// its program.
-fn run_on_spared(rt: &HostRuntime, image: &str, words: &[&str]) -> Status {
-    let board = board_over(rt, image, PageWrites::Direct);
+fn run_on_spared<S: Start>(rt: &HostRuntime, image: &str, words: &[&str], syncs: Syncs) -> Status {
+    let board = FileBoard::<S>::with(rt, image, syncs.direct());
     let (status, remap) = run_spared(rt.alloc(), words, board, 0);
     match remap {
         Some(remap) => {
@@ -77,22 +102,28 @@ fn run_on_spared(rt: &HostRuntime, image: &str, words: &[&str]) -> Status {
 }
 
 /// Does over the image file of this path what the other words ask for.
-fn run_on_one(rt: &HostRuntime, image: &str, words: &[&str]) -> Status {
+fn run_on_one<S: Start>(rt: &HostRuntime, image: &str, words: &[&str], syncs: Syncs) -> Status {
     match words.first() {
-        Some(word) if *word == SPARED => run_on_spared(rt, image, words),
-        _ => run_on(rt, image, words),
+        Some(word) if *word == SPARED => run_on_spared::<S>(rt, image, words, syncs),
+        _ => run_on::<S>(rt, image, words, syncs),
     }
 }
 
 /// Does over the two image files of these paths what the other words ask for. Texts go out over the
 /// first, so nothing would make the pages of the second leave before an answer: each is written by
 /// its program.
-fn run_on_pair(rt: &HostRuntime, image: &str, other: &str, words: &[&str]) -> Status {
+fn run_on_pair<S: Start>(
+    rt: &HostRuntime,
+    image: &str,
+    other: &str,
+    words: &[&str],
+    syncs: Syncs,
+) -> Status {
     if image == other || image == PAIR || other == PAIR {
         return Status::WORDS;
     }
-    let mut first = board_over(rt, image, PageWrites::Gathered);
-    let mut second = board_over(rt, other, PageWrites::Direct);
+    let mut first = FileBoard::<S>::with(rt, image, syncs.gathered());
+    let mut second = FileBoard::<S>::with(rt, other, syncs.direct());
     let status = run_pair(rt.alloc(), words, &mut first, &mut second);
     let status = ended(status, second.finish());
     ended(status, first.finish())
@@ -100,16 +131,16 @@ fn run_on_pair(rt: &HostRuntime, image: &str, other: &str, words: &[&str]) -> St
 
 /// Does what the words ask for: of a pair, after its name and the paths of both image files; else
 /// after the path of one.
-fn obey_texts(rt: &HostRuntime, words: &[&str]) -> Status {
+fn obey_texts<S: Start>(rt: &HostRuntime, words: &[&str], syncs: Syncs) -> Status {
     match words.split_first() {
         Some((image, rest)) if *image == PAIR => match rest.split_first() {
             Some((first, rest)) => match rest.split_first() {
-                Some((second, rest)) => run_on_pair(rt, first, second, rest),
+                Some((second, rest)) => run_on_pair::<S>(rt, first, second, rest, syncs),
                 None => Status::WORDS,
             },
             None => Status::WORDS,
         },
-        Some((image, rest)) => run_on_one(rt, image, rest),
+        Some((image, rest)) => run_on_one::<S>(rt, image, rest, syncs),
         None => Status::WORDS,
     }
 }
@@ -122,7 +153,10 @@ fn obey(rt: &HostRuntime, words: &[String]) -> Status {
             return Status::MEMORY;
         }
     }
-    obey_texts(rt, texts.as_slice())
+    match Syncs::wanted(rt) {
+        Syncs::Twice => obey_texts::<Wary>(rt, texts.as_slice(), Syncs::Twice),
+        syncs => obey_texts::<Unknown>(rt, texts.as_slice(), syncs),
+    }
 }
 
 fn main(rt: HostRuntime) -> ExitCode {

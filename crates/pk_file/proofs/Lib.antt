@@ -1,4 +1,5 @@
 pub mod Gathering
+pub mod Logging
 pub mod RowLaw
 pub mod Rows
 pub mod Sectoring

@@ -67,6 +67,11 @@ impl ImageFile {
             is_durable,
         }
     }
+
+    /// The same file by another descriptor: its lock goes when both are closed.
+    pub fn copy(&self) -> io::Result<File> {
+        self.file.try_clone()
+    }
 }
 
 impl PageFile for ImageFile {

@@ -6,9 +6,12 @@
 //! before the input may wait. What a file or a terminal does with the bytes is not proved.
 #![tactic(auto)]
 
+mod backing;
 mod file_board;
 mod image_file;
+mod image_log;
 mod incoming;
+mod logged;
 mod opening;
 mod outgoing;
 mod page_reader;
@@ -20,5 +23,6 @@ mod slot;
 mod slots;
 mod trimmed;
 
+pub use backing::Keeping;
 pub use file_board::{EndFault, FileBoard};
-pub use row::PageWrites;
+pub use pk_disk::{Start, Unknown, Wary};

@@ -1,10 +1,12 @@
 //! Posts, gathered until they have to leave.
-ghost use Rattle.std.specs.Prelude.{◌≡◌, ◌≤◌, [], ◌++◌, length, true, false, OnOk};
+ghost use Rattle.std.specs.Prelude.{◌≡◌, ◌≤◌, [], ◌++◌, length, true, false, IfSome, OnOk};
 ghost use Rattle.std.specs.Io.KnownBytes.{Appends};
+ghost use Rattle.pk_redo.specs.declared.batch.TheConstants.{BATCH_HEAD};
 ghost use Rattle.pk_file.specs.declared.room.TheConstants.{GATHERED};
 
+use crate::backing::Backing;
 use crate::room::GATHERED;
-use crate::row::Row;
+use pk_disk::Start;
 use pk_nand::HostFault;
 use std::alloc::Global;
 use std::io;
@@ -91,16 +93,22 @@ impl<W: Write + Drop> Outgoing<W> {
         self.gathered.extend_from_slice(bytes).is_ok()
     }
 
-    /// Sends what is gathered, and these bytes after it, where no page waits for the file and none
-    /// that waited was lost. After a write that failed nothing more is written.
-    pub fn send(&mut self, row: &Row, bytes: &[u8]) -> Result<(), HostFault>
-        requires none_waits { row.now.extents.items ≡ [] }
-        requires none_lost { row.now.is_lost ≡ false }
+    /// Sends what is gathered, and these bytes after it, where no page waits for the image, no step
+    /// for the log, and none that waited was lost. After a write that failed nothing more is written.
+    pub fn send<S: Start>(
+        &mut self,
+        backing: &Backing<'_, S>,
+        bytes: &[u8],
+    ) -> Result<(), HostFault>
+        requires no_page_waits { backing.now.row.extents.items ≡ [] }
+        requires no_step_waits { IfSome backing.now.log
+            (λ log. log.redo.batch.filled ≡ BATCH_HEAD) }
+        requires none_lost { backing.now.row.is_lost ≡ false }
         ensures sent { OnOk result (Appends (W.contents self.old.to) (W.contents self.new.to)
             (self.old.gathered.items ++ bytes.now)) }
         ensures none_waits { self.new.gathered.items ≡ [] }
     {
-        let _ = row;
+        let _ = backing;
         if self.stage == Stage::Lost {
             self.gathered.clear();
             return Err(HostFault { given: 0 });

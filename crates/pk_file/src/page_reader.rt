@@ -45,7 +45,7 @@ fn run_length(states: &[u8], first: usize) -> usize
 }
 
 /// A page of its own with these bytes.
-fn copied(alloc: Global, shape: &Shape, bytes: &[u8]) -> Result<Trimmed, LoadFault>
+pub fn copied(alloc: Global, shape: &Shape, bytes: &[u8]) -> Result<Trimmed, LoadFault>
     requires { length bytes.now ≡ shape.now.page_bytes }
     ensures page { IfOk result (λ kept. IsPage shape.now (bytes_in kept)) }
     ensures bad { (at : ℕ) → result ≢ Err (LoadFault.BadImage at) }

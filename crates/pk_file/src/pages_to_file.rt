@@ -5,15 +5,20 @@ ghost use Rattle.pk_nand.specs.Calls.{longer};
 ghost use Rattle.pk_file.specs.Slots.{AllFit};
 ghost use Rattle.pk_file.specs.FileSteps.{erase_steps};
 
+use crate::backing::Keeping;
 use crate::image_file::{ImageFile, PageFile};
+use crate::image_log::{ImageLog, LogFile, drop_log, log_beside, open_log};
+use crate::logged::replay_steps;
 use crate::opening::{open_alone, sync_folder};
 use crate::page_reader::PageReader;
-use crate::row::{PageWrites, Row};
+use crate::row::Row;
 use crate::slot::Slot;
 use crate::slots::slots_of;
 use pk_base::{MOST_BLOCK_PAGES, Shape};
-use pk_image::{HEADER_BYTES, ImageError, file_len, header, read_header};
+use pk_disk::Start;
+use pk_image::{HEADER_BYTES, ImageError, PageTag, file_len, header, read_header};
 use pk_nand::LoadFault;
+use pk_redo::{Replay, set_pages};
 use std::alloc::Global;
 use std::fs::{File, OpenOptions};
 use std::io;
@@ -24,12 +29,14 @@ const MAGIC_BYTES: usize = 8;
 
 /// An open image file and what was read of it.
 #[derive(Drop)]
-pub struct Image {
+pub struct Image<S: Start> {
     pub file: ImageFile,
     pub shape: Shape,
+    /// Its pages after the steps of its log.
     pub slots: Vec<Slot>,
     /// The pages that wait to be written: none.
     pub row: Row,
+    pub log: Option<ImageLog<S>>,
     ghost count: { length slots.items ≡ spec.page_count shape },
     ghost fit: { AllFit shape slots.items },
     ghost waiting: { row.first + length row.extents.items ≤ length slots.items },
@@ -62,77 +69,202 @@ fn shape_of(file: &File, len: u64) -> Result<Shape, LoadFault> {
     }
 }
 
-/// The pages of a file: its state bytes, and the bytes of the Whole ones.
-fn slots_in(alloc: Global, file: &File, shape: &Shape) -> Result<Vec<Slot>, LoadFault>
+/// The state bytes of a file.
+fn states_in(alloc: Global, file: &File, shape: &Shape) -> Result<Vec<u8>, LoadFault>
     ensures count { IfOk result (λ v. length v.items ≡ spec.page_count shape.now) }
-    ensures fit { IfOk result (λ v. AllFit shape.now v.items) }
 {
     let Ok(mut states) = Vec::from_elem(alloc, 0u8, shape.page_count() as usize) else {
         return Err(LoadFault::Memory);
     };
-    if file
-        .read_exact_at(states.as_mut_slice(), HEADER_BYTES as u64)
-        .is_err()
-    {
-        return Err(LoadFault::Fault);
+    match file.read_exact_at(states.as_mut_slice(), HEADER_BYTES as u64) {
+        Ok(()) => Ok(states),
+        Err(_) => Err(LoadFault::Fault),
     }
+}
+
+/// The pages of a file with these state bytes, with the bytes of the Whole ones.
+fn slots_by(
+    alloc: Global,
+    file: &File,
+    shape: &Shape,
+    states: &[u8],
+) -> Result<Vec<Slot>, LoadFault>
+    requires { length states.now ≡ spec.page_count shape.now }
+    ensures count { IfOk result (λ v. length v.items ≡ spec.page_count shape.now) }
+    ensures fit { IfOk result (λ v. AllFit shape.now v.items) }
+{
     let Ok(mut reader) = PageReader::new(alloc, *shape) else {
         return Err(LoadFault::Memory);
     };
-    slots_of(alloc, file, &mut reader, states.as_slice())
+    slots_of(alloc, file, &mut reader, states)
+}
+
+/// The pages that steps set count as Erased before they are done: a checkpoint that broke off may
+/// have left any state byte of them.
+fn hide(states: &mut [u8], set: &[bool])
+    ensures { length states.new ≡ length states.old }
+{
+    let end = states.len().min(set.len());
+    for k in 0..end {
+        if set[k] {
+            states[k] = PageTag::Erased.byte();
+        }
+    }
+}
+
+/// The pages of a file after the steps of its log.
+fn slots_after(
+    alloc: Global,
+    file: &File,
+    shape: &Shape,
+    replay: &Replay,
+) -> Result<Vec<Slot>, LoadFault>
+    ensures count { IfOk result (λ v. length v.items ≡ spec.page_count shape.now) }
+    ensures fit { IfOk result (λ v. AllFit shape.now v.items) }
+{
+    let mut states = match states_in(alloc, file, shape) {
+        Ok(states) => states,
+        Err(fault) => return Err(fault),
+    };
+    let Ok(set) = set_pages(alloc, shape, replay.steps.as_slice()) else {
+        return Err(LoadFault::Memory);
+    };
+    hide(states.as_mut_slice(), set.as_slice());
+    let mut slots = match slots_by(alloc, file, shape, states.as_slice()) {
+        Ok(slots) => slots,
+        Err(fault) => return Err(fault),
+    };
+    match replay_steps(alloc, shape, &mut slots, replay) {
+        Ok(()) => Ok(slots),
+        Err(fault) => Err(fault),
+    }
+}
+
+/// The pages of a file that has no log.
+fn slots_in(alloc: Global, file: &File, shape: &Shape) -> Result<Vec<Slot>, LoadFault>
+    ensures count { IfOk result (λ v. length v.items ≡ spec.page_count shape.now) }
+    ensures fit { IfOk result (λ v. AllFit shape.now v.items) }
+{
+    match states_in(alloc, file, shape) {
+        Ok(states) => slots_by(alloc, file, shape, states.as_slice()),
+        Err(fault) => Err(fault),
+    }
+}
+
+/// Opens a file and its log, and reads what the log says. What an earlier run left behind the pages
+/// of the file is not known.
+fn log_of<S: Start>(
+    alloc: Global,
+    file: &File,
+    shape: &Shape,
+    log: LogFile,
+) -> Result<(ImageLog<S>, Replay), LoadFault> {
+    let size = shape.page_bytes() as usize;
+    let Ok(extents) = Vec::from_elem(alloc, size, shape.page_count() as usize) else {
+        return Err(LoadFault::Memory);
+    };
+    match file.try_clone() {
+        Ok(copy) => open_log(alloc, copy, log, *shape, extents),
+        Err(_) => Err(LoadFault::Fault),
+    }
+}
+
+/// The pages of a file after the steps of its log.
+fn slots_beside<S: Start>(
+    alloc: Global,
+    file: &File,
+    shape: &Shape,
+    log: LogFile,
+) -> Result<(Vec<Slot>, ImageLog<S>), LoadFault>
+    ensures count { IfOk result (λ it. length it.0.items ≡ spec.page_count shape.now) }
+    ensures fit { IfOk result (λ it. AllFit shape.now it.0.items) }
+{
+    match log_of(alloc, file, shape, log) {
+        Ok((log, replay)) => match slots_after(alloc, file, shape, &replay) {
+            Ok(slots) => Ok((slots, log)),
+            Err(fault) => Err(fault),
+        },
+        Err(fault) => Err(fault),
+    }
+}
+
+/// What an open image holds, and its log, if it has one.
+fn pages_in<S: Start>(
+    alloc: Global,
+    file: &File,
+    shape: &Shape,
+    log: Option<LogFile>,
+) -> Result<(Vec<Slot>, Option<ImageLog<S>>), LoadFault>
+    ensures count { IfOk result (λ it. length it.0.items ≡ spec.page_count shape.now) }
+    ensures fit { IfOk result (λ it. AllFit shape.now it.0.items) }
+{
+    match log {
+        None => match slots_in(alloc, file, shape) {
+            Ok(slots) => Ok((slots, None)),
+            Err(fault) => Err(fault),
+        },
+        Some(log) => match slots_beside(alloc, file, shape, log) {
+            Ok((slots, log)) => Ok((slots, Some(log))),
+            Err(fault) => Err(fault),
+        },
+    }
 }
 
 /// The image of an open file of this length, with the memory for pages that wait.
-fn read_image(
+fn read_image<S: Start>(
     alloc: Global,
     file: File,
     len: u64,
-    is_durable: bool,
-    writes: PageWrites,
-) -> Result<Image, LoadFault> {
+    log: Option<LogFile>,
+    keeping: Keeping,
+) -> Result<Image<S>, LoadFault> {
     let shape = match shape_of(&file, len) {
         Ok(shape) => shape,
         Err(fault) => return Err(fault),
     };
-    let Ok(row) = Row::for_shape(alloc, &shape, is_durable, writes) else {
+    let Ok(row) = Row::for_shape(alloc, &shape, keeping.is_durable(), keeping.writes()) else {
         return Err(LoadFault::Memory);
     };
-    match slots_in(alloc, &file, &shape) {
-        Ok(slots) => Ok(Image {
-            file: ImageFile::new(file, len, is_durable),
+    match pages_in(alloc, &file, &shape, log) {
+        Ok((slots, log)) => Ok(Image {
+            file: ImageFile::new(file, len, keeping.is_durable()),
             shape,
             slots,
             row,
+            log,
         }),
         Err(fault) => Err(fault),
     }
 }
 
-/// The image at this path; None if there is none. If changes have to be on the disk, so has to be
-/// what an earlier run wrote.
-pub fn find_image(
+/// The image at this path, with what its log says; None if there is none. If changes have to be on
+/// the disk, so has to be what an earlier run wrote. Neither file is written.
+pub fn find_image<S: Start>(
     rt: &HostRuntime,
     alloc: Global,
     path: &str,
-    is_durable: bool,
-    writes: PageWrites,
-) -> Result<Option<Image>, LoadFault> {
+    keeping: Keeping,
+) -> Result<Option<Image<S>>, LoadFault> {
     let (file, len) = match opened(rt, path) {
         Ok(None) => return Ok(None),
         Ok(Some(found)) => found,
         Err(fault) => return Err(fault),
     };
-    if is_durable && file.sync_data().is_err() {
+    let Ok(log) = log_beside(rt, path, &file) else {
+        return Err(LoadFault::Fault);
+    };
+    if keeping.is_durable() && file.sync_data().is_err() {
         return Err(LoadFault::Fault);
     }
-    match read_image(alloc, file, len, is_durable, writes) {
+    match read_image(alloc, file, len, log, keeping) {
         Ok(image) => Ok(Some(image)),
         Err(fault) => Err(fault),
     }
 }
 
 /// Makes an image file with all pages Erased of a missing or empty one that no other board has
-/// open. Its text is written last, so that a file that was not made to its end is no image. If
+/// open. A log that an earlier image of this name left is removed before. The text of the image is
+/// written last, so that a file that was not made to its end is no image. If
 /// changes have to be on the disk, so are the file and its name.
 pub fn create_image(
     rt: &HostRuntime,
@@ -146,6 +278,7 @@ pub fn create_image(
     if file.metadata()?.len() != 0 {
         return Err(io::Error::from(io::ErrorKind::AlreadyExists));
     }
+    drop_log(rt, path, &file)?;
     let head = header(shape);
     let len = file_len(shape);
     file.set_len(len)?;

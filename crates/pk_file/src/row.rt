@@ -105,6 +105,13 @@ impl Row {
         self.is_lost
     }
 
+    /// From now on nothing more is written.
+    pub fn lose(&mut self)
+        ensures { self.new ≡ record self.old { is_lost = true } }
+    {
+        self.is_lost = true;
+    }
+
     /// Whether no page waits.
     pub fn is_empty(&self) -> bool
         ensures { result ≡ true → self.now.extents.items ≡ [] }

@@ -1,6 +1,6 @@
 use Rattle.std.{proofs.Common.◌≤◌, proofs.Common.◌∙◌, proofs.Common.ℕ, proofs.Common.arith, proofs.lemmas.List.length-map}
 use Rattle.pk_file.{specs.Slots.pages_of, specs.Slots.slot_page, proofs.Rows.erase_left, proofs.Rows.erase_done}
-use Rattle.pk_file.proofs.file_board.erase_block.Goals as goal
+use Rattle.pk_file.proofs.backing.erase_block.Goals as goal
 
 pub returns-then-cleared-clause-pages : goal.returns-then-cleared-clause-pages
 returns-then-cleared-clause-pages c =
