@@ -52,7 +52,7 @@ impl Syncs {
         }
     }
 
-    /// How an image is kept whose texts leave behind its changes.
+    /// How an image is kept whose texts leave after its changes.
     fn gathered(self) -> Keeping {
         match self {
             Syncs::None => Keeping::Rows,

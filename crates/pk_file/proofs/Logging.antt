@@ -22,8 +22,9 @@ front_padded kept bytes size is full =
     let n : size - length front ≡ kept.zeros = omega (arith, full, ap (λ (l : List ℕ). length l) is, length-append front tail, length-replicate kept.zeros 0) in
     ap (λ (k : ℕ). front ++ replicate k 0) n ∙ is
 
--- the front of a slot
-pub front_short : (shape : Shape) (slots : List Slot) (page : ℕ) (kept : Trimmed) → AllFit shape slots → page_at (pages_of slots) page ≡ whole (bytes_in kept) → length kept.front.items ≤ shape.page_bytes
+-- the bytes of a slot that are kept
+pub front_short : (shape : Shape) (slots : List Slot) (page : ℕ) (kept : Trimmed) → AllFit shape slots
+    → page_at (pages_of slots) page ≡ whole (bytes_in kept) → length kept.front.items ≤ shape.page_bytes
 front_short shape slots page kept fit is = let full = (fit page (bytes_in kept) is).0 in omega (arith, full, length-append kept.front.items (replicate kept.zeros 0))
 
 pub front_is : (shape : Shape) (slots : List Slot) (page : ℕ) (kept : Trimmed) → AllFit shape slots → page_at (pages_of slots) page ≡ whole (bytes_in kept)
@@ -86,10 +87,10 @@ module _ {D : Type 0} (g : Ghosts D) (shape : Shape) (start : Flash) (trail : Li
   ]
 
   -- after a step
-  pub keeps_more : (old new : RedoLog D g) (mark : Mark) (before behind : Flash) → new.shape ≡ shape → KeepsTrail g old shape start trail least before
-      → ((kept : Flash) → KeepsPages g old kept before → KeepsPages g new kept (after shape mark before)) → behind ≡ after shape mark before
-      → KeepsTrail g new shape start (trail ++ mark ∷ []) least behind
-  keeps_more old new mark before behind same k step e = record {
+  pub keeps_more : (old new : RedoLog D g) (mark : Mark) (before later : Flash) → new.shape ≡ shape → KeepsTrail g old shape start trail least before
+      → ((kept : Flash) → KeepsPages g old kept before → KeepsPages g new kept (after shape mark before)) → later ≡ after shape mark before
+      → KeepsTrail g new shape start (trail ++ mark ∷ []) least later
+  keeps_more old new mark before later same k step e = record {
     kept = k.kept;
     is_prefix = prefix_more shape start trail least k.kept mark k.is_prefix;
     keeps = subst (λ (f : Flash). KeepsPages g new k.kept f) (sym e) (step k.kept k.keeps);

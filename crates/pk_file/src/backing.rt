@@ -1,4 +1,4 @@
-//! The files behind the pages of a board: the image, and its log once there is one.
+//! The files under the pages of a board: the image, and its log once there is one.
 ghost use Rattle.std.specs.Prelude.{◌≡◌, ◌<◌, ◌≤◌, ◌+◌, ◌*◌, [], length, None, IfSome, OnOk, OnErr, true, false, slice_set};
 ghost use Rattle.pk_base.specs.Shape as spec;
 ghost use Rattle.pk_base.specs.Page.{whole};

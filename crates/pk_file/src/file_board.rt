@@ -193,7 +193,7 @@ impl<'a, S: Start> FileBoard<'a, S> {
         }
     }
 
-    /// Sends what was posted and has not left, behind a barrier, and brings the log into the image:
+    /// Sends what was posted and has not left, after a barrier, and brings the log into the image:
     /// the end of a run, without which what was posted last is lost. Success means that all pages
     /// are in the image, and on the disk if they have to be, and that all that was posted was sent.
     pub fn finish(&mut self) -> Result<(), EndFault>
@@ -203,7 +203,7 @@ impl<'a, S: Start> FileBoard<'a, S> {
         ensures written { OnOk result ((self.new.backing.row.extents.items ≡ [])
             × (self.new.output.gathered.items ≡ [])) }
 
-        // What is left by each cause.
+        // What remains after each cause.
         ensures output { result ≡ Err EndFault.Output → self.new.backing.row.extents.items ≡ [] }
         ensures held { result ≡ Err EndFault.Flash → self.new.output ≡ self.old.output }
         ensures sent { result ≡ Err EndFault.Log → self.new.output.gathered.items ≡ [] }

@@ -205,7 +205,7 @@ pub fn end_logged<D: Disk>(redo: &mut RedoLog<D>, shape: &Shape, slots: &Vec<Slo
     }
 }
 
-/// The page that a step programs, whose front stands at a place of the log. Zeros follow it.
+/// The page that a step programs, whose front is at a place of the log. Zeros follow it.
 fn page_in_log(
     alloc: Global,
     shape: &Shape,

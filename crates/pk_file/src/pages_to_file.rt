@@ -151,7 +151,7 @@ fn slots_in(alloc: Global, file: &File, shape: &Shape) -> Result<Vec<Slot>, Load
     }
 }
 
-/// Opens a file and its log, and reads what the log says. What an earlier run left behind the pages
+/// Opens a file and its log, and reads what the log says. What an earlier run left after the pages
 /// of the file is not known.
 fn log_of<S: Start>(
     alloc: Global,
