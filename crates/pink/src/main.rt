@@ -1,7 +1,7 @@
 //! The program: serves a key-value drive in an image file, over standard input and output.
 #![tactic(auto)]
 
-use pk_file::{FileBoard, PageWrites};
+use pk_file::{EndFault, FileBoard, PageWrites};
 use pk_top::{Status, run, run_pair, run_spared};
 use std::env;
 use std::env::VarError;
@@ -44,16 +44,21 @@ fn board_over<'a>(rt: &'a HostRuntime, image: &'a str, writes: PageWrites) -> Fi
     FileBoard::with(rt, image, is_durable(rt), writes)
 }
 
+/// The status of a run that ended so. If what was posted last could not be written, or its pages
+/// could not be brought to the flash, that came before whatever ended the run.
+fn ended(status: Status, end: Result<(), EndFault>) -> Status {
+    match end {
+        Ok(()) => status,
+        Err(EndFault::Flash) => Status::FLASH,
+        Err(EndFault::Output) => Status::OUTPUT,
+    }
+}
+
 /// Does over the image file of this path what the other words ask for.
 fn run_on(rt: &HostRuntime, image: &str, words: &[&str]) -> Status {
     let mut board = board_over(rt, image, PageWrites::Gathered);
     let status = run(rt.alloc(), words, &mut board);
-    // What was posted last may still be buffered. If writing it fails, that came before whatever
-    // ended the run.
-    match board.finish() {
-        Ok(()) => status,
-        Err(_) => Status::OUTPUT,
-    }
+    ended(status, board.finish())
 }
 
 /// Does over the image file of this path, which has spare blocks, what these words ask for; the
@@ -65,10 +70,7 @@ fn run_on_spared(rt: &HostRuntime, image: &str, words: &[&str]) -> Status {
     match remap {
         Some(remap) => {
             let mut board = remap.into_inner();
-            match board.finish() {
-                Ok(()) => status,
-                Err(_) => Status::OUTPUT,
-            }
+            ended(status, board.finish())
         }
         None => status,
     }
@@ -92,11 +94,8 @@ fn run_on_pair(rt: &HostRuntime, image: &str, other: &str, words: &[&str]) -> St
     let mut first = board_over(rt, image, PageWrites::Gathered);
     let mut second = board_over(rt, other, PageWrites::Direct);
     let status = run_pair(rt.alloc(), words, &mut first, &mut second);
-    let (one, two) = (first.finish(), second.finish());
-    match (one, two) {
-        (Ok(()), Ok(())) => status,
-        _ => Status::OUTPUT,
-    }
+    let status = ended(status, second.finish());
+    ended(status, first.finish())
 }
 
 /// Does what the words ask for: of a pair, after its name and the paths of both image files; else

@@ -1,6 +1,7 @@
 //! A board over a file, standard input and standard output. It records neither input, posted bytes
 //! nor trail.
-ghost use Rattle.std.specs.Prelude.{◌≡◌, ◌⊎◌, ◌<◌, ◌≤◌, ◌+◌, ◌*◌, ◌/◌, [], length, Option, None, Some, OnOk, OnErr, true, slice_set};
+ghost use Rattle.std.specs.Prelude.{◌≡◌, ◌<◌, ◌≤◌, ◌+◌, ◌*◌, ◌/◌, ◌++◌, [], length, Option, None, Some, Err, OnOk, OnErr, true, false, slice_set};
+ghost use Rattle.std.specs.Io.KnownBytes.{Appends};
 ghost use Rattle.pk_base.specs.Shape as spec;
 ghost use Rattle.pk_base.specs.Page.{whole};
 ghost use Rattle.pk_base.specs.Mark.{program, erase, after};
@@ -19,6 +20,7 @@ use crate::trimmed::Trimmed;
 use pk_base::Shape;
 use pk_nand::{Board, HostFault, LoadFault, Nand, NandFault, PageRead, raise};
 use std::alloc::Global;
+use std::io::Write;
 use std::rt::{Stdin, Stdout};
 
 /// The image file of a drive, with its pages in memory, and standard input and output.
@@ -130,7 +132,16 @@ fn program_page(
     }
 }
 
-/// Writes the pages that wait to the file.
+/// Why what was posted has not left.
+#[derive(Clone, Copy, Debug, PartialEq, Eq)]
+pub enum EndFault {
+    /// Pages that waited could not be written, or brought to the disk. Nothing leaves after it.
+    Flash,
+    /// The output failed.
+    Output,
+}
+
+/// The barrier before posts leave: writes the pages that wait to the file.
 fn write_waiting(
     file: &mut Option<ImageFile>,
     shape: &Option<Shape>,
@@ -142,31 +153,49 @@ fn write_waiting(
     requires row { row.old.first + length row.old.extents.items ≤ length slots.now.items }
     ensures row { row.new.first + length row.new.extents.items ≤ length slots.now.items }
     ensures none { result ≡ true → row.new.extents.items ≡ [] }
+    ensures kept { result ≡ true → row.new.is_lost ≡ false }
+    ensures lost { row.old.is_lost ≡ true → (result ≡ false) × (row.new.is_lost ≡ true) }
 {
     match (file, shape) {
         (Some(file), Some(shape)) => row.write(file, shape, slots),
-        _ => row.is_empty(),
+        _ => row.is_empty() && !row.is_lost(),
     }
 }
 
-/// The same at the end of a run: a failure that was reported is no new one.
-fn write_last(
+/// Sends what is gathered, and these bytes behind it, once no page waits. If pages that waited were
+/// lost, now or before, nothing leaves.
+fn deliver<W: Write + Drop>(
     file: &mut Option<ImageFile>,
     shape: &Option<Shape>,
     slots: &Vec<Slot>,
     row: &mut Row,
-) -> bool
+    output: &mut Outgoing<W>,
+    bytes: &[u8],
+) -> Result<(), EndFault>
     requires count { length slots.now.items ≡ spec.page_count (shape_or_none shape.now) }
     requires fit { AllFit (shape_or_none shape.now) slots.now.items }
     requires row { row.old.first + length row.old.extents.items ≤ length slots.now.items }
     ensures row { row.new.first + length row.new.extents.items ≤ length slots.now.items }
-    ensures none { result ≡ true
-        → (row.new.extents.items ≡ []) ⊎ (row.old.is_lost ≡ true) }
+
+    // What was posted has left, and no page waits.
+    ensures sent { OnOk result (Appends (W.contents output.old.to) (W.contents output.new.to)
+        (output.old.gathered.items ++ bytes.now)) }
+    ensures none_waits { OnOk result
+        ((row.new.extents.items ≡ []) × (output.new.gathered.items ≡ [])) }
+    ensures written { result ≡ Err EndFault.Output → row.new.extents.items ≡ [] }
+
+    // Nothing has left, nor will.
+    ensures held { result ≡ Err EndFault.Flash → output.new ≡ output.old }
+    ensures lost { row.old.is_lost ≡ true
+        → (result ≡ Err EndFault.Flash) × (row.new.is_lost ≡ true) }
 {
-    if row.is_lost() {
-        return true;
+    if !write_waiting(file, shape, slots, row) {
+        return Err(EndFault::Flash);
     }
-    write_waiting(file, shape, slots, row)
+    match output.send(row, bytes) {
+        Ok(()) => Ok(()),
+        Err(_) => Err(EndFault::Output),
+    }
 }
 
 /// Erases a block in the file and in memory, after the pages that wait were written. A write or
@@ -253,21 +282,30 @@ impl<'a> FileBoard<'a> {
         }
     }
 
-    /// Writes the pages that wait, and sends what was posted and has not left: the end of a run,
-    /// which is lost without this call. A write that failed, now or after the last post, is
-    /// reported here; one of pages that failed before was reported then.
-    pub fn finish(&mut self) -> Result<(), HostFault>
+    /// Sends what was posted and has not left, behind a barrier: the end of a run, without which it
+    /// is lost. Success means that all pages are in the file, and on the disk if they have to be,
+    /// and that all that was posted was sent.
+    pub fn finish(&mut self) -> Result<(), EndFault>
         ensures ok { OnOk result (self.new.out_faults ≡ self.old.out_faults) }
         ensures err { OnErr result (Rose self.old.out_faults self.new.out_faults) }
         ensures flash { (self.new.shape ≡ self.old.shape) × (self.new.slots ≡ self.old.slots) }
         ensures written { OnOk result ((self.new.row.extents.items ≡ [])
-            ⊎ (self.old.row.is_lost ≡ true)) }
+            × (self.new.output.gathered.items ≡ [])) }
+
+        // Pages that waited were lost in this run exactly where this is the cause.
+        ensures output { result ≡ Err EndFault.Output → self.new.row.extents.items ≡ [] }
+        ensures held { result ≡ Err EndFault.Flash → self.new.output ≡ self.old.output }
+        ensures lost { self.old.row.is_lost ≡ true → result ≡ Err EndFault.Flash }
     {
-        if !write_last(&mut self.file, &self.shape, &self.slots, &mut self.row) {
-            raise(&mut self.out_faults);
-            return Err(HostFault { given: 0 });
-        }
-        match self.output.send() {
+        let outcome = deliver(
+            &mut self.file,
+            &self.shape,
+            &self.slots,
+            &mut self.row,
+            &mut self.output,
+            &[],
+        );
+        match outcome {
             Ok(()) => Ok(()),
             Err(fault) => {
                 raise(&mut self.out_faults);
@@ -415,9 +453,16 @@ impl Nand for FileBoard<'_> {
 
 impl Board for FileBoard<'_> {
     fn fetch(&mut self, into: &mut [u8]) -> Result<usize, HostFault> {
-        if self.input.may_wait() {
-            // A write that fails is reported by the next post, or at the end.
-            let _ = self.output.send();
+        if self.input.may_wait() && !self.output.is_empty() {
+            // A failure is reported by the next post, or at the end.
+            let _ = deliver(
+                &mut self.file,
+                &self.shape,
+                &self.slots,
+                &mut self.row,
+                &mut self.output,
+                &[],
+            );
         }
         match self.input.fetch(into) {
             Ok(count) => Ok(count),
@@ -429,11 +474,18 @@ impl Board for FileBoard<'_> {
     }
 
     fn post(&mut self, bytes: &[u8]) -> Result<(), HostFault> {
-        if !write_waiting(&mut self.file, &self.shape, &self.slots, &mut self.row) {
-            raise(&mut self.out_faults);
-            return Err(HostFault { given: 0 });
+        if self.output.gather(bytes) {
+            return Ok(());
         }
-        match self.output.post(bytes) {
+        let outcome = deliver(
+            &mut self.file,
+            &self.shape,
+            &self.slots,
+            &mut self.row,
+            &mut self.output,
+            bytes,
+        );
+        match outcome {
             Ok(()) => Ok(()),
             Err(_) => {
                 raise(&mut self.out_faults);

@@ -1,8 +1,8 @@
 //! A board over an image file, standard input and standard output: the trusted edge of the program.
 //! It meets the contracts of a board with its pages in memory. Pages that are programmed one after
-//! another are written together, before the next change elsewhere and before a post; if it has to
-//! be durable, they are on the disk then. Of a page it writes no byte that the file has, but for a
-//! few zeros between two. It reads ahead and gathers what is posted, and what is posted leaves
+//! another are written together, before the next change elsewhere and before what was posted leaves;
+//! if it has to be durable, they are on the disk then. Of a page it writes no byte that the file
+//! has, but for a few zeros between two. It reads ahead and gathers what is posted, which leaves
 //! before the input may wait. What a file or a terminal does with the bytes is not proved.
 #![tactic(auto)]
 
@@ -20,5 +20,5 @@ mod slot;
 mod slots;
 mod trimmed;
 
-pub use file_board::FileBoard;
+pub use file_board::{EndFault, FileBoard};
 pub use row::PageWrites;

@@ -1,17 +1,20 @@
 //! Posts, gathered until they have to leave.
-ghost use Rattle.std.specs.Prelude.{◌≡◌, [], OnOk};
-ghost use Rattle.std.specs.Io.Buffered.{writer_buffer, writer_contents};
-ghost use Rattle.std.specs.Io.KnownBytes.{Appends, Keeps};
+ghost use Rattle.std.specs.Prelude.{◌≡◌, ◌≤◌, [], ◌++◌, length, true, false, OnOk};
+ghost use Rattle.std.specs.Io.KnownBytes.{Appends};
+ghost use Rattle.pk_file.specs.declared.room.TheConstants.{GATHERED};
 
 use crate::room::GATHERED;
+use crate::row::Row;
 use pk_nand::HostFault;
 use std::alloc::Global;
-use std::io::{BufWriter, Write};
+use std::io;
+use std::io::Write;
 
 /// Whether posts go out.
 #[derive(Clone, Copy, Debug, PartialEq, Eq)]
 enum Stage {
-    /// Nothing was posted. The first post goes out at once, so that an output that is closed is found by it.
+    /// Nothing was posted. The first post goes out at once, so that an output that is closed is
+    /// found by it.
     Untried,
     Open,
     /// A write failed. Nothing follows it, so that what was written remains a prefix of what was
@@ -19,85 +22,100 @@ enum Stage {
     Lost,
 }
 
-/// A writer with its buffer.
+/// A writer, and the posts that it has not got. Only `send` writes to it: what is gathered when
+/// this is dropped has not left.
 #[derive(Drop)]
 pub struct Outgoing<W: Write + Drop> {
-    to: BufWriter<W>,
+    pub to: W,
+    pub gathered: Vec<u8>,
     stage: Stage,
+    ghost few: { length gathered.items ≤ GATHERED },
 }
 
-/// The writer with room for what is gathered. If there is no memory for it each post is written at
-/// once.
-fn buffered<W: Write + Drop + Copy>(alloc: Global, to: W) -> BufWriter<W> {
-    match BufWriter::with_capacity(alloc, GATHERED, to) {
-        Ok(writer) => writer,
-        Err(_) => match BufWriter::with_capacity(alloc, 0, to) {
-            Ok(writer) => writer,
-            Err(_) => unreachable!(),
-        },
+/// Room for what is gathered; none if there is no memory for it.
+fn room(alloc: Global) -> Vec<u8>
+    ensures { result.items ≡ [] }
+{
+    match Vec::with_capacity(alloc, GATHERED) {
+        Ok(room) => room,
+        Err(_) => Vec::new(alloc),
     }
 }
 
-impl<W: Write + Drop + Copy> Outgoing<W> {
-    /// Nothing was posted yet.
-    pub fn new(alloc: Global, to: W) -> Outgoing<W> {
-        Outgoing {
-            to: buffered(alloc, to),
-            stage: Stage::Untried,
-        }
+/// Writes bytes, and others behind them.
+fn write_both<W: Write>(to: &mut W, bytes: &[u8], more: &[u8]) -> io::Result<()>
+    ensures { OnOk result
+        (Appends (W.contents to.old) (W.contents to.new) (bytes.now ++ more.now)) }
+{
+    match to.write_all(bytes) {
+        Ok(()) => {}
+        Err(e) => return Err(e),
     }
+    match to.write_all(more) {
+        Ok(()) => {}
+        Err(e) => return Err(e),
+    }
+    to.flush()
 }
 
 impl<W: Write + Drop> Outgoing<W> {
-    /// Sends what is gathered.
-    pub fn send(&mut self) -> Result<(), HostFault>
-        ensures bytes { OnOk result (Keeps (writer_contents W.contents self.old.to)
-            (writer_contents W.contents self.new.to)) }
-        ensures none_left { OnOk result (writer_buffer self.new.to ≡ []) }
+    /// Nothing was posted yet.
+    pub fn new(alloc: Global, to: W) -> Outgoing<W>
+        ensures { result.gathered.items ≡ [] }
     {
+        Outgoing {
+            to,
+            gathered: room(alloc),
+            stage: Stage::Untried,
+        }
+    }
+
+    /// Whether no post waits.
+    pub fn is_empty(&self) -> bool
+        ensures { result ≡ true → self.now.gathered.items ≡ [] }
+    {
+        self.gathered.is_empty()
+    }
+
+    /// Adds bytes to those that leave with the next that is sent. Those that have no room, and the
+    /// first, have to be sent at once.
+    pub fn gather(&mut self, bytes: &[u8]) -> bool
+        ensures gathered { result ≡ true
+            → self.new.gathered.items ≡ self.old.gathered.items ++ bytes.now }
+        ensures refused { result ≡ false → self.new.gathered.items ≡ self.old.gathered.items }
+        ensures none_left { self.new.to ≡ self.old.to }
+    {
+        if self.stage != Stage::Open || bytes.len() > GATHERED - self.gathered.len() {
+            return false;
+        }
+        self.gathered.extend_from_slice(bytes).is_ok()
+    }
+
+    /// Sends what is gathered, and these bytes behind it, where no page waits for the file and none
+    /// that waited was lost. After a write that failed nothing more is written.
+    pub fn send(&mut self, row: &Row, bytes: &[u8]) -> Result<(), HostFault>
+        requires none_waits { row.now.extents.items ≡ [] }
+        requires none_lost { row.now.is_lost ≡ false }
+        ensures sent { OnOk result (Appends (W.contents self.old.to) (W.contents self.new.to)
+            (self.old.gathered.items ++ bytes.now)) }
+        ensures none_waits { self.new.gathered.items ≡ [] }
+    {
+        let _ = row;
         if self.stage == Stage::Lost {
+            self.gathered.clear();
             return Err(HostFault { given: 0 });
         }
-        match self.to.flush() {
-            Ok(()) => Ok(()),
+        let outcome = write_both(&mut self.to, self.gathered.as_slice(), bytes);
+        self.gathered.clear();
+        match outcome {
+            Ok(()) => {
+                self.stage = Stage::Open;
+                Ok(())
+            }
             Err(_) => {
                 self.stage = Stage::Lost;
                 Err(HostFault { given: 0 })
             }
         }
-    }
-
-    /// Adds bytes after those that were posted.
-    fn gather(&mut self, bytes: &[u8]) -> Result<(), HostFault>
-        ensures { OnOk result (Appends (writer_contents W.contents self.old.to)
-            (writer_contents W.contents self.new.to) bytes.now) }
-    {
-        if self.stage == Stage::Lost {
-            return Err(HostFault { given: 0 });
-        }
-        match self.to.write_all(bytes) {
-            Ok(()) => Ok(()),
-            Err(_) => {
-                self.stage = Stage::Lost;
-                Err(HostFault { given: 0 })
-            }
-        }
-    }
-
-    /// Posts bytes: they follow all that was posted before, and are written with the next that is
-    /// sent.
-    pub fn post(&mut self, bytes: &[u8]) -> Result<(), HostFault>
-        ensures { OnOk result (Appends (writer_contents W.contents self.old.to)
-            (writer_contents W.contents self.new.to) bytes.now) }
-    {
-        match self.gather(bytes) {
-            Ok(()) => {}
-            Err(fault) => return Err(fault),
-        }
-        if self.stage == Stage::Open {
-            return Ok(());
-        }
-        self.stage = Stage::Open;
-        self.send()
     }
 }

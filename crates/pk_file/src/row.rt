@@ -185,6 +185,7 @@ impl Row {
             × (F.steps file.new ≡ F.steps file.old) }
         ensures stops { result ≡ false → self.old.writes ≡ PageWrites.Gathered
             → self.new.is_lost ≡ true }
+        ensures kept { result ≡ true → self.new.is_lost ≡ false }
         ensures writes { self.new.writes ≡ self.old.writes }
     {
         if self.is_lost {
