@@ -236,6 +236,11 @@ class Reading(OnLog):
         self.assertEqual(([it["code"] for it in found["doubts"]], found["log"]["batches"]), (["log-broken"], 0))
         self.assertIn("is not whole and one after it is", found["text"])
 
+    def test_what_was_there_before_the_log_was_emptied(self):
+        self.with_log(log_of(record(STATES), STORE) + ROOM + DELETE)
+        self.assertEqual(self.keys(), {A: b"abc"})
+        self.assertEqual((self.check()["log"]["rest"], self.check()["verdict"]), (0, "whole"))
+
     def test_logs_that_say_nothing(self):
         for data in (b"", b"\0", b"\0" + LOG[1:], LOG[:16], LOG[:16] + ROOM, b"\x51" + LOG[1:], log_of(record(STATES)) + ROOM):
             self.with_log(data)

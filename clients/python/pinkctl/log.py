@@ -22,6 +22,7 @@ BATCH_HEAD = struct.Struct("<BII")
 """1, the length of the batch, its count."""
 STEP_HEAD = struct.Struct("<II")
 """The page or the block, the length of the page's front."""
+ROW_OF_ZEROS = bytes(4096)
 SAID = bytes((ERASED, WHOLE)) + bytes((TORN,)) * 254
 """The state that each state byte says."""
 
@@ -48,8 +49,8 @@ class Step(NamedTuple):
 class Log:
     """The whole batches of a log, the first of which is the record.
 
-    `rest` is the number of bytes after the last one, without the zeros at their end; `broken` says that a whole batch is among them,
-    which no crash leaves.
+    `rest` is the number of bytes directly after the last one that are no whole batch; `broken` says that a whole batch follows them, as
+    no crash leaves it. After a row of zeros there may be batches from before the log was emptied, which nobody reads.
     """
 
     path: str
@@ -102,7 +103,7 @@ def log_in(data: bytes, path: str) -> Log:
     while (body := batch_at(data, at)) is not None:
         batches.append(body)
         at += BATCH_HEAD.size + len(body)
-    rest = len(data[at:].rstrip(b"\0"))
+    rest = len(data[at:].partition(ROW_OF_ZEROS)[0].rstrip(b"\0"))
     named = BATCH_HEAD.unpack_from(data, at)[1] if rest and len(data) >= at + BATCH_HEAD.size else 0
     return Log(path, batches, rest, bool(named) and batch_at(data, at + BATCH_HEAD.size + named) is not None)
 
