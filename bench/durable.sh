@@ -377,15 +377,18 @@ for sync in '0', '1':
         before = serve.stdout.read(2 * RECORD)
         os.truncate(image, length)
         short = content()
-        serve.stdin.write(entry(RETRIEVE, b'key01', 3) + entry(STORE, b'key02', 3) + b'def' + entry(FLUSH))
+        serve.stdin.write(entry(RETRIEVE, b'key01', 3))
+        serve.stdin.flush()
+        found = serve.stdout.read(RECORD + 3)
+        serve.stdin.write(entry(STORE, b'key02', 3) + b'def' + entry(FLUSH))
         serve.stdin.close()
         behind = serve.stdout.read()
         status = serve.wait(timeout=60)
-        if status != 6 or behind[RECORD:] != b'abc' or content() != short:
-            sys.exit(f'durable: cut to {length} bytes: status {status}, {behind!r}')
+        if status != 6 or found[RECORD:] != b'abc' or behind or content() != short:
+            sys.exit(f'durable: cut to {length} bytes: status {status}, {found!r}, {behind!r}')
         if run(['list'])[0] != 8:
             sys.exit(f'durable: an image of {length} bytes is opened')
-print('  status 6 at the next change and nothing written; what was stored before was answered; it is no drive after it (8)')
+print('  status 6 at the next change, nothing written and nothing answered after it; it is no drive after it (8)')
 
 print('the variable')
 for value, wanted in [('0', 0), ('1', 0), ('2', 2), ('', 2), ('yes', 2)]:

@@ -198,6 +198,27 @@ fn deliver<W: Write + Drop>(
     }
 }
 
+/// Sends what is gathered if the input may wait. A failure is reported by the next post, or at
+/// the end.
+fn deliver_gathered<W: Write + Drop>(
+    may_wait: bool,
+    file: &mut Option<ImageFile>,
+    shape: &Option<Shape>,
+    slots: &Vec<Slot>,
+    row: &mut Row,
+    output: &mut Outgoing<W>,
+)
+    requires count { length slots.now.items ≡ spec.page_count (shape_or_none shape.now) }
+    requires fit { AllFit (shape_or_none shape.now) slots.now.items }
+    requires row { row.old.first + length row.old.extents.items ≤ length slots.now.items }
+    ensures { row.new.first + length row.new.extents.items ≤ length slots.now.items }
+{
+    if !may_wait || output.is_empty() {
+        return;
+    }
+    let _ = deliver(file, shape, slots, row, output, &[]);
+}
+
 /// Erases a block in the file and in memory, after the pages that wait were written. A write or
 /// sync that fails erases the pages whose state bytes were set.
 fn erase_block(
@@ -453,17 +474,14 @@ impl Nand for FileBoard<'_> {
 
 impl Board for FileBoard<'_> {
     fn fetch(&mut self, into: &mut [u8]) -> Result<usize, HostFault> {
-        if self.input.may_wait() && !self.output.is_empty() {
-            // A failure is reported by the next post, or at the end.
-            let _ = deliver(
-                &mut self.file,
-                &self.shape,
-                &self.slots,
-                &mut self.row,
-                &mut self.output,
-                &[],
-            );
-        }
+        deliver_gathered(
+            self.input.may_wait(),
+            &mut self.file,
+            &self.shape,
+            &self.slots,
+            &mut self.row,
+            &mut self.output,
+        );
         match self.input.fetch(into) {
             Ok(count) => Ok(count),
             Err(_) => {
