@@ -61,6 +61,8 @@ def drive_error(error: pinkdrive.DriveError) -> Exit:
     """The exit status for an error of the drive or of its program."""
     if isinstance(error, pinkdrive.KeyDoesNotExist):
         return Exit.MISSING
+    if isinstance(error, pinkdrive.DriveEnded) and error.kind == "log":
+        return Exit.DAMAGED
     if isinstance(error, pinkdrive.DriveEnded):
         return {6: Exit.IN_USE, 8: Exit.DAMAGED, 9: Exit.EXISTS}.get(error.status, Exit.PROGRAM)
     return Exit.REFUSED
