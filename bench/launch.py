@@ -158,6 +158,32 @@ def unmade(folder, image):
     says([place, 'list'], 8, 'is damaged, or its making was broken off; see pinkctl check', env={'PATH': bare})
 
 
+def logs(folder, image):
+    """A log that does not fit its image, and one that is left without it; each also without Python."""
+    log, second, bare = os.path.realpath(image) + '-wal', folder + '/second', {'PATH': folder + '/bare'}
+    zeros = bytes(288)  # no record of any image
+    with open(log, 'wb') as it:
+        it.write(b'\x50' + bytes(15) + b'\1' + (288).to_bytes(4, 'little') + (288 + 2 * (2**30 - 288)).to_bytes(4, 'little') + zeros)
+    says([image, 'list'], 6, f'{log} is not the log of this image')
+    os.link(image, second)
+    says([image, 'list'], 6, f'{image} has 2 names (hard links)')
+    says([image, 'list'], 6, 'several names (hard links)', env=bare)
+    os.unlink(second)
+    os.rename(image, second)
+    says([image, 'list'], 8, f'there is no file {image}, but {log} is there')
+    says([image, 'list'], 8, f'there is no file {image}, but {log} is there', env=bare)
+    os.rename(second, image)
+    os.unlink(log)
+    os.mkdir(log)
+    says([image, 'list'], 6, f'{log}, the log of {image}, cannot be read')
+    says([image, 'list'], 6, 'is no file of its own', env=bare)
+    os.rmdir(log)
+    open(log, 'wb').close()
+    check('an empty log says nothing', run(PINK, image, 'list')[0] == 0)
+    if os.path.exists(log):
+        os.unlink(log)
+
+
 def gone(image):
     """The process that had the image open has ended before its words were read, and a kit that is not there."""
     shell = f'. "{TOP}/launch/why.sh"; seen() {{ return 1; }}; user_of() {{ echo 999999999; }}; flash_fault "{image}" list'
@@ -394,6 +420,7 @@ with tempfile.TemporaryDirectory() as folder:
     image = folder + '/drive.img'
     check('make', run(PINK, image, 'make', '512', '16', '64') == (0, '', ''))
     causes(folder, image)
+    logs(folder, image)
     gone(image)
     words(image)
     pairs(folder, image)

@@ -427,8 +427,8 @@ def cause_of(status: int, image: Path, words: Sequence[str] = ("serve",)) -> Opt
         except ValueError:
             name = "unknown"
         return f"ended by signal {number} ({name}); what was answered is on the flash"
-    if status == 2 and os.environ.get("PINK_SYNC", "0") not in ("0", "1"):
-        return "PINK_SYNC is in the environment and neither 0 nor 1"
+    if status == 2 and os.environ.get("PINK_SYNC", "0") not in ("0", "1", "2"):
+        return "PINK_SYNC is in the environment and none of 0, 1 and 2"
     if status == 2 and making:
         shape, limits = Shape(*map(int, words[1:4])), list(map(int, words[4:]))
         return _shape_fault(spares, shape) or limits_fault(shape, limits)

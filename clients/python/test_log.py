@@ -8,6 +8,7 @@ import fcntl
 import io
 import json
 import os
+import re
 import sys
 import tempfile
 import unittest
@@ -300,6 +301,22 @@ class Reading(OnLog):
         os.unlink(self.log)
         os.mkdir(self.log)
         self.assertIn("cannot be read", self.cause(6))
+
+
+class TheDocument(OnLog):
+    def test_the_log_of_formats(self):
+        """The dump in FORMATS is the log that the text before it says."""
+        path = os.path.join(HERE, "..", "..", "docs", "FORMATS.md")
+        with open(path, encoding="utf-8") as file:
+            text = file.read()
+        part = text[text.index("## The log of an image") :].partition("\n## ")[0]
+        wanted = log_of(record(STATES), batch(erase(4) + program(64, VALUE)))
+        shown = bytearray(len(wanted) + 16)
+        rows = re.findall(r"^([0-9a-f]{4})  ((?:[0-9a-f]{2} ){16}) ", part, re.MULTILINE)
+        for place, row in rows:
+            put(shown, int(place, 16), bytes.fromhex(row))
+        self.assertEqual(len(rows), 9)
+        self.assertEqual(bytes(shown).rstrip(b"\0"), wanted)
 
 
 class Salvage(OnLog):

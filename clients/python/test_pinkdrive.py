@@ -676,7 +676,7 @@ class Messages(OnImage):
 
     def test_a_wrong_variable(self):
         with mock.patch.dict(os.environ, {"PINK_SYNC": "yes"}):
-            self.assertIn("PINK_SYNC is in the environment and neither 0 nor 1", self.cause(self.open))
+            self.assertIn("PINK_SYNC is in the environment and none of 0, 1 and 2", self.cause(self.open))
             self.assertIn("PINK_SYNC", self.cause(lambda: make(self.image + "2", *SMALL, program=PROGRAM)))
 
     def test_spare_blocks_that_were_not_named(self):
