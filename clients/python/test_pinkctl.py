@@ -231,7 +231,7 @@ class Check(OnImage):
             (b"x" * 600000, "(600000 bytes) is no image of a drive (byte 0)"),
             (bytes(8) + whole[8:], "was broken off before its head had its text (byte 0)"),
             (whole[:300000], "has 300000 bytes, and by its head it should have 525344 (byte 32)"),
-            (whole[:8] + b"\1" + whole[9:], "a page of 513 bytes: it has to be"),
+            (whole[:8] + b"\1" + whole[9:], "a page has 512, 1024, 2048, 4096, 8192 or 16384 bytes, not 513"),
             (whole[:40] + b"\3" + whole[41:], "the state of page 8 is 3 (byte 40)"),
         ):
             with open(self.image, "wb") as file:
