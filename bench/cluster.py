@@ -4,6 +4,7 @@ import binascii
 import glob
 import os
 import random
+import shutil
 import signal
 import subprocess
 import sys
@@ -17,7 +18,7 @@ sys.path.insert(0, CLIENTS)
 from pinkctl.nodes import Node, owner  # noqa: E402
 from pinkctl.status import ToolError  # noqa: E402
 
-PORT, TIMEOUT = 7600, 3000
+PORT, SHORT, LONG = int(os.environ.get('PINK_TEST_PORT', 7600)), 3000, 15000
 TAGS = [f's{number}' for number in range(8)]
 """All keys of the writers have one of these tags, and so are in eight slots."""
 checks = 0
@@ -30,7 +31,7 @@ def check(what, holds, *more):
         sys.exit(f'cluster.py: failed after {checks - 1} checks: {what} {more if more else ""}')
 
 
-def until(what, holds, seconds=60):
+def until(what, holds, seconds=300):
     last = time.monotonic() + seconds
     while not holds():
         check(what, time.monotonic() < last)
@@ -100,7 +101,7 @@ def try_smaller(folder):
     it, last = primary.link(), 0
     for number in range(1000):
         check('the primary takes it', it.sure('SET', f'key:{number}', 'x' * 8000) == 'OK')
-        last = it.sure('WAIT', 1, 300)
+        last = it.sure('WAIT', 1, 10000)
         if not last:
             break
     check('WAIT no longer counts the replica', last == 0 and number > 20)
@@ -224,11 +225,11 @@ def pinkctl(*words, wanted=0):
 
 
 class Cluster:
-    """Three primaries and their replicas."""
+    """Three primaries and their replicas; a server that is silent for `timeout` ms counts as failed."""
 
-    def __init__(self, folder, port):
+    def __init__(self, folder, port, timeout):
         self.folder = folder + '/cluster'
-        pinkctl('make', self.folder, 3, 4096, 64, 512, '--port', port, '--timeout', TIMEOUT)
+        pinkctl('make', self.folder, 3, 4096, 64, 512, '--port', port, '--timeout', timeout)
         self.ports = range(port, port + 6)
         pinkctl('start', self.folder)
 
@@ -267,7 +268,7 @@ class Cluster:
             return False
 
     def check(self):
-        until('the cluster is whole', self.is_whole, 90)
+        until('the cluster is whole', self.is_whole)
         told = pinkctl('check', self.folder)
         check('three pairs were compared', told.count(', 0 differ') == 3, told)
 
@@ -364,7 +365,7 @@ def with_writers(cluster, count, wait, act):
         it.stop = True
     for it in writers:
         it.join(60)
-    until('the cluster is whole', cluster.is_whole, 90)
+    until('the cluster is whole', cluster.is_whole)
     lost = [it for writer in writers for it in writer.lost()]
     check('nothing that was answered is lost', not lost, lost[:5])
     check('no read was wrong', not sum(it.wrong for it in writers), [it.wrong for it in writers])
@@ -377,7 +378,7 @@ def try_failures(cluster, kills):
 
     def act():
         for turn in range(kills):
-            until('the cluster is whole', cluster.is_whole, 90)
+            until('the cluster is whole', cluster.is_whole)
             time.sleep(0.5)
             victim = random.choice(sorted(cluster.primaries()))
             with Node(victim) as node:
@@ -395,22 +396,38 @@ def try_failures(cluster, kills):
     return f'{kills} primaries killed, replaced in {min(times):.1f} to {max(times):.1f} s: {answered} changes answered with WAIT 1, {keys} keys looked at, none lost'
 
 
+def fail_over(port):
+    """CLUSTER FAILOVER at a replica."""
+    with Node(port) as node:
+        for _ in range(20):  # a busy machine may be too slow for the votes: then Redis gives up
+            node.do('CLUSTER', 'FAILOVER')
+            last = time.monotonic() + 8
+            while node.info('replication')['role'] != 'master' and time.monotonic() < last:
+                time.sleep(0.02)
+            if node.info('replication')['role'] == 'master':
+                break
+        check('the replica takes over', node.info('replication')['role'] == 'master')
+
+
 def try_planned(cluster, turns):
-    """CLUSTER FAILOVER under writers."""
+    """Planned failovers under writers.
+
+    Within four times the timeout after its last election Redis 7.0.15 lets a server take over by the votes of that election, with
+    its old epoch, and takes that back at once. So no server takes over twice within that time.
+    """
+    pause = 4 * SHORT / 1000 + 1
+    since = {}
 
     def act():
         for turn in range(turns):
-            until('the cluster is whole', cluster.is_whole, 90)
-            replica, primary = random.choice(sorted(cluster.replicas().items()))
-            with Node(replica) as node:
-                for _ in range(20):  # a busy machine may be too slow for the votes: then Redis gives up
-                    node.do('CLUSTER', 'FAILOVER')
-                    last = time.monotonic() + 8
-                    while node.info('replication')['role'] != 'master' and time.monotonic() < last:
-                        time.sleep(0.02)
-                    if node.info('replication')['role'] == 'master':
-                        break
-                check('the replica takes over', node.info('replication')['role'] == 'master')
+            until('the cluster is whole', cluster.is_whole)
+            rested = []
+            while not rested:
+                rested = [port for port in sorted(cluster.replicas()) if time.monotonic() - since.get(port, -pause) >= pause]
+                time.sleep(0.1)
+            replica = random.choice(rested)
+            fail_over(replica)
+            since[replica] = time.monotonic()
             print(f'\r{turn + 1} of {turns} planned failovers', end='', file=sys.stderr)
             time.sleep(0.5)
         print(file=sys.stderr)
@@ -439,12 +456,13 @@ def end_move(cluster, kill):
     """Ends a move that a kill broke off; False if there was none. A busy machine may take too long for a pause: then it is run again."""
     if not os.path.exists(cluster.folder + '/move.json'):
         return False
-    last = time.monotonic() + 60
+    last = time.monotonic() + 300
     while True:
+        until('the cluster is whole', cluster.is_whole)
         run = subprocess.run([TOP + '/pinkctl', 'cluster', 'move-slots', cluster.folder], capture_output=True, text=True)
         if run.returncode == 0:
             return True
-        is_slow = 'took more than' in run.stderr and time.monotonic() < last
+        is_slow = ('took more than' in run.stderr or 'CLUSTERDOWN' in run.stderr) and time.monotonic() < last
         check(f'a second run ends the move that was broken off by a kill {kill}', is_slow, run.stderr)
 
 
@@ -494,7 +512,7 @@ def try_move_steps(cluster, kinds, stride):
         def act(kind=kind):
             step, ends = random.randint(1, stride), 0
             while ends < 2:  # until a move came to its end before that step, twice
-                until('the cluster is whole', cluster.is_whole, 90)
+                until('the cluster is whole', cluster.is_whole)
                 slot, source, target = a_move(cluster)
                 said = broken_move(cluster, step, {'tool': 0, 'source': source, 'target': target}[kind], source, target, slot)
                 if kind != 'tool':
@@ -551,9 +569,9 @@ def slot_of(name):
     return binascii.crc_hqx(name.encode(), 0) % 16384
 
 
-def try_cluster(folder, port, *parts):
+def try_cluster(folder, port, timeout, *parts):
     """These parts, on a cluster of their own."""
-    cluster = Cluster(folder, port)
+    cluster = Cluster(folder, port, timeout)
     try:
         refused = subprocess.run(['redis-cli', '-p', str(port), 'CLUSTER', 'SETSLOT', '1', 'MIGRATING', '0' * 40], capture_output=True, text=True).stdout
         check('slots are not moved by redis-cli', 'unknown command' in refused, refused)
@@ -574,20 +592,20 @@ def try_pairs(folder, kills):
 
 
 def all_moves(folder, kills):
-    try_cluster(folder, PORT + 10, lambda it: try_changes_of_a_pause(it, kills), lambda it: try_moves(it, 2 * kills))
+    try_cluster(folder, PORT + 10, LONG, lambda it: try_changes_of_a_pause(it, kills), lambda it: try_moves(it, 2 * kills))
 
 
 def all_steps(folder, kills):
     stride = max(1, 20 // kills)
-    try_cluster(folder, PORT + 20, lambda it: try_move_steps(it, ['tool'], stride), lambda it: try_move_steps(it, ['source', 'target'], 8 * stride))
+    try_cluster(folder, PORT + 20, LONG, lambda it: try_move_steps(it, ['tool'], stride), lambda it: try_move_steps(it, ['source', 'target'], 8 * stride))
 
 
 def all_planned(folder, kills):
-    try_cluster(folder, PORT + 30, lambda it: try_planned(it, kills))
+    try_cluster(folder, PORT + 30, SHORT, lambda it: try_planned(it, kills))
 
 
 def all_kills(folder, kills):
-    try_cluster(folder, PORT + 40, lambda it: try_failures(it, kills))
+    try_cluster(folder, PORT + 40, SHORT, lambda it: try_failures(it, kills))
 
 
 PARTS = {'pairs': try_pairs, 'moves': all_moves, 'steps': all_steps, 'planned': all_planned, 'kills': all_kills}
@@ -596,8 +614,13 @@ PARTS = {'pairs': try_pairs, 'moves': all_moves, 'steps': all_steps, 'planned': 
 
 def try_part(kills, name):
     random.seed(kills)
-    with tempfile.TemporaryDirectory() as folder:
+    folder = tempfile.mkdtemp()
+    try:
         PARTS[name](folder, kills)
+    except BaseException:
+        print(f'{name}: what the servers said is in {folder}', flush=True)
+        raise
+    shutil.rmtree(folder)
     print(f'{name}: {checks} checks passed', flush=True)
 
 

@@ -146,7 +146,7 @@ class Server:
             self.process = subprocess.Popen(self.command(), stdout=nothing, stderr=said, start_new_session=True, env={**os.environ, **more})
         atexit.register(self.kill)
 
-    def wait_up(self, seconds=60):
+    def wait_up(self, seconds=300):
         last = time.monotonic() + seconds
         while time.monotonic() < last:
             try:
