@@ -17,8 +17,12 @@ returns-in-Ok-clause-keeps g c = λ clean kept now k.
       base = k.base;
       marks = k.marks ++ k.later;
       later = [];
-      files = record { stands = says_stands g.D.Disk c.commit_pending.new.log self.shape k.base (k.marks ++ k.later) _ _ (omega (arith, len, fits.1)) says;
-        ready = λ is. says; within = done.1; header = k.files.header };
+      files = record {
+        stands = says_stands g.D.Disk c.commit_pending.new.log self.shape k.base (k.marks ++ k.later) _ _ (omega (arith, len, fits.1)) says;
+        ready = λ is. says;
+        within = done.1;
+        header = k.files.header;
+      };
       batch = sym c.clear.ensures.filled;
       is_kept = all_after g.D.Disk self kept now k;
       is_now = refl;
@@ -37,8 +41,12 @@ returns-in-Ok-clause-done g c = λ clean kept now k.
       base = k.base;
       marks = k.marks ++ k.later;
       later = [];
-      files = record { stands = says_stands g.D.Disk c.commit_pending.new.log self.shape k.base (k.marks ++ k.later) _ _ (omega (arith, len, fits.1)) says;
-        ready = λ is. says; within = done.1; header = k.files.header };
+      files = record {
+        stands = says_stands g.D.Disk c.commit_pending.new.log self.shape k.base (k.marks ++ k.later) _ _ (omega (arith, len, fits.1)) says;
+        ready = λ is. says;
+        within = done.1;
+        header = k.files.header;
+      };
       batch = sym c.clear.ensures.filled;
       is_kept = all_after g.D.Disk self kept now k;
       is_now = refl;
