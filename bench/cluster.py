@@ -18,7 +18,7 @@ sys.path.insert(0, CLIENTS)
 from pinkctl.nodes import Node, owner  # noqa: E402
 from pinkctl.status import ToolError  # noqa: E402
 
-PORT, SHORT, LONG = 7600, 3000, 15000
+PORT, SHORT, LONG = int(os.environ.get('PINK_TEST_PORT', 7600)), 3000, 15000
 TAGS = [f's{number}' for number in range(8)]
 """All keys of the writers have one of these tags, and so are in eight slots."""
 checks = 0
@@ -396,22 +396,38 @@ def try_failures(cluster, kills):
     return f'{kills} primaries killed, replaced in {min(times):.1f} to {max(times):.1f} s: {answered} changes answered with WAIT 1, {keys} keys looked at, none lost'
 
 
+def fail_over(port):
+    """CLUSTER FAILOVER at a replica."""
+    with Node(port) as node:
+        for _ in range(20):  # a busy machine may be too slow for the votes: then Redis gives up
+            node.do('CLUSTER', 'FAILOVER')
+            last = time.monotonic() + 8
+            while node.info('replication')['role'] != 'master' and time.monotonic() < last:
+                time.sleep(0.02)
+            if node.info('replication')['role'] == 'master':
+                break
+        check('the replica takes over', node.info('replication')['role'] == 'master')
+
+
 def try_planned(cluster, turns):
-    """CLUSTER FAILOVER under writers."""
+    """Planned failovers under writers.
+
+    Within four times the timeout after its last election Redis 7.0.15 lets a server take over by the votes of that election, with
+    its old epoch, and takes that back at once. So no server takes over twice within that time.
+    """
+    pause = 4 * SHORT / 1000 + 1
+    since = {}
 
     def act():
         for turn in range(turns):
             until('the cluster is whole', cluster.is_whole)
-            replica, primary = random.choice(sorted(cluster.replicas().items()))
-            with Node(replica) as node:
-                for _ in range(20):  # a busy machine may be too slow for the votes: then Redis gives up
-                    node.do('CLUSTER', 'FAILOVER')
-                    last = time.monotonic() + 8
-                    while node.info('replication')['role'] != 'master' and time.monotonic() < last:
-                        time.sleep(0.02)
-                    if node.info('replication')['role'] == 'master':
-                        break
-                check('the replica takes over', node.info('replication')['role'] == 'master')
+            rested = []
+            while not rested:
+                rested = [port for port in sorted(cluster.replicas()) if time.monotonic() - since.get(port, -pause) >= pause]
+                time.sleep(0.1)
+            replica = random.choice(rested)
+            fail_over(replica)
+            since[replica] = time.monotonic()
             print(f'\r{turn + 1} of {turns} planned failovers', end='', file=sys.stderr)
             time.sleep(0.5)
         print(file=sys.stderr)

@@ -5,7 +5,7 @@
 # It is not part of the gate.
 #
 #   bench/cluster.sh [KILLS [PART..]]     20 kills and 20 planned failovers by default; the parts pairs, moves, steps, planned, kills
-#                                run at once, or those that are named
+#                                run at once, or those that are named; PINK_TEST_PORT is the first of 50 ports, 7600 by default
 set -eu
 top=$(CDPATH='' cd -- "$(dirname -- "$0")/.." && pwd)
 exec python3 "$top/bench/cluster.py" "$@"
