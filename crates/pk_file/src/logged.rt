@@ -45,8 +45,9 @@ impl Pages for SlotPages<'_> {
 
     fn front(&self, page: u32) -> &[u8] {
         match &self.slots[page as usize] {
+            Slot::Erased { .. } => &[],
             Slot::Whole(kept) => kept.front.as_slice(),
-            _ => &[],
+            Slot::Torn { .. } => &[],
         }
     }
 }
