@@ -94,7 +94,12 @@ fn run_on<D: OpenDisk>(rt: &HostRuntime, image: &str, words: &[&str], syncs: Syn
 /// Does over the image file of this path, which has spare blocks, what these words ask for; the
 /// first of them says so. A block is moved when a program of it fails, so each page is written by
 /// its program.
-fn run_on_spared<D: OpenDisk>(rt: &HostRuntime, image: &str, words: &[&str], syncs: Syncs) -> Status {
+fn run_on_spared<D: OpenDisk>(
+    rt: &HostRuntime,
+    image: &str,
+    words: &[&str],
+    syncs: Syncs,
+) -> Status {
     let board = FileBoard::<D>::with(rt, image, syncs.direct());
     let (status, remap) = run_spared(rt.alloc(), words, board, 0);
     match remap {

@@ -161,7 +161,6 @@ impl<'a> FileBoard<'a, DiskFile<Unknown>> {
     {
         FileBoard::with(rt, path, Keeping::Rows)
     }
-
 }
 
 impl<'a, D: OpenDisk> FileBoard<'a, D> {
@@ -316,7 +315,10 @@ impl<D: OpenDisk> Nand for FileBoard<'_, D> {
 
     fn program(&mut self, page: u32, bytes: &[u8]) -> Result<(), NandFault> {
         raise(&mut self.programs);
-        match self.backing.program(&self.shape, &mut self.slots, page, bytes) {
+        match self
+            .backing
+            .program(&self.shape, &mut self.slots, page, bytes)
+        {
             Ok(()) => Ok(()),
             Err(_) => {
                 raise(&mut self.flash_faults);

@@ -82,10 +82,7 @@ pub fn open_log<D: OpenDisk>(
     };
     let sizes = LogSizes::usual(&shape);
     match RedoLog::new(alloc, disk, image, shape, &replay, extents, sizes) {
-        Ok(redo) => Ok((
-            ImageLog { redo, shape, path },
-            replay,
-        )),
+        Ok(redo) => Ok((ImageLog { redo, shape, path }, replay)),
         Err(_) => Err(LoadFault::Memory),
     }
 }

@@ -296,7 +296,14 @@ pub fn replay_steps(
     };
     let log = replay.bytes.as_slice();
     for i in 0..replay.steps.len() {
-        match replay_step(alloc, shape, slots, log, &replay.steps[i], room.as_mut_slice()) {
+        match replay_step(
+            alloc,
+            shape,
+            slots,
+            log,
+            &replay.steps[i],
+            room.as_mut_slice(),
+        ) {
             Ok(()) => {}
             Err(fault) => return Err(fault),
         }

@@ -89,18 +89,14 @@ pub struct RedoLog<D: Disk> {
     pub(crate) page: Vec<u8>,
     /// Zeros that are written ahead.
     pub(crate) blank: Vec<u8>,
-    ghost sizes: {
-        (length lacks.items ≡ spec.page_count shape)
+    ghost sizes: { (length lacks.items ≡ spec.page_count shape)
         × (length extents.items ≡ spec.page_count shape)
         × (length states.items ≡ spec.page_count shape)
         × (length record.items ≡ BATCH_HEAD + record_size shape)
-        × (length page.items ≡ shape.page_bytes)
-    },
+        × (length page.items ≡ shape.page_bytes) },
     ghost zeros: { (i : ℕ) → i < length blank.items → slice_index blank.items i ≡ 0 },
-    ghost step: {
-        (BATCH_HEAD + STEP_BYTES + shape.page_bytes < length blank.items)
-        × (BATCH_HEAD + STEP_BYTES + shape.page_bytes ≤ length batch.bytes.items)
-    },
+    ghost step: { (BATCH_HEAD + STEP_BYTES + shape.page_bytes < length blank.items)
+        × (BATCH_HEAD + STEP_BYTES + shape.page_bytes ≤ length batch.bytes.items) },
     ghost most: { (room < 2 ^ 62) × (limit ≤ MOST_BATCH) × (length blank.items ≤ MOST_BATCH) },
     ghost fits: { batch.filled ≢ BATCH_HEAD
         → (state ≡ LogState.Ready) × (end + batch.filled < room) },

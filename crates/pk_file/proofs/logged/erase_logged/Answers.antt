@@ -36,7 +36,7 @@ returns-clause-keeps g c clean start trail least k =
     let same : c.ready.new.self.shape ≡ shape = c.ready.ensures.shape ∙ c.requires.shape in
     let before = subst (λ (d : g.row.D.Denot). IsTrue (g.D.Disk.is_clean d)) c.erase.ensures.disks.0 clean in
     let mid = call_kept g.D.Disk shape start trail least c.args.redo.now c.ready.new.self pages c.ready.ensures.shape k
-        (λ kept h. c.ready.ensures.keeps before kept pages h refl) c.in-Ok.ensures.room.ready in
+    (λ kept h. c.ready.ensures.keeps before kept pages h refl) c.in-Ok.ensures.room.ready in
     keeps_more g.D.Disk shape start trail least c.ready.new.self c.erase.new.self (erase c.args.block) pages (pages_of c.erase_slots.new.slots.items)
     (c.erase.ensures.shape ∙ same) mid
     (λ kept h. subst (λ (s : Shape). KeepsPages {D = g.row.D.Denot} g.D.Disk c.erase.new.self kept (after s (erase c.args.block) pages)) same (c.erase.ensures.keeps kept pages h))

@@ -28,8 +28,8 @@ pub returns-clause-fit : goal.returns-clause-fit
 returns-clause-fit g c =
     let shape : Shape = c.args.shape.now in
     c.set_slot.ensures.fit shape c.requires.fit (λ bs e.
-        let same : bytes_in c.in-Ok.kept ≡ bs = cc in
-        subst (λ (b : List ℕ). IsPage shape b) (sym c.in-Ok.ensures ∙ same) (c.requires.full, c.known.ensures))
+    let same : bytes_in c.in-Ok.kept ≡ bs = cc in
+    subst (λ (b : List ℕ). IsPage shape b) (sym c.in-Ok.ensures ∙ same) (c.requires.full, c.known.ensures))
 
 pub returns-clause-keeps : goal.returns-clause-keeps
 returns-clause-keeps g c clean start trail least k =
@@ -42,9 +42,9 @@ returns-clause-keeps g c clean start trail least k =
     let is : padded size c.as_slice.result.now ≡ bytes = ap (λ (l : List ℕ). padded size l) c.as_slice.ensures.value ∙ front_padded c.in-Ok.kept bytes size c.in-Ok.ensures full in
     let before = subst (λ (d : g.row.D.Denot). IsTrue (g.D.Disk.is_clean d)) c.program.ensures.disks.0 clean in
     let mid = call_kept g.D.Disk shape start trail least c.args.redo.now c.ready.new.self pages c.ready.ensures.shape k
-        (λ kept h. c.ready.ensures.keeps before kept pages h refl) c.in-Ok-ready.ensures.room.ready in
+    (λ kept h. c.ready.ensures.keeps before kept pages h refl) c.in-Ok-ready.ensures.room.ready in
     let behind : pages_of c.set_slot.new.slots.items ≡ slice_set pages c.args.page (whole bytes) =
-        c.set_slot.ensures.pages ∙ ap (λ (b : List ℕ). slice_set pages c.args.page (whole b)) c.in-Ok.ensures in
+    c.set_slot.ensures.pages ∙ ap (λ (b : List ℕ). slice_set pages c.args.page (whole b)) c.in-Ok.ensures in
     keeps_more g.D.Disk shape start trail least c.ready.new.self c.program.new.self (program c.args.page bytes) pages (pages_of c.set_slot.new.slots.items)
     (c.program.ensures.shape ∙ same) mid
     (λ kept h. subst (λ (b : List ℕ). KeepsPages {D = g.row.D.Denot} g.D.Disk c.program.new.self kept (slice_set pages c.args.page (whole b))) is (c.program.ensures.keeps kept pages h))

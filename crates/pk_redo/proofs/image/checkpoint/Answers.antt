@@ -29,7 +29,7 @@ loop-page-preserved g c =
       | then-is_set+in_ok-put_cell w ↦
           let same = λ (long : file_size shape ≤ length (g.D.Disk.seen c.args.image.now)). w.put_cell.ensures.seen (only page) _ (only_sets shape page) (same_itself shape (only page) _ (before.long long)) in
           let bytes = λ (own : List ℕ) (is : page_at (g.P.Pages.flash_of c.args.pages.now) page ≡ whole own). w.front.ensures.page own is ∙ ap (λ (s : Shape). padded s.page_bytes w.front.result.now) c.requires.shape
-              ∙ ap (λ (n : ℕ). padded n w.front.result.now) (sym (before.buffer ∙ c.requires.buffer)) ∙ sym w.fill.ensures in
+          ∙ ap (λ (n : ℕ). padded n w.front.result.now) (sym (before.buffer ∙ c.requires.buffer)) ∙ sym w.fill.ensures in
           rw (w.image-is, w.buffer-is) (record {
             usable = w.put_cell.ensures.usable;
             buffer = w.fill.auto.buffer ∙ before.buffer;

@@ -35,8 +35,11 @@ returns-clause-keeps g c = λ clean kept k same.
     let within = c.checkpoint.ensures.crash k.marks k.base (lacks_set g.D.Disk self kept kept k c.requires.empty) k.files.within in
     let shown = λ (page : ℕ). ap (λ (f : Flash). page_at f page) same in
     let written = λ (page : ℕ) (low : page < page_count self.shape). c.in-Ok.ensures.written long (λ k' low lacks. k.others k' low lacks ∙ sym (shown k')) page low ∙ shown page in
-    inr (inr (refl, λ l i may_l may_i. inl (subst (λ (f : Flash). ReadAs self.shape l i f) k.is_kept
-    (c.close.ensures.crash clean k.base k.marks k.files.stands within (pages_after g.D.Disk self kept k image written) l i may_l may_i))))
+    inr (inr (
+      refl,
+      λ l i may_l may_i. inl (subst (λ (f : Flash). ReadAs self.shape l i f) k.is_kept
+          (c.close.ensures.crash clean k.base k.marks k.files.stands within (pages_after g.D.Disk self kept k image written) l i may_l may_i)),
+    ))
 
 pub returns-clause-done : goal.returns-clause-done
 returns-clause-done g c =

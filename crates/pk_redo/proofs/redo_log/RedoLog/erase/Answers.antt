@@ -11,7 +11,7 @@ returns-clause-keeps g c = λ kept now k.
     let mark : Mark = erase c.args.block in
     let count = c.block_pages-count.ensures in
     let set = λ (page : ℕ) (low : page < length self.lacks.items). row_set self.shape c.args.block page self.lacks.items lacks (omega (arith, count.shape.block_least)) low
-        (rw count.value at c.note_row.ensures.inside) (rw count.value at c.note_row.ensures.outside) in
+    (rw count.value at c.note_row.ensures.inside) (rw count.value at c.note_row.ensures.outside) in
     record {
       base = k.base;
       marks = k.marks;

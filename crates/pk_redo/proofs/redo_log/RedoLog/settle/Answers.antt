@@ -41,8 +41,8 @@ returns-in-Ok-finish-clause-keeps g c = λ clean kept k same.
     let own = own_record g.D.Disk self kept k image within stay written (drop 9 c.deref.result.now) fits in
     let done = c.in-Ok-finish.ensures.done clean own in
     let says : LogSays g.D.Disk c.finish.new.log self.shape (g.D.Disk.seen image) [] (16 + c.len.result) (16 + c.len.result + c.len-in-Ok-finish.result) =
-        says_at g.D.Disk _ _ _ _ _ _ _ _ (search (arith, c.len.ensures, c.deref.ensures.value, c.deref.ensures.len))
-        (search (arith, c.len.ensures, c.deref.ensures.value, c.deref.ensures.len, c.len-in-Ok-finish.ensures, c.deref-2.ensures.value, c.deref-2.ensures.len)) done.0 in
+    says_at g.D.Disk _ _ _ _ _ _ _ _ (search (arith, c.len.ensures, c.deref.ensures.value, c.deref.ensures.len))
+    (search (arith, c.len.ensures, c.deref.ensures.value, c.deref.ensures.len, c.len-in-Ok-finish.ensures, c.deref-2.ensures.value, c.deref-2.ensures.len)) done.0 in
     inl (record {
       base = g.D.Disk.seen image;
       marks = [];
@@ -72,5 +72,8 @@ returns-in-Err-finish-clause-keeps g c = λ clean kept k same.
     let fits = subst (λ (bytes : List ℕ). RecordFits self.shape (drop 9 bytes) (header_bytes self.shape) (λ page. state_byte (page_at kept page)) []) (sym c.deref.ensures.value)
     (subst (λ (f : Flash). RecordFits self.shape (drop 9 c.note_record.new.first.items) (header_bytes self.shape) (λ page. state_byte (page_at f page)) []) same c.note_record.ensures.fits) in
     let own = own_record g.D.Disk self kept k image within stay written (drop 9 c.deref.result.now) fits in
-    inr (inr (refl, λ l i may_l may_i. inl (subst (λ (f : Flash). ReadAs self.shape l i f) k.is_kept
-    (c.finish.ensures.crash clean k.base k.marks k.files.stands within (pages_after g.D.Disk self kept k image written) own l i may_l may_i))))
+    inr (inr (
+      refl,
+      λ l i may_l may_i. inl (subst (λ (f : Flash). ReadAs self.shape l i f) k.is_kept
+          (c.finish.ensures.crash clean k.base k.marks k.files.stands within (pages_after g.D.Disk self kept k image written) own l i may_l may_i)),
+    ))

@@ -22,7 +22,7 @@ returns-in-Ok-true-clause-found g c = λ clean_log clean_image.
     let own_bytes = subst (λ (log : List ℕ). LogHolds log batches) c.deref.ensures.value holds in
     let recorded = c.belongs.ensures.record is_true batches (subst (λ (log : List ℕ). LogHolds log batches) (sym c.deref-2.ensures.value) own_bytes) in
     let record_is : RecordedAs shape batches (take 32 head) (drop 32 head) (step_marks shape bytes steps) =
-        rw (c.deref-2.ensures.value, c.deref-3.ensures.value, c.deref-4.ensures.value) at recorded in
+    rw (c.deref-2.ensures.value, c.deref-3.ensures.value, c.deref-4.ensures.value) at recorded in
     let header_is : take 32 head ≡ header_bytes shape = rw c.deref-4.ensures.value at (c.belongs.ensures.header is_true) in
     let header = head_header image head (page_count shape) held sized in
     record {
