@@ -1,7 +1,7 @@
 //! The program: serves a key-value drive in an image file, over standard input and output.
 #![tactic(auto)]
 
-use pk_file::{EndFault, FileBoard, Keeping, Start, Unknown, Wary};
+use pk_file::{DiskFile, EndFault, FileBoard, Keeping, OpenDisk, Unknown, Wary};
 use pk_top::{Status, run, run_pair, run_spared};
 use std::env;
 use std::env::VarError;
@@ -56,7 +56,12 @@ impl Syncs {
     fn gathered(self) -> Keeping {
         match self {
             Syncs::None => Keeping::Rows,
-            _ => Keeping::Log,
+            Syncs::Once => Keeping::Log {
+                from_the_first: false,
+            },
+            Syncs::Twice => Keeping::Log {
+                from_the_first: true,
+            },
         }
     }
 
@@ -80,8 +85,8 @@ fn ended(status: Status, end: Result<(), EndFault>) -> Status {
 }
 
 /// Does over the image file of this path what the other words ask for.
-fn run_on<S: Start>(rt: &HostRuntime, image: &str, words: &[&str], syncs: Syncs) -> Status {
-    let mut board = FileBoard::<S>::with(rt, image, syncs.gathered());
+fn run_on<D: OpenDisk>(rt: &HostRuntime, image: &str, words: &[&str], syncs: Syncs) -> Status {
+    let mut board = FileBoard::<D>::with(rt, image, syncs.gathered());
     let status = run(rt.alloc(), words, &mut board);
     ended(status, board.finish())
 }
@@ -89,8 +94,13 @@ fn run_on<S: Start>(rt: &HostRuntime, image: &str, words: &[&str], syncs: Syncs)
 /// Does over the image file of this path, which has spare blocks, what these words ask for; the
 /// first of them says so. A block is moved when a program of it fails, so each page is written by
 /// its program.
-fn run_on_spared<S: Start>(rt: &HostRuntime, image: &str, words: &[&str], syncs: Syncs) -> Status {
-    let board = FileBoard::<S>::with(rt, image, syncs.direct());
+fn run_on_spared<D: OpenDisk>(
+    rt: &HostRuntime,
+    image: &str,
+    words: &[&str],
+    syncs: Syncs,
+) -> Status {
+    let board = FileBoard::<D>::with(rt, image, syncs.direct());
     let (status, remap) = run_spared(rt.alloc(), words, board, 0);
     match remap {
         Some(remap) => {
@@ -102,17 +112,17 @@ fn run_on_spared<S: Start>(rt: &HostRuntime, image: &str, words: &[&str], syncs:
 }
 
 /// Does over the image file of this path what the other words ask for.
-fn run_on_one<S: Start>(rt: &HostRuntime, image: &str, words: &[&str], syncs: Syncs) -> Status {
+fn run_on_one<D: OpenDisk>(rt: &HostRuntime, image: &str, words: &[&str], syncs: Syncs) -> Status {
     match words.first() {
-        Some(word) if *word == SPARED => run_on_spared::<S>(rt, image, words, syncs),
-        _ => run_on::<S>(rt, image, words, syncs),
+        Some(word) if *word == SPARED => run_on_spared::<D>(rt, image, words, syncs),
+        _ => run_on::<D>(rt, image, words, syncs),
     }
 }
 
 /// Does over the two image files of these paths what the other words ask for. Texts go out over the
 /// first, so nothing would make the pages of the second leave before an answer: each is written by
 /// its program.
-fn run_on_pair<S: Start>(
+fn run_on_pair<D: OpenDisk>(
     rt: &HostRuntime,
     image: &str,
     other: &str,
@@ -122,8 +132,8 @@ fn run_on_pair<S: Start>(
     if image == other || image == PAIR || other == PAIR {
         return Status::WORDS;
     }
-    let mut first = FileBoard::<S>::with(rt, image, syncs.gathered());
-    let mut second = FileBoard::<S>::with(rt, other, syncs.direct());
+    let mut first = FileBoard::<D>::with(rt, image, syncs.gathered());
+    let mut second = FileBoard::<D>::with(rt, other, syncs.direct());
     let status = run_pair(rt.alloc(), words, &mut first, &mut second);
     let status = ended(status, second.finish());
     ended(status, first.finish())
@@ -131,16 +141,16 @@ fn run_on_pair<S: Start>(
 
 /// Does what the words ask for: of a pair, after its name and the paths of both image files; else
 /// after the path of one.
-fn obey_texts<S: Start>(rt: &HostRuntime, words: &[&str], syncs: Syncs) -> Status {
+fn obey_texts<D: OpenDisk>(rt: &HostRuntime, words: &[&str], syncs: Syncs) -> Status {
     match words.split_first() {
         Some((image, rest)) if *image == PAIR => match rest.split_first() {
             Some((first, rest)) => match rest.split_first() {
-                Some((second, rest)) => run_on_pair::<S>(rt, first, second, rest, syncs),
+                Some((second, rest)) => run_on_pair::<D>(rt, first, second, rest, syncs),
                 None => Status::WORDS,
             },
             None => Status::WORDS,
         },
-        Some((image, rest)) => run_on_one::<S>(rt, image, rest, syncs),
+        Some((image, rest)) => run_on_one::<D>(rt, image, rest, syncs),
         None => Status::WORDS,
     }
 }
@@ -154,8 +164,8 @@ fn obey(rt: &HostRuntime, words: &[String]) -> Status {
         }
     }
     match Syncs::wanted(rt) {
-        Syncs::Twice => obey_texts::<Wary>(rt, texts.as_slice(), Syncs::Twice),
-        syncs => obey_texts::<Unknown>(rt, texts.as_slice(), syncs),
+        Syncs::Twice => obey_texts::<DiskFile<Wary>>(rt, texts.as_slice(), Syncs::Twice),
+        syncs => obey_texts::<DiskFile<Unknown>>(rt, texts.as_slice(), syncs),
     }
 }
 

@@ -21,7 +21,7 @@ mod opening;
 mod record;
 
 pub use host::{Host, Syncs};
-pub use opening::{find_log, log_path, make_log, open_disk, remove_log};
+pub use opening::{OpenDisk, find_log, log_path, make_log, open_disk, remove_log};
 pub use sqlite_disk::{Start, Unknown, Wary};
 
 /// A file that held what `S` says.

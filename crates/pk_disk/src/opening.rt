@@ -4,7 +4,7 @@ ghost use Rattle.pk_disk.specs.File.{disk_file_is_usable, IsJustSettled};
 
 use crate::DiskFile;
 use crate::host::{Host, Syncs};
-use sqlite_disk::{Modelled, Start};
+use sqlite_disk::{Disk, Modelled, Start};
 use std::fs::{File, OpenOptions, canonicalize, remove_file, symlink_metadata};
 use std::io;
 use std::os::fd::AsRawFd;
@@ -101,4 +101,19 @@ pub fn open_disk<S: Start>(file: File, is_log: bool, syncs: Syncs) -> io::Result
 {
     let host = Host::settle(file, syncs)?;
     Ok(Modelled::new(host, is_log, 0))
+}
+
+/// A disk that an open file can be.
+pub trait OpenDisk: Disk + Drop {
+    /// Opens a file as a log or as an image, and syncs it, if syncs are made.
+    fn open(file: File, is_log: bool, syncs: Syncs) -> io::Result<Self>
+    where
+        Self: Sized,
+        ensures { IfOk result (λ disk. IsTrue (Self.Disk.is_usable disk)) };
+}
+
+impl<S: Start> OpenDisk for DiskFile<S> {
+    fn open(file: File, is_log: bool, syncs: Syncs) -> io::Result<Self> {
+        open_disk(file, is_log, syncs)
+    }
 }

@@ -19,7 +19,7 @@ pub front_padded : (kept : Trimmed) (bytes : List ℕ) (size : ℕ) → bytes_in
 front_padded kept bytes size is full =
     let front : List ℕ = kept.front.items in
     let tail : List ℕ = replicate kept.zeros 0 in
-    let n : size - length front ≡ kept.zeros = omega (arith, full, ap (λ (l : List ℕ). length l) is, length-append front tail, length-replicate kept.zeros 0) in
+    let n : size - length front ≡ kept.zeros = omega (arith, full, ap (λ (l : List ℕ). length l) is, length-append front tail, length-replicate {A = ℕ} kept.zeros 0) in
     ap (λ (k : ℕ). front ++ replicate k 0) n ∙ is
 
 -- the bytes of a slot that are kept

@@ -16,7 +16,7 @@ use crate::slot::Slot;
 use crate::slots::{erase_slots, extents_in, known, set_slot};
 use crate::trimmed::Trimmed;
 use pk_base::Shape;
-use pk_disk::Start;
+use pk_disk::OpenDisk;
 use pk_nand::NandFault;
 use std::alloc::Global;
 
@@ -29,13 +29,14 @@ pub enum Keeping {
     /// Each page is written by its program, and is on the disk when this returns or when the system
     /// likes.
     Direct { is_durable: bool },
-    /// Changes go to a log beside the image, and are on the disk before anything leaves. If no log
-    /// can be made, or for so few changes that none is worth while, rows are, each synced.
-    Log,
+    /// Changes go to a log beside the image, and are on the disk before anything leaves: all of
+    /// them, or all but the first ones, which are written to the image, each row synced, as are all
+    /// if no log can be made.
+    Log { from_the_first: bool },
 }
 
-/// Changes of a run that are written to the image before a log is made, if a disk writes a sector
-/// whole or not at all: a run of one word makes no log.
+/// Changes of a run that are written to the image before a log is made: a run of one word makes
+/// none.
 const CHANGES_WITHOUT_LOG: u32 = 16;
 
 impl Keeping {
@@ -44,7 +45,22 @@ impl Keeping {
         match self {
             Keeping::Rows => false,
             Keeping::Direct { is_durable } => is_durable,
-            Keeping::Log => true,
+            Keeping::Log { .. } => true,
+        }
+    }
+
+    /// Whether changes go to a log.
+    fn uses_log(self) -> bool {
+        matches!(&self, Keeping::Log { .. })
+    }
+
+    /// How many changes of a run go to no log.
+    fn first_changes(self) -> u32 {
+        match self {
+            Keeping::Log {
+                from_the_first: true,
+            } => 0,
+            _ => CHANGES_WITHOUT_LOG,
         }
     }
 
@@ -59,14 +75,14 @@ impl Keeping {
 
 /// The image file of a board, and its log.
 #[derive(Drop)]
-pub struct Backing<'a, S: Start> {
+pub struct Backing<'a, D: OpenDisk> {
     rt: &'a HostRuntime,
     path: &'a str,
     pub file: Option<ImageFile>,
     /// The pages that are not in the file yet, where they go to no log.
     pub row: Row,
     /// The log that was found, or made by this run.
-    pub log: Option<ImageLog<S>>,
+    pub log: Option<ImageLog<D>>,
     /// Whether changes go to a log.
     uses_log: bool,
     /// How many more changes are written to the image before a log is made.
@@ -212,9 +228,9 @@ fn erase_block(
 }
 
 /// Programs a page of an image that has a log.
-fn program_beside<S: Start>(
+fn program_beside<D: OpenDisk>(
     alloc: Global,
-    log: &mut ImageLog<S>,
+    log: &mut ImageLog<D>,
     shape: &Option<Shape>,
     slots: &mut Vec<Slot>,
     page: u32,
@@ -240,8 +256,8 @@ fn program_beside<S: Start>(
 }
 
 /// Erases a block of an image that has a log.
-fn erase_beside<S: Start>(
-    log: &mut ImageLog<S>,
+fn erase_beside<D: OpenDisk>(
+    log: &mut ImageLog<D>,
     shape: &Option<Shape>,
     slots: &mut Vec<Slot>,
     block: u32,
@@ -266,7 +282,7 @@ fn erase_beside<S: Start>(
 
 /// Makes the steps that wait durable, if the image was not cut short: a checkpoint would fill it up
 /// with zeros.
-fn commit<S: Start>(file: &mut Option<ImageFile>, row: &mut Row, log: &mut ImageLog<S>) -> bool
+fn commit<D: OpenDisk>(file: &mut Option<ImageFile>, row: &mut Row, log: &mut ImageLog<D>) -> bool
     ensures row { (row.new.first ≡ row.old.first) × (row.new.extents ≡ row.old.extents) }
     ensures none { result ≡ true → row.new.extents.items ≡ [] }
     ensures kept { result ≡ true → row.new.is_lost ≡ false }
@@ -294,9 +310,9 @@ fn is_whole(file: &mut Option<ImageFile>) -> bool {
     }
 }
 
-impl<'a, S: Start> Backing<'a, S> {
+impl<'a, D: OpenDisk> Backing<'a, D> {
     /// No file is open.
-    pub fn new(rt: &'a HostRuntime, path: &'a str, keeping: Keeping) -> Backing<'a, S>
+    pub fn new(rt: &'a HostRuntime, path: &'a str, keeping: Keeping) -> Backing<'a, D>
         ensures first { result.row.first ≡ 0 }
         ensures none { length result.row.extents.items ≡ 0 }
     {
@@ -306,8 +322,8 @@ impl<'a, S: Start> Backing<'a, S> {
             file: None,
             row: Row::new(rt.alloc(), keeping.is_durable(), keeping.writes()),
             log: None,
-            uses_log: keeping == Keeping::Log,
-            left: if S::mixes() { CHANGES_WITHOUT_LOG } else { 0 },
+            uses_log: keeping.uses_log(),
+            left: keeping.first_changes(),
             is_changed: false,
         }
     }
@@ -332,7 +348,7 @@ impl<'a, S: Start> Backing<'a, S> {
     }
 
     /// A log for the image, which has all pages; None if none can be made.
-    fn made_log(&self, shape: &Shape, slots: &Vec<Slot>) -> Option<ImageLog<S>>
+    fn made_log(&self, shape: &Shape, slots: &Vec<Slot>) -> Option<ImageLog<D>>
         requires { length slots.now.items ≡ spec.page_count shape.now }
     {
         let Ok(extents) = extents_in(self.rt.alloc(), slots) else {

@@ -17,7 +17,7 @@ use crate::row::Row;
 use crate::slot::Slot;
 use crate::slots::{erased_slots, read_slot};
 use pk_base::Shape;
-use pk_disk::{Start, Unknown};
+use pk_disk::{DiskFile, OpenDisk, Unknown};
 use pk_nand::{Board, HostFault, LoadFault, Nand, NandFault, PageRead, raise};
 use std::alloc::Global;
 use std::io::Write;
@@ -25,11 +25,11 @@ use std::rt::{Stdin, Stdout};
 
 /// The image file of a drive, with its pages in memory, and standard input and output.
 #[derive(Drop)]
-pub struct FileBoard<'a, S: Start = Unknown> {
+pub struct FileBoard<'a, D: OpenDisk = DiskFile<Unknown>> {
     rt: &'a HostRuntime,
     path: &'a str,
     keeping: Keeping,
-    backing: Backing<'a, S>,
+    backing: Backing<'a, D>,
     /// Whether a load found no file, and none was made since.
     bare: bool,
     shape: Option<Shape>,
@@ -64,8 +64,8 @@ pub enum EndFault {
 
 /// Sends what is gathered, and these bytes after it, once no change waits. If changes that waited
 /// were lost, now or before, nothing leaves.
-fn deliver<S: Start, W: Write + Drop>(
-    backing: &mut Backing<'_, S>,
+fn deliver<D: OpenDisk, W: Write + Drop>(
+    backing: &mut Backing<'_, D>,
     shape: &Option<Shape>,
     slots: &Vec<Slot>,
     output: &mut Outgoing<W>,
@@ -102,9 +102,9 @@ fn deliver<S: Start, W: Write + Drop>(
 
 /// Sends what is gathered if the input may wait. A failure is reported by the next post, or at the
 /// end.
-fn deliver_gathered<S: Start, W: Write + Drop>(
+fn deliver_gathered<D: OpenDisk, W: Write + Drop>(
     may_wait: bool,
-    backing: &mut Backing<'_, S>,
+    backing: &mut Backing<'_, D>,
     shape: &Option<Shape>,
     slots: &Vec<Slot>,
     output: &mut Outgoing<W>,
@@ -123,8 +123,8 @@ fn deliver_gathered<S: Start, W: Write + Drop>(
 }
 
 /// The end of a run: what was posted leaves, and the image alone is the drive.
-fn close<S: Start, W: Write + Drop>(
-    backing: &mut Backing<'_, S>,
+fn close<D: OpenDisk, W: Write + Drop>(
+    backing: &mut Backing<'_, D>,
     shape: &Option<Shape>,
     slots: &Vec<Slot>,
     output: &mut Outgoing<W>,
@@ -152,22 +152,21 @@ fn close<S: Start, W: Write + Drop>(
     Err(EndFault::Log)
 }
 
-impl<'a> FileBoard<'a> {
+impl<'a> FileBoard<'a, DiskFile<Unknown>> {
     /// A board whose image is the file at this path. Nothing is opened before `load` or `make`.
     /// Pages that were programmed are gathered and written before a post, and the system brings
     /// them to the disk when it likes.
-    pub fn new(rt: &'a HostRuntime, path: &'a str) -> FileBoard<'a>
+    pub fn new(rt: &'a HostRuntime, path: &'a str) -> FileBoard<'a, DiskFile<Unknown>>
         ensures { result.shape ≡ None }
     {
         FileBoard::with(rt, path, Keeping::Rows)
     }
-
 }
 
-impl<'a, S: Start> FileBoard<'a, S> {
-    /// The same, with changes that are kept so. `S` says what a loss of power may leave of a write
-    /// to the log.
-    pub fn with(rt: &'a HostRuntime, path: &'a str, keeping: Keeping) -> FileBoard<'a, S>
+impl<'a, D: OpenDisk> FileBoard<'a, D> {
+    /// The same, with changes that are kept so. `D` is what a file is as a disk: it says what a loss
+    /// of power may leave of a write to the log.
+    pub fn with(rt: &'a HostRuntime, path: &'a str, keeping: Keeping) -> FileBoard<'a, D>
         ensures { result.shape ≡ None }
     {
         FileBoard {
@@ -235,7 +234,7 @@ impl<'a, S: Start> FileBoard<'a, S> {
     }
 }
 
-impl<S: Start> Nand for FileBoard<'_, S> {
+impl<D: OpenDisk> Nand for FileBoard<'_, D> {
     ghost state = { λ f. record {
       shape = f.shape;
       bare = f.bare;
@@ -316,7 +315,10 @@ impl<S: Start> Nand for FileBoard<'_, S> {
 
     fn program(&mut self, page: u32, bytes: &[u8]) -> Result<(), NandFault> {
         raise(&mut self.programs);
-        match self.backing.program(&self.shape, &mut self.slots, page, bytes) {
+        match self
+            .backing
+            .program(&self.shape, &mut self.slots, page, bytes)
+        {
             Ok(()) => Ok(()),
             Err(_) => {
                 raise(&mut self.flash_faults);
@@ -349,7 +351,7 @@ impl<S: Start> Nand for FileBoard<'_, S> {
     }
 }
 
-impl<S: Start> Board for FileBoard<'_, S> {
+impl<D: OpenDisk> Board for FileBoard<'_, D> {
     fn fetch(&mut self, into: &mut [u8]) -> Result<usize, HostFault> {
         deliver_gathered(
             self.input.may_wait(),

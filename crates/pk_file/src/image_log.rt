@@ -7,7 +7,7 @@ use crate::image_file::ImageFile;
 use crate::logged::end_logged;
 use crate::slot::Slot;
 use pk_base::Shape;
-use pk_disk::{DiskFile, Start, Syncs, Unknown, find_log, log_path, make_log, open_disk, remove_log};
+use pk_disk::{OpenDisk, Syncs, Unknown, find_log, log_path, make_log, open_disk, remove_log};
 use pk_nand::LoadFault;
 use pk_redo::{LogFault, LogSizes, RedoLog, Replay, shut};
 use std::alloc::Global;
@@ -23,8 +23,8 @@ pub struct LogFile {
 
 /// An image and its log, both open as disks.
 #[derive(Drop)]
-pub struct ImageLog<S: Start> {
-    pub redo: RedoLog<DiskFile<S>>,
+pub struct ImageLog<D: OpenDisk> {
+    pub redo: RedoLog<D>,
     pub shape: Shape,
     path: String,
     ghost same: { redo.shape ≡ shape },
@@ -60,20 +60,20 @@ fn fault_of(fault: LogFault) -> LoadFault {
 
 /// Opens an image and its log as disks, and reads what the log says. The extents say of each page
 /// how many bytes at its place in the image may differ from zero.
-pub fn open_log<S: Start>(
+pub fn open_log<D: OpenDisk>(
     alloc: Global,
     image: File,
     log: LogFile,
     shape: Shape,
     extents: Vec<usize>,
-) -> Result<(ImageLog<S>, Replay), LoadFault>
+) -> Result<(ImageLog<D>, Replay), LoadFault>
     requires { length extents.items ≡ spec.page_count shape }
 {
     let LogFile { file, path } = log;
-    let Ok(mut disk) = open_disk::<S>(file, true, Syncs::Made) else {
+    let Ok(mut disk) = D::open(file, true, Syncs::Made) else {
         return Err(LoadFault::Fault);
     };
-    let Ok(mut image) = open_disk::<S>(image, false, Syncs::Made) else {
+    let Ok(mut image) = D::open(image, false, Syncs::Made) else {
         return Err(LoadFault::Fault);
     };
     let replay = match Replay::read(alloc, &mut disk, &mut image, &shape) {
@@ -82,10 +82,7 @@ pub fn open_log<S: Start>(
     };
     let sizes = LogSizes::usual(&shape);
     match RedoLog::new(alloc, disk, image, shape, &replay, extents, sizes) {
-        Ok(redo) => Ok((
-            ImageLog { redo, shape, path },
-            replay,
-        )),
+        Ok(redo) => Ok((ImageLog { redo, shape, path }, replay)),
         Err(_) => Err(LoadFault::Memory),
     }
 }
@@ -98,13 +95,13 @@ fn new_log_file(rt: &HostRuntime, path: &str, file: &File) -> io::Result<LogFile
 }
 
 /// Makes the log of an image at this path that has none. If that fails there is none.
-pub fn new_log<S: Start>(
+pub fn new_log<D: OpenDisk>(
     rt: &HostRuntime,
     path: &str,
     image: &ImageFile,
     shape: Shape,
     extents: Vec<usize>,
-) -> Result<ImageLog<S>, LoadFault>
+) -> Result<ImageLog<D>, LoadFault>
     requires { length extents.items ≡ spec.page_count shape }
 {
     let Ok(file) = image.copy() else {
@@ -128,7 +125,7 @@ fn remove_beside(rt: &HostRuntime, image: &str) -> io::Result<()> {
     remove_log(rt, path.as_str())
 }
 
-impl<S: Start> ImageLog<S> {
+impl<D: OpenDisk> ImageLog<D> {
     /// Whether it is the log of an image of this shape.
     pub fn is_of(&self, shape: &Shape) -> bool
         ensures { result ≡ true → self.now.redo.shape ≡ shape.now }

@@ -25,4 +25,4 @@ mod trimmed;
 
 pub use backing::Keeping;
 pub use file_board::{EndFault, FileBoard};
-pub use pk_disk::{Start, Unknown, Wary};
+pub use pk_disk::{DiskFile, OpenDisk, Unknown, Wary};

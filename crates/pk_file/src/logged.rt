@@ -45,8 +45,9 @@ impl Pages for SlotPages<'_> {
 
     fn front(&self, page: u32) -> &[u8] {
         match &self.slots[page as usize] {
+            Slot::Erased { .. } => &[],
             Slot::Whole(kept) => kept.front.as_slice(),
-            _ => &[],
+            Slot::Torn { .. } => &[],
         }
     }
 }
@@ -295,7 +296,14 @@ pub fn replay_steps(
     };
     let log = replay.bytes.as_slice();
     for i in 0..replay.steps.len() {
-        match replay_step(alloc, shape, slots, log, &replay.steps[i], room.as_mut_slice()) {
+        match replay_step(
+            alloc,
+            shape,
+            slots,
+            log,
+            &replay.steps[i],
+            room.as_mut_slice(),
+        ) {
             Ok(()) => {}
             Err(fault) => return Err(fault),
         }

@@ -6,7 +6,7 @@ ghost use Rattle.pk_file.specs.declared.room.TheConstants.{GATHERED};
 
 use crate::backing::Backing;
 use crate::room::GATHERED;
-use pk_disk::Start;
+use pk_disk::OpenDisk;
 use pk_nand::HostFault;
 use std::alloc::Global;
 use std::io;
@@ -95,9 +95,9 @@ impl<W: Write + Drop> Outgoing<W> {
 
     /// Sends what is gathered, and these bytes after it, where no page waits for the image, no step
     /// for the log, and none that waited was lost. After a write that failed nothing more is written.
-    pub fn send<S: Start>(
+    pub fn send<D: OpenDisk>(
         &mut self,
-        backing: &Backing<'_, S>,
+        backing: &Backing<'_, D>,
         bytes: &[u8],
     ) -> Result<(), HostFault>
         requires no_page_waits { backing.now.row.extents.items ≡ [] }

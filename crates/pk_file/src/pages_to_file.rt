@@ -15,7 +15,7 @@ use crate::row::Row;
 use crate::slot::Slot;
 use crate::slots::slots_of;
 use pk_base::{MOST_BLOCK_PAGES, Shape};
-use pk_disk::Start;
+use pk_disk::OpenDisk;
 use pk_image::{HEADER_BYTES, ImageError, PageTag, file_len, header, read_header};
 use pk_nand::LoadFault;
 use pk_redo::{Replay, set_pages};
@@ -29,14 +29,14 @@ const MAGIC_BYTES: usize = 8;
 
 /// An open image file and what was read of it.
 #[derive(Drop)]
-pub struct Image<S: Start> {
+pub struct Image<D: OpenDisk> {
     pub file: ImageFile,
     pub shape: Shape,
     /// Its pages after the steps of its log.
     pub slots: Vec<Slot>,
     /// The pages that wait to be written: none.
     pub row: Row,
-    pub log: Option<ImageLog<S>>,
+    pub log: Option<ImageLog<D>>,
     ghost count: { length slots.items ≡ spec.page_count shape },
     ghost fit: { AllFit shape slots.items },
     ghost waiting: { row.first + length row.extents.items ≤ length slots.items },
@@ -153,12 +153,12 @@ fn slots_in(alloc: Global, file: &File, shape: &Shape) -> Result<Vec<Slot>, Load
 
 /// Opens a file and its log, and reads what the log says. What an earlier run left after the pages
 /// of the file is not known.
-fn log_of<S: Start>(
+fn log_of<D: OpenDisk>(
     alloc: Global,
     file: &File,
     shape: &Shape,
     log: LogFile,
-) -> Result<(ImageLog<S>, Replay), LoadFault> {
+) -> Result<(ImageLog<D>, Replay), LoadFault> {
     let size = shape.page_bytes() as usize;
     let Ok(extents) = Vec::from_elem(alloc, size, shape.page_count() as usize) else {
         return Err(LoadFault::Memory);
@@ -170,12 +170,12 @@ fn log_of<S: Start>(
 }
 
 /// The pages of a file after the steps of its log.
-fn slots_beside<S: Start>(
+fn slots_beside<D: OpenDisk>(
     alloc: Global,
     file: &File,
     shape: &Shape,
     log: LogFile,
-) -> Result<(Vec<Slot>, ImageLog<S>), LoadFault>
+) -> Result<(Vec<Slot>, ImageLog<D>), LoadFault>
     ensures count { IfOk result (λ it. length it.0.items ≡ spec.page_count shape.now) }
     ensures fit { IfOk result (λ it. AllFit shape.now it.0.items) }
 {
@@ -189,12 +189,12 @@ fn slots_beside<S: Start>(
 }
 
 /// What an open image holds, and its log, if it has one.
-fn pages_in<S: Start>(
+fn pages_in<D: OpenDisk>(
     alloc: Global,
     file: &File,
     shape: &Shape,
     log: Option<LogFile>,
-) -> Result<(Vec<Slot>, Option<ImageLog<S>>), LoadFault>
+) -> Result<(Vec<Slot>, Option<ImageLog<D>>), LoadFault>
     ensures count { IfOk result (λ it. length it.0.items ≡ spec.page_count shape.now) }
     ensures fit { IfOk result (λ it. AllFit shape.now it.0.items) }
 {
@@ -211,13 +211,13 @@ fn pages_in<S: Start>(
 }
 
 /// The image of an open file of this length, with the memory for pages that wait.
-fn read_image<S: Start>(
+fn read_image<D: OpenDisk>(
     alloc: Global,
     file: File,
     len: u64,
     log: Option<LogFile>,
     keeping: Keeping,
-) -> Result<Image<S>, LoadFault> {
+) -> Result<Image<D>, LoadFault> {
     let shape = match shape_of(&file, len) {
         Ok(shape) => shape,
         Err(fault) => return Err(fault),
@@ -239,12 +239,12 @@ fn read_image<S: Start>(
 
 /// The image at this path, with what its log says; None if there is none. If changes have to be on
 /// the disk, so has to be what an earlier run wrote. Neither file is written.
-pub fn find_image<S: Start>(
+pub fn find_image<D: OpenDisk>(
     rt: &HostRuntime,
     alloc: Global,
     path: &str,
     keeping: Keeping,
-) -> Result<Option<Image<S>>, LoadFault> {
+) -> Result<Option<Image<D>>, LoadFault> {
     let (file, len) = match opened(rt, path) {
         Ok(None) => return Ok(None),
         Ok(Some(found)) => found,

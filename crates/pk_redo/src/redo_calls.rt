@@ -418,6 +418,7 @@ impl<D: Disk> RedoLog<D> {
             → KeepsPages D.Disk self.old kept now → P.flash_of pages.now ≡ now
             → ImageAlone D.Disk self.new now) }
         ensures ended { OnOk result (self.new.state ≡ LogState.Ended) }
+        ensures shape { self.new.shape ≡ self.old.shape }
     {
         match self.barrier() {
             Ok(()) => self.end_run(pages),
@@ -438,6 +439,7 @@ impl<D: Disk> RedoLog<D> {
         ensures ended { OnOk result (self.new.state ≡ LogState.Ended) }
         ensures clean { IsTrue (D.Disk.is_clean self.new.log)
             → IsTrue (D.Disk.is_clean self.old.log) }
+        ensures shape { self.new.shape ≡ self.old.shape }
     {
         if self.is_lost() {
             return Err(ended());
