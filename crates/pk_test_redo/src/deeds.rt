@@ -22,8 +22,8 @@ enum Deed {
     Erase { block: u32 },
 }
 
-/// The next of a sequence of numbers that look random.
-pub fn next_of(seed: u32) -> u32 {
+// The next of a sequence of numbers that look random.
+fn next_of(seed: u32) -> u32 {
     seed.wrapping_mul(1_103_515_245).wrapping_add(12_345)
 }
 

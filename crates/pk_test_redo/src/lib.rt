@@ -4,15 +4,19 @@
 #![tactic(auto)]
 
 #[cfg(test)]
+mod crashes;
+#[cfg(test)]
 mod deeds;
 #[cfg(test)]
 mod drive;
 #[cfg(test)]
-mod failing;
-#[cfg(test)]
 mod files;
 #[cfg(test)]
 mod log;
+#[cfg(test)]
+mod medium;
+#[cfg(test)]
+mod outcomes;
 #[cfg(test)]
 mod reading;
 #[cfg(test)]

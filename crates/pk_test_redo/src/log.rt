@@ -102,6 +102,28 @@ fn a_cut_of_the_last_batch_leaves_those_before_it(rt: HostRuntime) -> Result<(),
     Ok(())
 }
 
+// A byte that becomes another one, and no zero, may not be found; what stands before its batch is.
+#[test]
+fn a_changed_byte_leaves_the_batches_before_its_own(rt: HostRuntime) -> Result<(), Fail> {
+    let whole = three_batches();
+    for place in 16..52usize {
+        for byte in [0u8, 1, 0x50, 0x7F, 0xFF] {
+            let mut changed = whole;
+            changed[place] = byte;
+            let found = find_batches(rt.alloc(), &changed)?;
+            let before = (place - 16) / 12;
+            assert!(rt; found.len() >= before, "{byte} at {place}");
+            for i in 0..before {
+                assert!(rt;
+                    found.get(i) == Some(&(25 + 12 * i, 3)),
+                    "{byte} at {place}"
+                );
+            }
+        }
+    }
+    Ok(())
+}
+
 #[test]
 fn each_mixture_of_a_batch_and_zeros_is_it_or_none(rt: HostRuntime) -> Result<(), Fail> {
     let mut batch = [0u8; 12];
