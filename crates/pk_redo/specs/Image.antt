@@ -68,29 +68,18 @@ pub record LogStands {D : Type 0} (g : Ghosts D) (log : D) (shape : Shape) (base
   pub batches : List (List ℕ)
   pub stands : AllStand g log batches
   pub says : BatchesSay shape batches marks
-  pub of_base : BelongTo shape batches [] base
+  pub of_base : BelongTo shape batches marks base
 
 -- whatever a crash leaves of both files, they are read as these pages
 abbrev pub BothRead : {D : Type 0} → Ghosts D → D → D → Shape → Flash → Type 0
 BothRead g log image shape flash = (l i : List ℕ) → g.may_leave log l → g.may_leave image i → ReadAs shape l i flash
-
--- The pages in memory are those after the steps of the log, which set each page that the image may lack; and the bytes are a record of
--- them.
-pub record MayCheckpoint {D : Type 0} (g : Ghosts D) (log image : D) (shape : Shape) (base : List ℕ) (marks : List Mark) (is_new : ℕ → Bool) (page_of : ℕ → Page) (first : List ℕ)
-    : Type 0 where
-  pub stands : LogStands g log shape base marks
-  pub image_within : AllSameBut g image shape marks base
-  pub new_is_set : (k : ℕ) → is_new k ≡ true → Sets shape marks k
-  pub others_there : (k : ℕ) → k < page_count shape → is_new k ≡ false → page_in_file shape (g.seen image) k ≡ page_of k
-  pub in_memory : (k : ℕ) → k < page_count shape → page_of k ≡ page_at (flash_after shape marks base) k
-  pub recorded : RecordFits shape first (take HEADER_BYTES base) (λ k. state_byte (page_of k)) []
 
 -- ---- laws
 
 -- Replaying steps gives the same whatever the pages hold that they set.
 abbrev pub ReplayIsAbsolute : Type 0
 ReplayIsAbsolute =
-    (shape : Shape) (log base image : List ℕ) (batches : List (List ℕ)) (marks : List Mark) → LogHolds log batches → BatchesSay shape batches marks → BelongTo shape batches [] base
+    (shape : Shape) (log base image : List ℕ) (batches : List (List ℕ)) (marks : List Mark) → LogHolds log batches → BatchesSay shape batches marks → BelongTo shape batches marks base
     → SameButSet shape marks base image → ReadAs shape log image (flash_after shape marks base)
 
 -- The pages after the first marks of a trail are a cut of it, with no mark interrupted.

@@ -1,18 +1,19 @@
 //! The image beside its log: what a barrier promises of both, what a checkpoint writes, and its end.
-ghost use Rattle.std.specs.Prelude.{◌≡◌, ◌⊎◌, ◌+◌, ◌^◌, ◌<◌, ◌≤◌, ℕ, List, [], ◌∷◌, ◌++◌, length, slice_index, drop, Bool, true, false, OnOk, IsTrue};
+ghost use Rattle.std.specs.Prelude.{◌≡◌, ◌⊎◌, ◌+◌, ◌^◌, ◌<◌, ◌≤◌, ℕ, List, [], ◌∷◌, ◌++◌, length, slice_index, get_or, drop, true, false, OnOk, IsTrue};
 ghost use Rattle.sqlite_disk.specs.Disk.{Holds, Torn, Only};
 ghost use Rattle.pk_base.specs.Shape as spec;
-ghost use Rattle.pk_base.specs.Page.{Page, page_at};
+ghost use Rattle.pk_base.specs.Fields.{padded};
+ghost use Rattle.pk_base.specs.Page.{Flash, page_at, whole};
 ghost use Rattle.pk_base.specs.Mark.{Mark};
 ghost use Rattle.pk_image.specs.Header.{file_size};
-ghost use Rattle.pk_image.specs.Image.{byte_of, page_by, page_in_file, state_place, page_place};
+ghost use Rattle.pk_image.specs.Image.{byte_of, page_by, page_in_file, state_byte, state_place, page_place};
 ghost use Rattle.pk_redo.specs.Log.{IsSealed};
 ghost use Rattle.pk_redo.specs.Steps.{BodySays, Sets};
-ghost use Rattle.pk_redo.specs.Image.{SameButSet, AllSameBut, BelongTo, LogSays, LogStands, MayCheckpoint, ReadAs, BothRead, flash_after};
+ghost use Rattle.pk_redo.specs.Image.{SameButSet, AllSameBut, BelongTo, LogSays, LogStands, ReadAs, BothRead, flash_after};
 
 use crate::batch::{BATCH_HEAD, FIRST_BATCH};
 use crate::log::{commit, reset, shut};
-use pk_base::Shape;
+use pk_base::{Shape, put_text, put_zeros};
 use pk_image::{PageTag, page_at, state_at};
 use sqlite_disk::Disk;
 use std::io;
@@ -151,24 +152,32 @@ fn put_cell<D: Disk>(
     }
 }
 
-/// The pages in memory, and which of them the image may lack.
+/// The pages in memory.
 pub trait Pages {
     ghost shape_of: { Self → spec.Shape };
 
-    ghost page_of: { Self → ℕ → Page };
+    ghost flash_of: { Self → Flash };
 
-    ghost is_new: { Self → ℕ → Bool };
-
-    /// Whether the image may lack this page.
-    fn differs(&self, page: u32) -> bool
+    /// The state of a page.
+    fn state(&self, page: u32) -> PageTag
         requires { page < spec.page_count (shape_of self.now) }
-        ensures { result ≡ is_new self.now page };
+        ensures { byte_of result ≡ state_byte (page_at (flash_of self.now) page) };
 
-    /// The state of a page. If it is Whole, these are its bytes.
-    fn copy_to(&self, page: u32, bytes: &mut [u8]) -> PageTag
-        requires exists { page < spec.page_count (shape_of self.now) }
-        requires full { length bytes.old ≡ (shape_of self.now).page_bytes }
-        ensures page { page_of self.now page ≡ page_by (byte_of result) bytes.new };
+    /// The bytes of a page, if it is Whole, up to the last that is not 0: zeros follow them.
+    fn front(&self, page: u32) -> &[u8]
+        requires { page < spec.page_count (shape_of self.now) }
+        ensures short { length result.now ≤ (shape_of self.now).page_bytes }
+        ensures page { (own : List ℕ) → page_at (flash_of self.now) page ≡ whole own
+            → own ≡ padded (shape_of self.now).page_bytes result.now };
+}
+
+/// Makes a page of its front and zeros.
+fn fill(buffer: &mut [u8], front: &[u8])
+    requires { length front.now ≤ length buffer.old }
+    ensures { buffer.new ≡ padded (length buffer.old) front.now }
+{
+    put_text(buffer, 0, front);
+    put_zeros(buffer, front.len(), buffer.len());
 }
 
 /// Writes the pages that the image may lack.
@@ -176,27 +185,36 @@ pub fn checkpoint<D: Disk, P: Pages>(
     image: &mut D,
     shape: &Shape,
     pages: &P,
+    lacks: &[bool],
     buffer: &mut [u8],
 ) -> io::Result<()>
     requires usable { IsTrue (D.Disk.is_usable image.old) }
     requires shape { P.shape_of pages.now ≡ shape.now }
     requires buffer { length buffer.old ≡ shape.now.page_bytes }
+    requires lacks { length lacks.now ≡ spec.page_count shape.now }
     // If steps set these pages, the image differs as before at most in pages that steps set.
     ensures crash { (marks : List Mark) (base : List ℕ)
-        → ((k : ℕ) → P.is_new pages.now k ≡ true → Sets shape.now marks k)
+        → ((k : ℕ) → get_or lacks.now k false ≡ true → Sets shape.now marks k)
         → AllSameBut D.Disk image.old shape.now marks base
         → AllSameBut D.Disk image.new shape.now marks base }
+    // The others are as they were.
+    ensures others { (k : ℕ) → file_size shape.now ≤ length (D.Disk.seen image.old)
+        → k < spec.page_count shape.now → get_or lacks.now k false ≡ false
+        → page_in_file shape.now (D.Disk.seen image.new) k
+        ≡ page_in_file shape.now (D.Disk.seen image.old) k }
     // If it had the others, it has all.
     ensures written { OnOk result (file_size shape.now ≤ length (D.Disk.seen image.old)
-        → ((k : ℕ) → k < spec.page_count shape.now → P.is_new pages.now k ≡ false
-        → page_in_file shape.now (D.Disk.seen image.old) k ≡ P.page_of pages.now k)
+        → ((k : ℕ) → k < spec.page_count shape.now → get_or lacks.now k false ≡ false
+        → page_in_file shape.now (D.Disk.seen image.old) k ≡ page_at (P.flash_of pages.now) k)
         → (k : ℕ) → k < spec.page_count shape.now
-        → page_in_file shape.now (D.Disk.seen image.new) k ≡ P.page_of pages.now k) }
+        → page_in_file shape.now (D.Disk.seen image.new) k ≡ page_at (P.flash_of pages.now) k) }
     ensures usable { IsTrue (D.Disk.is_usable image.new) }
+    ensures buffer { length buffer.new ≡ length buffer.old }
 {
     for page in 0..shape.page_count() {
-        if pages.differs(page) {
-            let tag = pages.copy_to(page, buffer);
+        if lacks[page as usize] {
+            let tag = pages.state(page);
+            fill(buffer, pages.front(page));
             put_cell(image, shape, page, tag, buffer)?;
         }
     }
@@ -262,42 +280,4 @@ pub fn close<D: Disk>(log: &mut D, image: &mut D, shape: &Shape) -> io::Result<(
     let _ = shape;
     image.sync()?;
     shut(log)
-}
-
-/// A whole checkpoint: the image gets the pages that it may lack, and then the log is emptied. The
-/// log begins with the record of the pages in memory.
-pub fn settle<D: Disk, P: Pages>(
-    log: &mut D,
-    image: &mut D,
-    shape: &Shape,
-    pages: &P,
-    buffer: &mut [u8],
-    first: &[u8],
-    blank: &[u8],
-) -> io::Result<()>
-    requires log_usable { IsTrue (D.Disk.is_usable log.old) }
-    requires image_usable { IsTrue (D.Disk.is_usable image.old) }
-    requires shape { P.shape_of pages.now ≡ shape.now }
-    requires buffer { length buffer.old ≡ shape.now.page_bytes }
-    requires sealed { IsSealed first.now }
-    requires room { FIRST_BATCH + length first.now + length blank.now < 2 ^ 63 }
-    requires blank { (i : ℕ) → i < length blank.now → slice_index blank.now i ≡ 0 }
-    requires long { 0 < length blank.now }
-    // Whatever a crash leaves of both files, they are read as the pages in memory.
-    ensures crash { IsTrue (D.Disk.is_clean log.new) → (base : List ℕ) (marks : List Mark)
-        → MayCheckpoint D.Disk log.old image.old shape.now base marks
-        (P.is_new pages.now) (P.page_of pages.now) (drop BATCH_HEAD first.now)
-        → BothRead D.Disk log.new image.new shape.now (flash_after shape.now marks base) }
-    ensures done { OnOk result (IsTrue (D.Disk.is_clean log.new)
-        → (base : List ℕ) (marks : List Mark)
-        → MayCheckpoint D.Disk log.old image.old shape.now base marks
-        (P.is_new pages.now) (P.page_of pages.now) (drop BATCH_HEAD first.now)
-        → LogSays D.Disk log.new shape.now (D.Disk.seen image.new) []
-        (FIRST_BATCH + length first.now) (FIRST_BATCH + length first.now + length blank.now)
-        × Only (D.Disk.seen image.new) (D.Disk.may_leave image.new)) }
-    ensures usable { OnOk result
-        (IsTrue (D.Disk.is_usable log.new) × IsTrue (D.Disk.is_usable image.new)) }
-{
-    checkpoint(image, shape, pages, buffer)?;
-    finish(log, image, shape, first, blank)
 }

@@ -18,6 +18,10 @@ use std::io;
 #[derive(Clone, Copy, Debug, PartialEq, Eq)]
 pub enum LogFault {
     Memory,
+    /// A file cannot be read.
+    Disk,
+    /// The log is of another image.
+    OtherImage,
     /// A batch has bytes that are no step, from a place of the log on.
     BadStep { at: usize },
 }

@@ -92,7 +92,7 @@ fn state_at_page(bytes: &[u8], page: usize) -> u8
 }
 
 /// Pages that stand in a row are among those that steps set; there may be none of these numbers.
-fn note_row(set: &mut Vec<bool>, first: usize, count: usize)
+pub(crate) fn note_row(set: &mut Vec<bool>, first: usize, count: usize)
     requires { first + count < 2 ^ 63 }
     ensures inside { (k : ℕ) → first ≤ k → k < first + count → k < length set.old.items
         → get_or set.new.items k false ≡ true }
