@@ -128,6 +128,12 @@ impl<D: Disk> RedoLog<D> {
         self.state == LogState::Ended || !self.log.may_be_used() || !self.image.may_be_used()
     }
 
+    /// The log and the image, of which nothing more is asked.
+    pub fn into_disks(self) -> (D, D) {
+        let RedoLog { log, image, .. } = self;
+        (log, image)
+    }
+
     /// Whether steps wait for a barrier.
     pub fn has_steps(&self) -> bool
         ensures { result ≡ false → self.now.batch.filled ≡ BATCH_HEAD }

@@ -1,319 +1,307 @@
 //! Sessions that are stopped at each call of a file, and such of which one call fails. Whatever a loss of power leaves of both files, they
-//! are read as the pages after all steps whose barrier returned success, or after these and those of the barrier that failed.
+//! are opened as the pages after some first steps of the session, with all before the last barrier that returned success; and so are those
+//! that a session over what was left leaves.
 
-use crate::deeds::{BATCH, RECORD, after};
+use crate::deeds::{Deed, bytes_from};
 use crate::drive::Drive;
 use crate::medium::{Fails, Medium};
-use crate::outcomes::{EXTREMES, Left, Random, outcome};
-use crate::reading::{IMAGE, is_same, read_drive};
-use crate::session::{ALL_STEPS, Reached, session, settles};
-use pk_image::header;
-use pk_redo::{FIRST_BATCH, close};
+use crate::outcomes::{EXTREMES, Left, any_left, outcome};
+use crate::random::Random;
+use crate::reading::open;
+use crate::session::{Done, Failing, Files, made, session};
+use pk_redo::LogFault;
 use sqlite_disk::Disk;
 use std::alloc::{AllocError, Global};
 use std::test::Fail;
 
-// Outcomes by chance that each stop is tried with, beside its extremes.
+// Outcomes by chance after each session, beside the extremes.
 const CHANCES: u32 = 4;
 
-const NO_FAILURE: Fails = Fails::From(u32::MAX);
+pub const NEVER: Fails = Fails::From(u32::MAX);
 
-// The drives that the files of a crash may be read as.
-#[derive(Drop)]
-struct Bounds {
-    least: Drive,
-    most: Drive,
-}
+pub const NO_FAILURE: Failing = Failing {
+    log: NEVER,
+    image: NEVER,
+};
 
-fn bounds_of(alloc: Global, reached: Reached) -> Result<Option<Bounds>, AllocError> {
-    let Some(least) = after(alloc, reached.durable)? else {
-        return Ok(None);
-    };
-    let Some(most) = after(alloc, reached.tried)? else {
-        return Ok(None);
-    };
-    Ok(Some(Bounds { least, most }))
-}
-
-// The files are read as one of two drives.
-fn is_kept(alloc: Global, bounds: &Bounds, log: &[u8], image: &[u8]) -> Result<bool, AllocError> {
-    match read_drive(alloc, log, image)? {
-        Some(found) => Ok(is_same(&found, &bounds.least) || is_same(&found, &bounds.most)),
-        None => Ok(false),
+// Does a step to the pages.
+fn apply(alloc: Global, drive: &mut Drive, step: Deed) -> Result<(), AllocError> {
+    match step {
+        Deed::Program { page, byte, len } => {
+            let bytes = bytes_from(byte);
+            drive.program(alloc, page, &bytes[..len.min(bytes.len())])
+        }
+        Deed::Erase { block } => {
+            drive.erase(block);
+            Ok(())
+        }
+        Deed::Barrier => Ok(()),
     }
 }
 
-// With this outcome of the log, and each extreme of the image.
-fn is_kept_by_extremes(
+/// The pages are those before a session and after some first steps of it, with all that are durable.
+pub fn is_cut(alloc: Global, done: &Done, found: &Drive) -> Result<bool, AllocError> {
+    let mut drive = done.start.copy(alloc)?;
+    for i in 0..done.steps.len() {
+        if i >= done.durable && drive.is_same(found) {
+            return Ok(true);
+        }
+        apply(alloc, &mut drive, done.steps[i])?;
+    }
+    Ok(drive.is_same(found))
+}
+
+// What a loss of power leaves of files, as files of which these calls fail.
+fn left_of(
     alloc: Global,
-    bounds: &Bounds,
-    log: &[u8],
-    image: &Medium,
-) -> Result<bool, AllocError> {
-    for left in EXTREMES {
-        let image = outcome(alloc, image, left)?;
-        if !is_kept(alloc, bounds, log, image.as_slice())? {
-            return Ok(false);
-        }
-    }
-    Ok(true)
-}
-
-// With each extreme of either file.
-fn are_kept(
-    alloc: Global,
-    bounds: &Bounds,
-    log: &Medium,
-    image: &Medium,
-) -> Result<bool, AllocError> {
-    for left in EXTREMES {
-        let log = outcome(alloc, log, left)?;
-        if !is_kept_by_extremes(alloc, bounds, log.as_slice(), image)? {
-            return Ok(false);
-        }
-    }
-    Ok(true)
-}
-
-// With outcomes of both by chance.
-fn are_kept_by_chance(
-    alloc: Global,
-    bounds: &Bounds,
-    log: &Medium,
-    image: &Medium,
-    seed: u32,
-) -> Result<bool, AllocError> {
-    for i in 0..CHANCES {
-        let seed = seed.wrapping_mul(2 * CHANCES).wrapping_add(2 * i);
-        let log = outcome(alloc, log, Left::Chance(seed))?;
-        let image = outcome(alloc, image, Left::Chance(seed.wrapping_add(1)))?;
-        if !is_kept(alloc, bounds, log.as_slice(), image.as_slice())? {
-            return Ok(false);
-        }
-    }
-    Ok(true)
-}
-
-// The image of a drive that was never written.
-fn made_image(alloc: Global, is_mixing: bool, fails: Fails) -> Result<Option<Medium>, AllocError> {
-    let Some(drive) = Drive::new(alloc)? else {
-        return Ok(None);
-    };
-    let mut bytes = Vec::from_elem(alloc, 0u8, IMAGE)?;
-    let head = header(&drive.shape);
-    if bytes.len() < head.len() {
-        return Ok(None);
-    }
-    bytes[..head.len()].copy_from_slice(&head);
-    Ok(Some(Medium::new(alloc, bytes.as_slice(), is_mixing, fails)?))
-}
-
-// A session that was done, as far as its files let it through.
-#[derive(Drop)]
-struct Done {
-    drive: Drive,
-    log: Medium,
-    image: Medium,
-    reached: Reached,
-}
-
-// The calls of one file that fail.
-#[derive(Clone, Copy)]
-enum Failing {
-    Log(Fails),
-    Image(Fails),
-}
-
-impl Failing {
-    fn of_log(self) -> Fails {
-        match self {
-            Failing::Log(fails) => fails,
-            Failing::Image(_) => NO_FAILURE,
-        }
-    }
-
-    fn of_image(self) -> Fails {
-        match self {
-            Failing::Log(_) => NO_FAILURE,
-            Failing::Image(fails) => fails,
-        }
-    }
-}
-
-fn done(alloc: Global, is_mixing: bool, failing: Failing) -> Result<Option<Done>, AllocError> {
-    let Some(mut drive) = Drive::new(alloc)? else {
-        return Ok(None);
-    };
-    let Some(mut image) = made_image(alloc, is_mixing, failing.of_image())? else {
-        return Ok(None);
-    };
-    let mut log = Medium::new(alloc, &[], is_mixing, failing.of_log())?;
-    let reached = session(&mut log, &mut image, &mut drive);
-    Ok(Some(Done {
-        drive,
-        log,
-        image,
-        reached,
-    }))
-}
-
-// The steps that a session made durable; None if a loss of power may leave its files so that they
-// are read as something else than they have to.
-fn durable_of(
-    alloc: Global,
-    is_mixing: bool,
+    files: &Files,
+    log: Left,
+    image: Left,
     failing: Failing,
-    seed: u32,
-) -> Result<Option<u32>, AllocError> {
-    let Some(it) = done(alloc, is_mixing, failing)? else {
-        return Ok(None);
+) -> Result<Files, AllocError> {
+    let is_mixing = files.log.mixes();
+    let log = outcome(alloc, &files.log, log)?;
+    let image = outcome(alloc, &files.image, image)?;
+    Ok(Files {
+        log: Medium::new(alloc, log.as_slice(), is_mixing, failing.log)?,
+        image: Medium::new(alloc, image.as_slice(), is_mixing, failing.image)?,
+    })
+}
+
+// With these outcomes the files are opened as such pages.
+fn is_kept(
+    alloc: Global,
+    done: &Done,
+    files: &Files,
+    log: Left,
+    image: Left,
+) -> Result<bool, AllocError> {
+    let mut left = left_of(alloc, files, log, image, NO_FAILURE)?;
+    match open(alloc, &mut left.log, &mut left.image)? {
+        Ok(opened) => is_cut(alloc, done, &opened.drive),
+        Err(_) => Ok(false),
+    }
+}
+
+// The same with each extreme of either file.
+fn is_kept_by_extremes(alloc: Global, done: &Done, files: &Files) -> Result<bool, AllocError> {
+    for i in 0..EXTREMES.len() * EXTREMES.len() {
+        let log = EXTREMES[i / EXTREMES.len()];
+        let image = EXTREMES[i % EXTREMES.len()];
+        if !is_kept(alloc, done, files, log, image)? {
+            return Ok(false);
+        }
+    }
+    Ok(true)
+}
+
+// The same by chance, so many times.
+fn is_kept_by_chance(
+    alloc: Global,
+    done: &Done,
+    files: &Files,
+    random: &mut Random,
+) -> Result<bool, AllocError> {
+    for _ in 0..CHANCES {
+        let (log, image) = (any_left(random), any_left(random));
+        if !is_kept(alloc, done, files, log, image)? {
+            return Ok(false);
+        }
+    }
+    Ok(true)
+}
+
+// A further session, over what a loss of power left of the files of one; None if they are not opened
+// as they have to be.
+fn further(
+    alloc: Global,
+    done: &Done,
+    files: &Files,
+    failing: Failing,
+    random: &mut Random,
+) -> Result<Option<(Done, Files)>, AllocError> {
+    let (log, image) = (any_left(random), any_left(random));
+    let left = left_of(alloc, files, log, image, failing)?;
+    let (next, left) = match session(alloc, left, random.seed())? {
+        Ok(it) => it,
+        Err(_) => return Ok(None),
     };
-    let Some(bounds) = bounds_of(alloc, it.reached)? else {
-        return Ok(None);
-    };
-    if are_kept(alloc, &bounds, &it.log, &it.image)?
-        && are_kept_by_chance(alloc, &bounds, &it.log, &it.image, seed)?
-    {
-        Ok(Some(it.reached.durable))
+    if is_cut(alloc, done, &next.start)? {
+        Ok(Some((next, left)))
     } else {
         Ok(None)
     }
 }
 
-// A session in which no call fails.
-fn whole(alloc: Global, is_mixing: bool) -> Result<Done, Fail> {
-    let it = done(alloc, is_mixing, Failing::Log(NO_FAILURE))?.ok_or("no session")?;
-    if it.reached.durable != ALL_STEPS {
-        return Err("the session did not come to its end".into());
+// A session came to its end, and the image alone is the drive.
+fn is_image_alone(alloc: Global, done: &Done, files: &Files) -> Result<bool, AllocError> {
+    let mut log = Medium::new(alloc, &[], true, NEVER)?;
+    let mut image = Medium::new(alloc, files.image.synced(), true, NEVER)?;
+    match open(alloc, &mut log, &mut image)? {
+        Ok(opened) => Ok(done.is_over && opened.drive.is_same(&done.drive)),
+        Err(_) => Ok(false),
     }
-    Ok(it)
+}
+
+// The same after further sessions: one that is stopped too, and one that comes to its end.
+fn is_kept_further(
+    alloc: Global,
+    done: &Done,
+    files: &Files,
+    random: &mut Random,
+) -> Result<bool, AllocError> {
+    let stopped = Failing {
+        log: Fails::From(random.below(80) as u32 + 3),
+        image: Fails::From(random.below(80) as u32 + 3),
+    };
+    let Some((next, left)) = further(alloc, done, files, stopped, random)? else {
+        return Ok(false);
+    };
+    if !is_kept_by_chance(alloc, &next, &left, random)? {
+        return Ok(false);
+    }
+    let Some((last, left)) = further(alloc, &next, &left, NO_FAILURE, random)? else {
+        return Ok(false);
+    };
+    Ok(is_image_alone(alloc, &last, &left)? && is_kept_by_extremes(alloc, &last, &left)?)
+}
+
+// How a trial went.
+#[derive(Clone, Copy, Debug, PartialEq, Eq)]
+enum Trial {
+    // The files were opened as other pages, or refused.
+    Lost,
+    // The session was stopped before its end.
+    Stopped,
+    Over,
+}
+
+// A session of which these calls fail, and what comes after it.
+fn trial(alloc: Global, is_mixing: bool, failing: Failing, seed: u32) -> Result<Trial, AllocError> {
+    let Some(files) = made(alloc, is_mixing, failing)? else {
+        return Ok(Trial::Lost);
+    };
+    let (done, files) = match session(alloc, files, seed)? {
+        Ok(it) => it,
+        Err(LogFault::Disk) => return Ok(Trial::Stopped), // nothing was done
+        Err(_) => return Ok(Trial::Lost),
+    };
+    let mut random = Random::new(seed);
+    if !is_kept_by_extremes(alloc, &done, &files)?
+        || !is_kept_by_chance(alloc, &done, &files, &mut random)?
+        || !is_kept_further(alloc, &done, &files, &mut random)?
+    {
+        return Ok(Trial::Lost);
+    }
+    Ok(if done.is_over {
+        Trial::Over
+    } else {
+        Trial::Stopped
+    })
+}
+
+/// A session in which no call fails.
+pub fn whole(alloc: Global, is_mixing: bool, seed: u32) -> Result<(Done, Files), Fail> {
+    let files = made(alloc, is_mixing, NO_FAILURE)?.ok_or("no files")?;
+    match session(alloc, files, seed)? {
+        Ok((done, files)) if done.is_over => Ok((done, files)),
+        _ => Err("the session did not come to its end".into()),
+    }
+}
+
+/// The number of the session that is tried.
+pub const SESSION: u32 = 7;
+
+#[derive(Clone, Copy)]
+enum Which {
+    Log,
+    Image,
+}
+
+// One call of a file fails, or all from it on.
+fn failing(which: Which, fails: Fails) -> Failing {
+    match which {
+        Which::Log => Failing {
+            log: fails,
+            image: NEVER,
+        },
+        Which::Image => Failing {
+            log: NEVER,
+            image: fails,
+        },
+    }
+}
+
+// Trials in which each call of a file fails in turn, and all after it if they are stopped; how many
+// came to their end all the same.
+fn trials(rt: &HostRuntime, is_mixing: bool, which: Which, is_stopped: bool) -> Result<u32, Fail> {
+    let (_, files) = whole(rt.alloc(), is_mixing, SESSION)?;
+    let calls = match which {
+        Which::Log => files.log.calls(),
+        Which::Image => files.image.calls(),
+    };
+    let mut over = 0u32;
+    for call in 0..calls {
+        let fails = if is_stopped {
+            Fails::From(call)
+        } else {
+            Fails::Once(call)
+        };
+        let found = trial(rt.alloc(), is_mixing, failing(which, fails), SESSION)?;
+        assert!(rt; found != Trial::Lost, "call {call} of {calls}");
+        if found == Trial::Over {
+            over = over.saturating_add(1);
+        }
+    }
+    Ok(over)
 }
 
 #[test]
-fn a_session_that_is_stopped_keeps_what_it_answered(rt: HostRuntime) -> Result<(), Fail> {
-    for is_mixing in [true, false] {
-        let all = whole(rt.alloc(), is_mixing)?;
-        for call in 0..all.log.calls() {
-            let failing = Failing::Log(Fails::From(call));
-            assert!(rt;
-                durable_of(rt.alloc(), is_mixing, failing, call)?.is_some(),
-                "{call}"
-            );
-        }
-        for call in 0..all.image.calls() {
-            let failing = Failing::Image(Fails::From(call));
-            assert!(rt;
-                durable_of(rt.alloc(), is_mixing, failing, call)?.is_some(),
-                "{call}"
-            );
-        }
-    }
+fn a_session_that_its_log_stops_keeps_what_it_answered(rt: HostRuntime) -> Result<(), Fail> {
+    assert_eq!(rt; trials(&rt, true, Which::Log, true)?, 0);
+    assert_eq!(rt; trials(&rt, false, Which::Log, true)?, 0);
     Ok(())
 }
 
-// The log stops a session at whichever call fails: nothing may be added behind a batch that may be there.
+#[test]
+fn a_session_that_its_image_stops_keeps_what_it_answered(rt: HostRuntime) -> Result<(), Fail> {
+    assert_eq!(rt; trials(&rt, true, Which::Image, true)?, 0);
+    assert_eq!(rt; trials(&rt, false, Which::Image, true)?, 0);
+    Ok(())
+}
+
 #[test]
 fn a_session_of_whose_log_one_call_fails_keeps_what_it_answered(
     rt: HostRuntime,
 ) -> Result<(), Fail> {
-    for is_mixing in [true, false] {
-        let all = whole(rt.alloc(), is_mixing)?;
-        for call in 0..all.log.calls() {
-            let failing = Failing::Log(Fails::Once(call));
-            let durable = durable_of(rt.alloc(), is_mixing, failing, call)?;
-            assert!(rt; durable.is_some() && durable != Some(ALL_STEPS), "{call}");
-        }
-    }
-    Ok(())
-}
-
-// A write of the image that fails once is made again. Only its sync stops a session.
-#[test]
-fn a_session_of_whose_image_one_call_fails_goes_on(rt: HostRuntime) -> Result<(), Fail> {
-    let all = whole(rt.alloc(), true)?;
-    let mut stopped = 0u32;
-    for call in 0..all.image.calls() {
-        let failing = Failing::Image(Fails::Once(call));
-        let durable = durable_of(rt.alloc(), true, failing, call)?;
-        assert!(rt; durable.is_some(), "{call}");
-        if durable != Some(ALL_STEPS) {
-            stopped = stopped.saturating_add(1);
-        }
-    }
-    assert_eq!(rt; stopped, 1);
-    Ok(())
-}
-
-// The files are read as the drive after so many steps.
-fn reads_as(alloc: Global, steps: u32, log: &[u8], image: &[u8]) -> Result<bool, AllocError> {
-    match (after(alloc, steps)?, read_drive(alloc, log, image)?) {
-        (Some(wanted), Some(found)) => Ok(is_same(&found, &wanted)),
-        _ => Ok(false),
-    }
-}
-
-// The log of a session that came to its end has the record of the image, and two batches.
-const LAST: usize = FIRST_BATCH + RECORD + BATCH;
-
-#[test]
-fn a_log_cut_in_its_last_batch_is_read_without_it(rt: HostRuntime) -> Result<(), Fail> {
-    let it = whole(rt.alloc(), true)?;
-    let (log, image) = (it.log.bytes(), it.image.bytes());
-    assert!(rt; log.len() > LAST + BATCH);
-    for at in LAST..LAST + BATCH {
-        assert!(rt;
-            reads_as(rt.alloc(), ALL_STEPS - 3, &log[..at], image)?,
-            "ends at {at}"
-        );
-        let mut cut = log.to_vec(rt.alloc())?;
-        assert!(rt; at < cut.len());
-        cut[at..].fill(0);
-        let left = if cut.as_slice() == log { 0 } else { 3 };
-        assert!(rt;
-            reads_as(rt.alloc(), ALL_STEPS - left, cut.as_slice(), image)?,
-            "zeros from {at}"
-        );
-    }
-    assert!(rt; reads_as(rt.alloc(), ALL_STEPS, log, image)?);
+    let _ = trials(&rt, true, Which::Log, false)?;
+    let _ = trials(&rt, false, Which::Log, false)?;
     Ok(())
 }
 
 #[test]
-fn a_batch_of_which_one_byte_is_lost_is_not_read(rt: HostRuntime) -> Result<(), Fail> {
-    let it = whole(rt.alloc(), true)?;
-    let (log, image) = (it.log.bytes(), it.image.bytes());
-    assert!(rt; log.len() > LAST + BATCH);
-    for at in FIRST_BATCH..LAST + BATCH {
-        let mut lost = log.to_vec(rt.alloc())?;
-        assert!(rt; at < lost.len());
-        lost[at] = 0;
-        let batches = if at < LAST { 2 } else { 1 };
-        let left = if lost.as_slice() == log {
-            0
-        } else {
-            3 * batches
+fn a_session_of_whose_image_one_call_fails_keeps_what_it_answered(
+    rt: HostRuntime,
+) -> Result<(), Fail> {
+    // a write of the image that fails once is made again by the next checkpoint
+    assert!(rt; trials(&rt, true, Which::Image, false)? > 0);
+    assert!(rt; trials(&rt, false, Which::Image, false)? > 0);
+    Ok(())
+}
+
+// Sessions of any number, which chance stops.
+const SESSIONS: u32 = 8;
+
+#[test]
+fn sessions_that_chance_stops_keep_what_they_answered(rt: HostRuntime) -> Result<(), Fail> {
+    for number in 0..SESSIONS {
+        let mut random = Random::new(number);
+        let failing = Failing {
+            log: Fails::From(random.below(100) as u32),
+            image: Fails::From(random.below(100) as u32),
         };
-        assert!(rt;
-            reads_as(rt.alloc(), ALL_STEPS - left, lost.as_slice(), image)?,
-            "{at}"
-        );
+        let found = trial(rt.alloc(), number % 2 == 0, failing, random.seed())?;
+        assert!(rt; found != Trial::Lost, "session {number}");
     }
-    Ok(())
-}
-
-#[test]
-fn the_log_of_another_image_is_refused(rt: HostRuntime) -> Result<(), Fail> {
-    let alloc = rt.alloc();
-    let mut it = whole(alloc, true)?;
-    let other = made_image(alloc, true, NO_FAILURE)?.ok_or("no other image")?;
-    assert!(rt; settles(&mut it.log, &mut it.image, &it.drive));
-    assert!(rt; reads_as(alloc, ALL_STEPS, it.log.bytes(), it.image.bytes())?);
-    assert!(rt; read_drive(alloc, it.log.bytes(), other.bytes())?.is_none());
-    // a log that is shut belongs to any image
-    assert!(rt; it.log.may_be_used());
-    assert!(rt; it.image.may_be_used());
-    assert!(rt; close(&mut it.log, &mut it.image, &it.drive.shape).is_ok());
-    assert!(rt; reads_as(alloc, ALL_STEPS, it.log.bytes(), it.image.bytes())?);
-    assert!(rt; reads_as(alloc, 0, it.log.bytes(), other.bytes())?);
     Ok(())
 }

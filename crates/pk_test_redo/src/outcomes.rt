@@ -1,8 +1,7 @@
 //! What a loss of power may leave of a file, from what was synced and the changes since: by the extremes of what the model of a disk allows,
 //! and at random.
-ghost use Rattle.std.specs.Prelude.{◌<◌};
-
 use crate::medium::{Change, Medium};
+use crate::random::Random;
 use sqlite_disk::Disk;
 use std::alloc::{AllocError, Global};
 
@@ -32,6 +31,14 @@ pub const EXTREMES: [Left; 5] = [
     Left::Spoiled,
 ];
 
+/// One of them by chance.
+pub fn any_left(random: &mut Random) -> Left {
+    match random.below(4 * EXTREMES.len()) {
+        i if i < EXTREMES.len() => EXTREMES[i],
+        _ => Left::Chance(random.seed()),
+    }
+}
+
 // What becomes of one change.
 #[derive(Clone, Copy, PartialEq, Eq)]
 enum Fate {
@@ -42,30 +49,6 @@ enum Fate {
     Part { from: usize, to: usize },
     // Each byte by chance.
     Mixed,
-}
-
-/// A sequence of numbers that look random.
-#[derive(Clone, Copy)]
-pub struct Random(u32);
-
-impl Random {
-    pub fn new(seed: u32) -> Random {
-        Random(seed)
-    }
-
-    /// A number below a limit.
-    pub fn below(&mut self, limit: usize) -> usize
-        requires { 0 < limit }
-        ensures { result < limit }
-    {
-        self.0 = self.0.wrapping_mul(1_103_515_245).wrapping_add(12_345);
-        (self.0 / 65_536) as usize % limit
-    }
-
-    fn byte(&mut self) -> u8 {
-        self.0 = self.0.wrapping_mul(1_103_515_245).wrapping_add(12_345);
-        (self.0 / 65_536 % 256) as u8
-    }
 }
 
 // The fate by chance of a change of so many bytes.

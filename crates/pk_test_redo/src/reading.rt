@@ -1,96 +1,95 @@
-//! What a reader finds in two files: the pages of the image after the steps of the log, if they belong together.
+//! What an image and its log are opened as: the pages of the image after the steps of the log.
+ghost use Rattle.std.specs.Prelude.{◌≡◌, length, IfOk};
 
-use crate::deeds::PAGES;
-use crate::drive::{Drive, PAGE};
-use pk_base::Shape;
+use crate::cell::{Cell, Front, PAGE};
+use crate::drive::{Drive, PAGES};
+use crate::medium::Medium;
 use pk_image::HEADER_BYTES;
-use pk_redo::{Step, find_batches, is_record_of, read_steps, set_pages};
+use pk_redo::{LogFault, Replay, Step};
 use std::alloc::{AllocError, Global};
 
 /// Bytes of the image of a drive.
 pub const IMAGE: usize = HEADER_BYTES + PAGES * (PAGE + 1);
 
-/// Most bytes of a log of these tests.
-const MOST_LOG: usize = 4096;
-
-// Whether a record is of this image, but for pages that steps set.
-fn is_of(shape: &Shape, record: &[u8], image: &[u8], set: &[bool]) -> bool {
-    if image.len() != IMAGE || shape.page_count() as usize != PAGES || set.len() != PAGES {
-        return false;
-    }
-    let states = &image[HEADER_BYTES..HEADER_BYTES + PAGES];
-    is_record_of(shape, record, &image[..HEADER_BYTES], states, set)
+/// A drive that was opened.
+#[derive(Drop)]
+pub struct Opened {
+    pub drive: Drive,
+    pub replay: Replay,
+    /// How many bytes at the place of each page in the image may differ from zero.
+    pub extents: Vec<usize>,
 }
 
-// Whether the first of these batches of a log, if there is one, is the record of this image.
-fn belongs(
-    shape: &Shape,
-    log: &[u8],
-    batches: &[(usize, usize)],
-    image: &[u8],
-    set: &[bool],
-) -> bool {
-    let Some((at, len)) = batches.first() else {
-        return true;
-    };
-    let (at, len) = (*at, *len);
-    if at > log.len() || len > log.len() - at {
-        return false;
+// The bytes at the place of a page of an image.
+fn place(image: &[u8], page: usize) -> &[u8] {
+    let at = HEADER_BYTES
+        .saturating_add(PAGES)
+        .saturating_add(page.saturating_mul(PAGE));
+    if at > image.len() || image.len() - at < PAGE {
+        return &[];
     }
-    is_of(shape, &log[at..at + len], image, set)
+    &image[at..at + PAGE]
 }
 
-// Puts the pages of an image into a drive that was never written.
-fn load(drive: &mut Drive, image: &[u8]) {
+// A page of an image, by its state byte and its bytes.
+fn cell_of(alloc: Global, image: &[u8], page: usize) -> Result<Cell, AllocError> {
+    match image.get(HEADER_BYTES.saturating_add(page)) {
+        Some(0) => Ok(Cell::Erased),
+        Some(1) => Ok(Cell::Whole(Front::new(alloc, place(image, page))?)),
+        _ => Ok(Cell::Torn),
+    }
+}
+
+fn load(alloc: Global, drive: &mut Drive, image: &[u8]) -> Result<(), AllocError> {
     for page in 0..PAGES {
-        let place = HEADER_BYTES + PAGES + page * PAGE;
-        if let (Some(1), Some(front)) = (image.get(HEADER_BYTES + page), image.get(place)) {
-            drive.program(page as u32, *front);
-        }
+        drive.set(page, cell_of(alloc, image, page)?);
     }
+    Ok(())
 }
 
-// Does the steps of a log.
-fn replay(drive: &mut Drive, log: &[u8], steps: &[Step]) {
-    for step in steps {
+fn extents_of(alloc: Global, image: &[u8]) -> Result<Vec<usize>, AllocError> {
+    let mut extents = Vec::new(alloc);
+    for page in 0..PAGES {
+        extents.push(Front::new(alloc, place(image, page))?.as_slice().len())?;
+    }
+    Ok(extents)
+}
+
+fn replay_steps(alloc: Global, drive: &mut Drive, replay: &Replay) -> Result<(), AllocError> {
+    for step in replay.steps.as_slice() {
         match step {
-            Step::Program { page, at, .. } => match log.get(*at) {
-                Some(byte) => drive.program(*page, *byte),
-                None => {}
-            },
+            Step::Program { page, at, len } => {
+                let end = at.saturating_add(*len);
+                match replay.bytes.get(*at..end) {
+                    Some(front) => drive.program(alloc, *page, front)?,
+                    None => drive.set(*page as usize, Cell::Torn),
+                }
+            }
             Step::Erase { block } => drive.erase(*block),
         }
     }
+    Ok(())
 }
 
-/// The drive that a reader finds; None if the files are refused.
-pub fn read_drive(alloc: Global, log: &[u8], image: &[u8]) -> Result<Option<Drive>, AllocError> {
+/// Opens the files; the fault if they are refused.
+pub fn open(
+    alloc: Global,
+    log: &mut Medium,
+    image: &mut Medium,
+) -> Result<Result<Opened, LogFault>, AllocError> {
     let Some(mut drive) = Drive::new(alloc)? else {
-        return Ok(None);
+        return Ok(Err(LogFault::Memory));
     };
-    if log.len() > MOST_LOG || image.len() != IMAGE {
-        return Ok(None);
-    }
-    let shape = drive.shape;
-    let Ok(steps) = read_steps(alloc, &shape, log) else {
-        return Ok(None);
+    let replay = match Replay::read(alloc, log, image, &drive.shape) {
+        Ok(replay) => replay,
+        Err(fault) => return Ok(Err(fault)),
     };
-    let set = set_pages(alloc, &shape, steps.as_slice())?;
-    let batches = find_batches(alloc, log)?;
-    if !belongs(&shape, log, batches.as_slice(), image, set.as_slice()) {
-        return Ok(None);
-    }
-    load(&mut drive, image);
-    replay(&mut drive, log, steps.as_slice());
-    Ok(Some(drive))
-}
-
-/// Both drives have the same pages.
-pub fn is_same(one: &Drive, other: &Drive) -> bool {
-    for page in 0..PAGES {
-        if one.shown(page) != other.shown(page) {
-            return false;
-        }
-    }
-    true
+    let extents = extents_of(alloc, image.bytes())?;
+    load(alloc, &mut drive, image.bytes())?;
+    replay_steps(alloc, &mut drive, &replay)?;
+    Ok(Ok(Opened {
+        drive,
+        replay,
+        extents,
+    }))
 }

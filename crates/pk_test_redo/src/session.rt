@@ -1,128 +1,173 @@
-//! A session over a log and an image: steps in batches, barriers and a checkpoint, as far as the disks let them through.
+//! A session: the files are opened, deeds are done, and the run ends; or as much of it as the files let through.
 
-use crate::deeds::{BATCH, RECORD, apply, batch_of, record_of};
-use crate::drive::{Drive, PAGE};
-use pk_redo::{FIRST_BATCH, barrier, checkpoint, finish, reset, settle};
-use sqlite_disk::Disk;
+use crate::cell::PAGE;
+use crate::deeds::{Deed, bytes_from, deed_of};
+use crate::drive::Drive;
+use crate::medium::{Fails, Medium};
+use crate::reading::{IMAGE, Opened, open};
+use pk_image::header;
+use pk_redo::{LogFault, LogSizes, RedoLog};
+use std::alloc::{AllocError, Global};
 
-// Zeros behind the record with which a log begins.
-const BLANK: usize = 256;
+/// Deeds of a session.
+pub const DEEDS: u32 = 24;
 
-// Where the room of a log ends.
-const ROOM: usize = FIRST_BATCH + RECORD + BLANK;
+/// The log and the image.
+#[derive(Drop)]
+pub struct Files {
+    pub log: Medium,
+    pub image: Medium,
+}
 
-/// The steps that a session does.
-pub const ALL_STEPS: u32 = 12;
+/// What a session has done.
+#[derive(Drop)]
+pub struct Done {
+    /// The pages before it.
+    pub start: Drive,
+    /// Those in memory at its end.
+    pub drive: Drive,
+    /// Its steps, the oldest first.
+    pub steps: Vec<Deed>,
+    /// How many of them a barrier that returned success made durable.
+    pub durable: usize,
+    /// It came to its end, so that the image alone is the drive.
+    pub is_over: bool,
+}
 
-/// How many steps are durable, and of how many the batch was tried.
+/// The calls of each file that fail.
 #[derive(Clone, Copy)]
-pub struct Reached {
-    pub durable: u32,
-    pub tried: u32,
+pub struct Failing {
+    pub log: Fails,
+    pub image: Fails,
 }
 
-// Begins the log of a drive.
-fn begins<D: Disk>(log: &mut D, drive: &Drive) -> bool {
-    let first = record_of(drive);
-    log.may_be_used() && reset(log, &first, &[0u8; BLANK]).is_ok()
-}
-
-// Does a round's three steps, and makes them durable.
-fn commits<D: Disk>(log: &mut D, image: &D, drive: &mut Drive, end: usize, round: u32) -> bool {
-    let number = round.saturating_mul(3);
-    let batch = batch_of(&drive.shape, number);
-    for i in 0..3u32 {
-        apply(drive, number.saturating_add(i));
-    }
-    if !log.may_be_used() || end >= ROOM - BATCH {
-        return false;
-    }
-    let shape = drive.shape;
-    barrier(log, image, &shape, end, ROOM, &batch).is_ok()
-}
-
-// Brings the pages to the image.
-fn writes<D: Disk>(image: &mut D, drive: &Drive) -> bool {
-    let mut buffer = [0u8; PAGE];
-    let shape = drive.shape;
-    image.may_be_used() && checkpoint(image, &shape, drive, &mut buffer).is_ok()
-}
-
-// Empties the log, once the image has all pages.
-fn empties<D: Disk>(log: &mut D, image: &mut D, drive: &Drive) -> bool {
-    let first = record_of(drive);
-    let shape = drive.shape;
-    if !log.may_be_used() || !image.may_be_used() {
-        return false;
-    }
-    finish(log, image, &shape, &first, &[0u8; BLANK]).is_ok()
-}
-
-// The checkpoint after a round. One that a write stopped is made again: the log has all its steps.
-fn saves<D: Disk>(log: &mut D, image: &mut D, drive: &mut Drive) -> bool {
-    if !writes(image, drive) && !writes(image, drive) {
-        return false;
-    }
-    if !empties(log, image, drive) {
-        return false;
-    }
-    drive.settled();
-    true
-}
-
-// Two rounds, or as much of them as the log lets through.
-fn rounds<D: Disk>(
-    log: &mut D,
-    image: &D,
-    drive: &mut Drive,
-    first: u32,
-    reached: &mut Reached,
-) -> bool {
-    let mut end = FIRST_BATCH + RECORD;
-    for i in 0..2u32 {
-        let round = first.saturating_add(i);
-        reached.tried = round.saturating_mul(3).saturating_add(3);
-        if !commits(log, image, drive, end, round) {
-            return false;
-        }
-        reached.durable = reached.tried;
-        end = end.saturating_add(BATCH);
-    }
-    true
-}
-
-/// Four batches of three steps each, with a checkpoint after the second one; or as much of it as the
-/// disks let through.
-pub fn session<D: Disk>(log: &mut D, image: &mut D, drive: &mut Drive) -> Reached {
-    let mut reached = Reached {
-        durable: 0,
-        tried: 0,
+/// The files of a drive that was never written: the image, and no byte of a log.
+pub fn made(alloc: Global, is_mixing: bool, failing: Failing) -> Result<Option<Files>, AllocError> {
+    let Some(drive) = Drive::new(alloc)? else {
+        return Ok(None);
     };
-    if begins(log, drive)
-        && rounds(log, image, drive, 0, &mut reached)
-        && saves(log, image, drive)
-    {
-        let _ = rounds(log, image, drive, 2, &mut reached);
+    let mut bytes = Vec::from_elem(alloc, 0u8, IMAGE)?;
+    let head = header(&drive.shape);
+    if bytes.len() < head.len() {
+        return Ok(None);
     }
-    reached
+    bytes[..head.len()].copy_from_slice(&head);
+    Ok(Some(Files {
+        log: Medium::new(alloc, &[], is_mixing, failing.log)?,
+        image: Medium::new(alloc, bytes.as_slice(), is_mixing, failing.image)?,
+    }))
 }
 
-/// A checkpoint by one call, after a session: the log begins with the record of these pages.
-pub fn settles<D: Disk>(log: &mut D, image: &mut D, drive: &Drive) -> bool {
-    let first = record_of(drive);
-    let mut buffer = [0u8; PAGE];
-    let shape = drive.shape;
-    if !log.may_be_used() || !image.may_be_used() {
+// Room for a step is secured.
+fn is_ready(redo: &mut RedoLog<Medium>, drive: &Drive, len: usize) -> bool {
+    redo.ready(drive, len).is_ok() && redo.has_room(len)
+}
+
+fn program(
+    alloc: Global,
+    redo: &mut RedoLog<Medium>,
+    done: &mut Done,
+    page: u32,
+    front: &[u8],
+) -> Result<bool, AllocError> {
+    if !is_ready(redo, &done.drive, front.len()) {
+        return Ok(false);
+    }
+    redo.program(page, front);
+    done.drive.program(alloc, page, front)?;
+    Ok(true)
+}
+
+fn erase(redo: &mut RedoLog<Medium>, done: &mut Done, block: u32) -> bool {
+    if !is_ready(redo, &done.drive, 0) {
         return false;
     }
-    settle(
-        log,
-        image,
-        &shape,
+    redo.erase(block);
+    done.drive.erase(block);
+    true
+}
+
+// Does a step, or a barrier. A step for which there is no room is left out.
+fn does(
+    alloc: Global,
+    redo: &mut RedoLog<Medium>,
+    done: &mut Done,
+    deed: Deed,
+) -> Result<(), AllocError> {
+    let is_step = match deed {
+        Deed::Program { page, byte, len } => {
+            let bytes = bytes_from(byte);
+            program(alloc, redo, done, page, &bytes[..len.min(PAGE)])?
+        }
+        Deed::Erase { block } => erase(redo, done, block),
+        Deed::Barrier => {
+            if redo.barrier().is_ok() {
+                done.durable = done.steps.len();
+            }
+            false
+        }
+    };
+    if is_step {
+        done.steps.push(deed)?;
+    }
+    Ok(())
+}
+
+fn does_all(
+    alloc: Global,
+    redo: &mut RedoLog<Medium>,
+    done: &mut Done,
+    session: u32,
+) -> Result<(), AllocError> {
+    for number in 0..DEEDS {
+        if redo.is_lost() {
+            return Ok(());
+        }
+        does(alloc, redo, done, deed_of(session, number))?;
+    }
+    if redo.finish(&done.drive).is_ok() {
+        done.durable = done.steps.len();
+        done.is_over = true;
+    }
+    Ok(())
+}
+
+// The log of an opened drive, with little room, so that a session makes checkpoints.
+fn redo_of(
+    alloc: Global,
+    files: Files,
+    opened: Opened,
+) -> Result<(RedoLog<Medium>, Drive), AllocError> {
+    let Files { log, image } = files;
+    let Opened {
         drive,
-        &mut buffer,
-        &first,
-        &[0u8; BLANK],
-    )
-    .is_ok()
+        replay,
+        extents,
+    } = opened;
+    let sizes = LogSizes::new(&drive.shape, 1_100, 1_300, 2_900);
+    let redo = RedoLog::new(alloc, log, image, drive.shape, &replay, extents, sizes)?;
+    Ok((redo, drive))
+}
+
+/// A session over these files; the fault if they are refused.
+pub fn session(
+    alloc: Global,
+    mut files: Files,
+    number: u32,
+) -> Result<Result<(Done, Files), LogFault>, AllocError> {
+    let opened = match open(alloc, &mut files.log, &mut files.image)? {
+        Ok(opened) => opened,
+        Err(fault) => return Ok(Err(fault)),
+    };
+    let (mut redo, drive) = redo_of(alloc, files, opened)?;
+    let mut done = Done {
+        start: drive.copy(alloc)?,
+        drive,
+        steps: Vec::new(alloc),
+        durable: 0,
+        is_over: false,
+    };
+    does_all(alloc, &mut redo, &mut done, number)?;
+    let (log, image) = redo.into_disks();
+    Ok(Ok((done, Files { log, image })))
 }

@@ -1,0 +1,87 @@
+//! A page in memory.
+ghost use Rattle.std.specs.Prelude.{◌≤◌, length};
+
+use pk_image::PageTag;
+use std::alloc::{AllocError, Global};
+
+/// Bytes of a page of the drives of these tests.
+pub const PAGE: usize = 512;
+
+/// The bytes of a Whole page up to the last that is not 0.
+#[derive(Drop)]
+pub struct Front {
+    bytes: Vec<u8>,
+    ghost short: { length bytes.items ≤ PAGE },
+}
+
+#[derive(Drop)]
+pub enum Cell {
+    Erased,
+    Torn,
+    Whole(Front),
+}
+
+// How many bytes there are up to the last that is not 0.
+fn trimmed(bytes: &[u8]) -> usize
+    ensures { result ≤ length bytes.now }
+{
+    let mut len = 0;
+    for i in 0..bytes.len() {
+        if bytes[i] != 0 {
+            len = i + 1;
+        }
+    }
+    len
+}
+
+impl Front {
+    /// The front of a page with these bytes; those behind its end are left out.
+    pub fn new(alloc: Global, bytes: &[u8]) -> Result<Front, AllocError> {
+        let len = trimmed(bytes).min(PAGE);
+        Ok(Front {
+            bytes: bytes[..len].to_vec(alloc)?,
+        })
+    }
+
+    pub fn as_slice(&self) -> &[u8]
+        ensures bytes { result.now ≡ self.now.bytes.items }
+        ensures short { length result.now ≤ PAGE }
+    {
+        &self.bytes
+    }
+}
+
+impl Cell {
+    pub fn tag(&self) -> PageTag {
+        match self {
+            Cell::Erased => PageTag::Erased,
+            Cell::Torn => PageTag::Torn,
+            Cell::Whole(_) => PageTag::Whole,
+        }
+    }
+
+    /// The front of a Whole page, and no byte of another one.
+    pub fn front(&self) -> &[u8] {
+        match self {
+            Cell::Whole(front) => front.as_slice(),
+            _ => &[],
+        }
+    }
+
+    pub fn copy(&self, alloc: Global) -> Result<Cell, AllocError> {
+        match self {
+            Cell::Erased => Ok(Cell::Erased),
+            Cell::Torn => Ok(Cell::Torn),
+            Cell::Whole(front) => Ok(Cell::Whole(Front::new(alloc, front.as_slice())?)),
+        }
+    }
+
+    /// Both are pages of the same bytes.
+    pub fn is_same(&self, other: &Cell) -> bool {
+        match (self, other) {
+            (Cell::Erased, Cell::Erased) | (Cell::Torn, Cell::Torn) => true,
+            (Cell::Whole(one), Cell::Whole(other)) => one.as_slice() == other.as_slice(),
+            _ => false,
+        }
+    }
+}
