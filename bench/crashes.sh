@@ -1,15 +1,15 @@
 #!/bin/sh
 # Runs sessions over an image and its log in memory that are stopped at calls of both files by chance, as the test of pk_test_redo does of
 # a few: each is opened again after each of 25 extremes and four outcomes by chance of what a loss of power may leave of both files, and so
-# are a session over what was left that is stopped too, and one after it that comes to its end: 58 outcomes for each session. It is not
+# are a session over what was left that is stopped too, and one after it that comes to its end: 37 outcomes for each session. It is not
 # part of the gate.
 #
 # It works on a copy of the sources, as bench/long.sh does: the test is proved with the other number of sessions, and run as it is built.
 #
-#   bench/crashes.sh [SESSIONS]     2,000 by default, which are 116,000 outcomes
+#   bench/crashes.sh [SESSIONS]     3,000 by default, which are 111,000 outcomes
 set -eu
 
-sessions=${1:-2000}
+sessions=${1:-3000}
 case $sessions in
 0* | *[!0-9]*)
     echo "crashes: SESSIONS is a number above 0" >&2
@@ -48,4 +48,4 @@ rt test -- "no test" >log 2>&1 || {
 }
 start=$(date +%s)
 ./out/pk_test_redo_tests crashes::sessions_that_chance_stops_keep_what_they_answered
-echo "$sessions sessions, $((58 * sessions)) outcomes: $(($(date +%s) - start)) seconds"
+echo "$sessions sessions, $((37 * sessions)) outcomes: $(($(date +%s) - start)) seconds"

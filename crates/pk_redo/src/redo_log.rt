@@ -43,16 +43,16 @@ const USUAL_LIMIT: u32 = 4 << 20;
 impl LogSizes {
     /// The usual ones.
     pub fn usual(shape: &Shape) -> LogSizes
-        ensures { STEP_BYTES + shape.now.page_bytes ≤ result.batch }
-        ensures { BATCH_HEAD + STEP_BYTES + shape.now.page_bytes < result.blank }
+        ensures batch { STEP_BYTES + shape.now.page_bytes ≤ result.batch }
+        ensures blank { BATCH_HEAD + STEP_BYTES + shape.now.page_bytes < result.blank }
     {
         LogSizes::new(shape, USUAL_BATCH, USUAL_BLANK, USUAL_LIMIT)
     }
 
     /// These, each raised to the least with which a step fits, and none above the longest batch.
     pub fn new(shape: &Shape, batch: u32, blank: u32, limit: u32) -> LogSizes
-        ensures { STEP_BYTES + shape.now.page_bytes ≤ result.batch }
-        ensures { BATCH_HEAD + STEP_BYTES + shape.now.page_bytes < result.blank }
+        ensures batch { STEP_BYTES + shape.now.page_bytes ≤ result.batch }
+        ensures blank { BATCH_HEAD + STEP_BYTES + shape.now.page_bytes < result.blank }
     {
         let step = STEP_BYTES + shape.page_bytes() as usize;
         LogSizes {

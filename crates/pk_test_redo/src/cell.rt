@@ -1,5 +1,5 @@
 //! A page in memory.
-ghost use Rattle.std.specs.Prelude.{◌≤◌, length};
+ghost use Rattle.std.specs.Prelude.{◌≡◌, ◌≤◌, ℕ, List, length};
 
 use pk_image::PageTag;
 use std::alloc::{AllocError, Global};
@@ -25,13 +25,13 @@ pub enum Cell {
 fn trimmed(bytes: &[u8]) -> usize
     ensures { result ≤ length bytes.now }
 {
-    let mut len = 0;
     for i in 0..bytes.len() {
-        if bytes[i] != 0 {
-            len = i + 1;
+        let len = bytes.len() - i;
+        if bytes[len - 1] != 0 {
+            return len;
         }
     }
-    len
+    0
 }
 
 impl Front {
@@ -52,7 +52,14 @@ impl Front {
 }
 
 impl Cell {
-    pub fn tag(&self) -> PageTag {
+    ghost use Rattle.pk_base.specs.Fields.{padded};
+    ghost use Rattle.pk_base.specs.Page.{whole};
+    ghost use Rattle.pk_image.specs.Image.{byte_of, state_byte};
+    ghost use Rattle.pk_test_redo.specs.Cells.{page_of};
+
+    pub fn tag(&self) -> PageTag
+        ensures { byte_of result ≡ state_byte (page_of self.now) }
+    {
         match self {
             Cell::Erased => PageTag::Erased,
             Cell::Torn => PageTag::Torn,
@@ -61,7 +68,10 @@ impl Cell {
     }
 
     /// The front of a Whole page, and no byte of another one.
-    pub fn front(&self) -> &[u8] {
+    pub fn front(&self) -> &[u8]
+        ensures short { length result.now ≤ PAGE }
+        ensures page { (own : List ℕ) → page_of self.now ≡ whole own → own ≡ padded PAGE result.now }
+    {
         match self {
             Cell::Whole(front) => front.as_slice(),
             _ => &[],

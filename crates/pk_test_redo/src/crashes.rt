@@ -138,7 +138,7 @@ fn is_image_alone(alloc: Global, done: &Done, files: &Files) -> Result<bool, All
     let mut log = Medium::new(alloc, &[], true, NEVER)?;
     let mut image = Medium::new(alloc, files.image.synced(), true, NEVER)?;
     match open(alloc, &mut log, &mut image)? {
-        Ok(opened) => Ok(done.is_over && opened.drive.is_same(&done.drive)),
+        Ok(opened) => Ok(done.is_over && opened.drive.is_same(&done.end)),
         Err(_) => Ok(false),
     }
 }
@@ -163,7 +163,7 @@ fn is_kept_further(
     let Some((last, left)) = further(alloc, &next, &left, NO_FAILURE, random)? else {
         return Ok(false);
     };
-    Ok(is_image_alone(alloc, &last, &left)? && is_kept_by_extremes(alloc, &last, &left)?)
+    Ok(is_image_alone(alloc, &last, &left)? && is_kept_by_chance(alloc, &last, &left, random)?)
 }
 
 // How a trial went.
@@ -204,8 +204,8 @@ fn trial(alloc: Global, is_mixing: bool, failing: Failing, seed: u32) -> Result<
 pub fn whole(alloc: Global, is_mixing: bool, seed: u32) -> Result<(Done, Files), Fail> {
     let files = made(alloc, is_mixing, NO_FAILURE)?.ok_or("no files")?;
     match session(alloc, files, seed)? {
-        Ok((done, files)) if done.is_over => Ok((done, files)),
-        _ => Err("the session did not come to its end".into()),
+        Ok(it) => Ok(it),
+        Err(_) => Err("the files are refused".into()),
     }
 }
 
@@ -232,10 +232,17 @@ fn failing(which: Which, fails: Fails) -> Failing {
     }
 }
 
-// Trials in which each call of a file fails in turn, and all after it if they are stopped; how many
-// came to their end all the same.
-fn trials(rt: &HostRuntime, is_mixing: bool, which: Which, is_stopped: bool) -> Result<u32, Fail> {
-    let (_, files) = whole(rt.alloc(), is_mixing, SESSION)?;
+// What trials of each call of a file found: how many sessions came to their end, and the first call
+// at which files were lost.
+#[derive(Clone, Copy)]
+struct Found {
+    over: u32,
+    lost: Option<u32>,
+}
+
+// Trials in which each call of a file fails in turn, and all after it if they are stopped.
+fn trials(alloc: Global, is_mixing: bool, which: Which, is_stopped: bool) -> Result<Found, Fail> {
+    let (_, files) = whole(alloc, is_mixing, SESSION)?;
     let calls = match which {
         Which::Log => files.log.calls(),
         Which::Image => files.image.calls(),
@@ -247,26 +254,37 @@ fn trials(rt: &HostRuntime, is_mixing: bool, which: Which, is_stopped: bool) -> 
         } else {
             Fails::Once(call)
         };
-        let found = trial(rt.alloc(), is_mixing, failing(which, fails), SESSION)?;
-        assert!(rt; found != Trial::Lost, "call {call} of {calls}");
-        if found == Trial::Over {
-            over = over.saturating_add(1);
+        match trial(alloc, is_mixing, failing(which, fails), SESSION)? {
+            Trial::Over => over = over.saturating_add(1),
+            Trial::Stopped => {}
+            Trial::Lost => {
+                return Ok(Found {
+                    over,
+                    lost: Some(call),
+                });
+            }
         }
     }
-    Ok(over)
+    Ok(Found { over, lost: None })
 }
 
 #[test]
 fn a_session_that_its_log_stops_keeps_what_it_answered(rt: HostRuntime) -> Result<(), Fail> {
-    assert_eq!(rt; trials(&rt, true, Which::Log, true)?, 0);
-    assert_eq!(rt; trials(&rt, false, Which::Log, true)?, 0);
+    for is_mixing in [true, false] {
+        let found = trials(rt.alloc(), is_mixing, Which::Log, true)?;
+        assert_eq!(rt; found.lost, None);
+        assert_eq!(rt; found.over, 0);
+    }
     Ok(())
 }
 
 #[test]
 fn a_session_that_its_image_stops_keeps_what_it_answered(rt: HostRuntime) -> Result<(), Fail> {
-    assert_eq!(rt; trials(&rt, true, Which::Image, true)?, 0);
-    assert_eq!(rt; trials(&rt, false, Which::Image, true)?, 0);
+    for is_mixing in [true, false] {
+        let found = trials(rt.alloc(), is_mixing, Which::Image, true)?;
+        assert_eq!(rt; found.lost, None);
+        assert_eq!(rt; found.over, 0);
+    }
     Ok(())
 }
 
@@ -274,18 +292,23 @@ fn a_session_that_its_image_stops_keeps_what_it_answered(rt: HostRuntime) -> Res
 fn a_session_of_whose_log_one_call_fails_keeps_what_it_answered(
     rt: HostRuntime,
 ) -> Result<(), Fail> {
-    let _ = trials(&rt, true, Which::Log, false)?;
-    let _ = trials(&rt, false, Which::Log, false)?;
+    for is_mixing in [true, false] {
+        let found = trials(rt.alloc(), is_mixing, Which::Log, false)?;
+        assert_eq!(rt; found.lost, None);
+    }
     Ok(())
 }
 
+// A write of the image that fails once is made again by the next checkpoint.
 #[test]
 fn a_session_of_whose_image_one_call_fails_keeps_what_it_answered(
     rt: HostRuntime,
 ) -> Result<(), Fail> {
-    // a write of the image that fails once is made again by the next checkpoint
-    assert!(rt; trials(&rt, true, Which::Image, false)? > 0);
-    assert!(rt; trials(&rt, false, Which::Image, false)? > 0);
+    for is_mixing in [true, false] {
+        let found = trials(rt.alloc(), is_mixing, Which::Image, false)?;
+        assert_eq!(rt; found.lost, None);
+        assert!(rt; found.over > 0);
+    }
     Ok(())
 }
 

@@ -1,5 +1,5 @@
 //! The pages of a drive in memory.
-ghost use Rattle.std.specs.Prelude.{◌≡◌, length};
+ghost use Rattle.std.specs.Prelude.{◌≡◌, length, IfOk, IfSome};
 ghost use Rattle.pk_base.specs.Shape as spec;
 ghost use Rattle.pk_test_redo.specs.declared.cell.TheConstants.{PAGE};
 
@@ -29,10 +29,12 @@ impl Pages for Drive {
 
     ghost flash_of = { λ d. flash_of_cells d.cells.items };
 
+    #[tactic(auto, using(crate::proofs::Cells::page_here))]
     fn state(&self, page: u32) -> PageTag {
         self.cells[page as usize].tag()
     }
 
+    #[tactic(auto, using(crate::proofs::Cells::page_here))]
     fn front(&self, page: u32) -> &[u8] {
         self.cells[page as usize].front()
     }
@@ -86,19 +88,25 @@ impl Drive {
     }
 
     /// Makes a page this one.
-    pub fn set(&mut self, page: usize, cell: Cell) {
+    pub fn set(&mut self, page: usize, cell: Cell)
+        ensures { self.new.shape ≡ self.old.shape }
+    {
         if page < self.cells.len() {
             self.cells[page] = cell;
         }
     }
 
     /// Programs a page.
-    pub fn program(&mut self, alloc: Global, page: u32, front: &[u8]) -> Result<(), AllocError> {
+    pub fn program(&mut self, alloc: Global, page: u32, front: &[u8]) -> Result<(), AllocError>
+        ensures { self.new.shape ≡ self.old.shape }
+    {
         self.set(page as usize, Cell::Whole(Front::new(alloc, front)?));
         Ok(())
     }
 
-    pub fn erase(&mut self, block: u32) {
+    pub fn erase(&mut self, block: u32)
+        ensures { self.new.shape ≡ self.old.shape }
+    {
         for i in 0..BLOCK {
             self.set((block as usize * BLOCK).saturating_add(i), Cell::Erased);
         }

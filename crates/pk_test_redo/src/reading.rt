@@ -16,8 +16,6 @@ pub const IMAGE: usize = HEADER_BYTES + PAGES * (PAGE + 1);
 pub struct Opened {
     pub drive: Drive,
     pub replay: Replay,
-    /// How many bytes at the place of each page in the image may differ from zero.
-    pub extents: Vec<usize>,
 }
 
 // The bytes at the place of a page of an image.
@@ -47,7 +45,8 @@ fn load(alloc: Global, drive: &mut Drive, image: &[u8]) -> Result<(), AllocError
     Ok(())
 }
 
-fn extents_of(alloc: Global, image: &[u8]) -> Result<Vec<usize>, AllocError> {
+/// How many bytes at the place of each page in an image may differ from zero.
+pub fn extents_of(alloc: Global, image: &[u8]) -> Result<Vec<usize>, AllocError> {
     let mut extents = Vec::new(alloc);
     for page in 0..PAGES {
         extents.push(Front::new(alloc, place(image, page))?.as_slice().len())?;
@@ -84,12 +83,7 @@ pub fn open(
         Ok(replay) => replay,
         Err(fault) => return Ok(Err(fault)),
     };
-    let extents = extents_of(alloc, image.bytes())?;
     load(alloc, &mut drive, image.bytes())?;
     replay_steps(alloc, &mut drive, &replay)?;
-    Ok(Ok(Opened {
-        drive,
-        replay,
-        extents,
-    }))
+    Ok(Ok(Opened { drive, replay }))
 }

@@ -1,16 +1,27 @@
 //! A session: the files are opened, deeds are done, and the run ends; or as much of it as the files let through.
 
+ghost use Rattle.std.specs.Prelude.{◌≡◌, ◌≤◌, true};
+ghost use Rattle.pk_redo.specs.RedoLog.{HasRoomForStep};
+ghost use Rattle.pk_test_redo.specs.declared.cell.TheConstants.{PAGE};
+
 use crate::cell::PAGE;
 use crate::deeds::{Deed, bytes_from, deed_of};
 use crate::drive::Drive;
 use crate::medium::{Fails, Medium};
-use crate::reading::{IMAGE, Opened, open};
+use crate::reading::{IMAGE, Opened, extents_of, open};
 use pk_image::header;
 use pk_redo::{LogFault, LogSizes, RedoLog};
 use std::alloc::{AllocError, Global};
 
 /// Deeds of a session.
 pub const DEEDS: u32 = 24;
+
+// How many bytes of steps a batch has, of zeros there are ahead, and a log has before it is emptied.
+const BATCH_BYTES: u32 = 1_100;
+
+const BLANK_BYTES: u32 = 1_300;
+
+const MOST_BYTES: u32 = 2_900;
 
 /// The log and the image.
 #[derive(Drop)]
@@ -25,7 +36,7 @@ pub struct Done {
     /// The pages before it.
     pub start: Drive,
     /// Those in memory at its end.
-    pub drive: Drive,
+    pub end: Drive,
     /// Its steps, the oldest first.
     pub steps: Vec<Deed>,
     /// How many of them a barrier that returned success made durable.
@@ -58,50 +69,71 @@ pub fn made(alloc: Global, is_mixing: bool, failing: Failing) -> Result<Option<F
     }))
 }
 
-// Room for a step is secured.
-fn is_ready(redo: &mut RedoLog<Medium>, drive: &Drive, len: usize) -> bool {
-    redo.ready(drive, len).is_ok() && redo.has_room(len)
+// An open drive: its image and its log, and its pages in memory.
+#[derive(Drop)]
+struct Run {
+    redo: RedoLog<Medium>,
+    drive: Drive,
+    ghost one_shape: { redo.shape ≡ drive.shape },
 }
 
-fn program(
-    alloc: Global,
-    redo: &mut RedoLog<Medium>,
-    done: &mut Done,
-    page: u32,
-    front: &[u8],
-) -> Result<bool, AllocError> {
-    if !is_ready(redo, &done.drive, front.len()) {
-        return Ok(false);
+impl Run {
+    // Opens the files with little room in the log, so that a session makes checkpoints.
+    fn new(alloc: Global, files: Files, opened: Opened) -> Result<Option<Run>, AllocError> {
+        let Files { log, image } = files;
+        let Opened { drive, replay } = opened;
+        let extents = extents_of(alloc, image.bytes())?;
+        if extents.len() != drive.shape.page_count() as usize {
+            return Ok(None);
+        }
+        let sizes = LogSizes::new(&drive.shape, BATCH_BYTES, BLANK_BYTES, MOST_BYTES);
+        let shape = drive.shape;
+        let redo = RedoLog::new(alloc, log, image, shape, &replay, extents, sizes)?;
+        Ok(Some(Run { redo, drive }))
     }
-    redo.program(page, front);
-    done.drive.program(alloc, page, front)?;
-    Ok(true)
-}
 
-fn erase(redo: &mut RedoLog<Medium>, done: &mut Done, block: u32) -> bool {
-    if !is_ready(redo, &done.drive, 0) {
-        return false;
+    // Secures room for a step; whether there is some.
+    fn is_ready(&mut self, len: usize) -> bool
+        requires { len ≤ PAGE }
+        ensures { result ≡ true → HasRoomForStep self.new.redo len }
+    {
+        self.redo.ready(&self.drive, len).is_ok() && self.redo.has_room(len)
     }
-    redo.erase(block);
-    done.drive.erase(block);
-    true
+
+    // Programs a page if there is room; whether it did.
+    fn program(&mut self, alloc: Global, page: u32, front: &[u8]) -> Result<bool, AllocError> {
+        if page >= self.drive.shape.page_count()
+            || front.len() > PAGE
+            || !self.is_ready(front.len())
+        {
+            return Ok(false);
+        }
+        self.redo.program(page, front);
+        self.drive.program(alloc, page, front)?;
+        Ok(true)
+    }
+
+    // The same for the erase of a block.
+    fn erase(&mut self, block: u32) -> bool {
+        if block >= self.drive.shape.blocks() || !self.is_ready(0) {
+            return false;
+        }
+        self.redo.erase(block);
+        self.drive.erase(block);
+        true
+    }
 }
 
-// Does a step, or a barrier. A step for which there is no room is left out.
-fn does(
-    alloc: Global,
-    redo: &mut RedoLog<Medium>,
-    done: &mut Done,
-    deed: Deed,
-) -> Result<(), AllocError> {
+// Does a step or a barrier of a session. A step for which there is no room is left out.
+fn does(alloc: Global, run: &mut Run, done: &mut Done, deed: Deed) -> Result<(), AllocError> {
     let is_step = match deed {
         Deed::Program { page, byte, len } => {
             let bytes = bytes_from(byte);
-            program(alloc, redo, done, page, &bytes[..len.min(PAGE)])?
+            run.program(alloc, page, &bytes[..len.min(PAGE)])?
         }
-        Deed::Erase { block } => erase(redo, done, block),
+        Deed::Erase { block } => run.erase(block),
         Deed::Barrier => {
-            if redo.barrier().is_ok() {
+            if run.redo.barrier().is_ok() {
                 done.durable = done.steps.len();
             }
             false
@@ -113,40 +145,15 @@ fn does(
     Ok(())
 }
 
-fn does_all(
-    alloc: Global,
-    redo: &mut RedoLog<Medium>,
-    done: &mut Done,
-    session: u32,
-) -> Result<(), AllocError> {
+// Does the deeds of a session.
+fn does_all(alloc: Global, run: &mut Run, done: &mut Done, session: u32) -> Result<(), AllocError> {
     for number in 0..DEEDS {
-        if redo.is_lost() {
+        if run.redo.is_lost() {
             return Ok(());
         }
-        does(alloc, redo, done, deed_of(session, number))?;
-    }
-    if redo.finish(&done.drive).is_ok() {
-        done.durable = done.steps.len();
-        done.is_over = true;
+        does(alloc, run, done, deed_of(session, number))?;
     }
     Ok(())
-}
-
-// The log of an opened drive, with little room, so that a session makes checkpoints.
-fn redo_of(
-    alloc: Global,
-    files: Files,
-    opened: Opened,
-) -> Result<(RedoLog<Medium>, Drive), AllocError> {
-    let Files { log, image } = files;
-    let Opened {
-        drive,
-        replay,
-        extents,
-    } = opened;
-    let sizes = LogSizes::new(&drive.shape, 1_100, 1_300, 2_900);
-    let redo = RedoLog::new(alloc, log, image, drive.shape, &replay, extents, sizes)?;
-    Ok((redo, drive))
 }
 
 /// A session over these files; the fault if they are refused.
@@ -159,15 +166,23 @@ pub fn session(
         Ok(opened) => opened,
         Err(fault) => return Ok(Err(fault)),
     };
-    let (mut redo, drive) = redo_of(alloc, files, opened)?;
     let mut done = Done {
-        start: drive.copy(alloc)?,
-        drive,
+        start: opened.drive.copy(alloc)?,
+        end: opened.drive.copy(alloc)?,
         steps: Vec::new(alloc),
         durable: 0,
         is_over: false,
     };
-    does_all(alloc, &mut redo, &mut done, number)?;
+    let Some(mut run) = Run::new(alloc, files, opened)? else {
+        return Ok(Err(LogFault::Memory));
+    };
+    does_all(alloc, &mut run, &mut done, number)?;
+    let Run { mut redo, drive } = run;
+    if redo.finish(&drive).is_ok() {
+        done.durable = done.steps.len();
+        done.is_over = true;
+    }
+    done.end = drive;
     let (log, image) = redo.into_disks();
     Ok(Ok((done, Files { log, image })))
 }
