@@ -4,7 +4,8 @@ pub mod Zeros
 pub mod Batches
 pub mod Gates
 pub mod Stepping
-pub mod Replay
+pub mod Replaying
 pub mod Tables
 pub mod Records
 pub mod Writes
+pub mod Keeping

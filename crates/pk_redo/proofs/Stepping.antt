@@ -88,7 +88,7 @@ pub next_step : (shape : Shape) (log : List ℕ) (at : ℕ) (marks : List Mark) 
 next_step shape log at [] to steps low = absurd (omega (arith, steps, low))
 next_step shape log at (mark ∷ marks) to steps low = (steps.0, steps_up shape log (after_step log at) marks to steps.2)
 
-none_left : (shape : Shape) (log : List ℕ) (at : ℕ) (marks : List Mark) → AreSteps shape log at marks at → marks ≡ []
+pub none_left : (shape : Shape) (log : List ℕ) (at : ℕ) (marks : List Mark) → AreSteps shape log at marks at → marks ≡ []
 none_left shape log at [] steps = refl
 none_left shape log at (mark ∷ marks) steps = absurd (let up = steps_up shape log (after_step log at) marks at steps.2 in omega (arith, up))
 

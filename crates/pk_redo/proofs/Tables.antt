@@ -10,7 +10,7 @@ use Rattle.pk_base.proofs.BlockLemmas.{in_block, of_block}
 use Rattle.pk_image.specs.Image.{state_byte}
 use Rattle.pk_redo.specs.declared.step.Step.{Step}
 use Rattle.pk_redo.specs.Steps.{SetBy, Sets, step_mark, step_marks}
-use Rattle.pk_redo.proofs.Replay.{sets_first}
+use Rattle.pk_redo.proofs.Replaying.{sets_first}
 use Rattle.pk_redo.specs.Record.{state_in, said}
 
 digit_0 : (a b c d p : ℕ) → a < 4 → b < 4 → c < 4 → d < 4 → p ≡ a + 4 * b + 16 * c + 64 * d → p / 4 ^ 0 % 4 ≡ a

@@ -9,7 +9,7 @@ use Rattle.pk_redo.specs.Bytes.{bytes_at}
 use Rattle.pk_redo.specs.Steps.{Sets}
 use Rattle.pk_redo.specs.Image.{SameButSet}
 use Rattle.pk_redo.proofs.Parts.{same_parts, held_is_part}
-use Rattle.pk_redo.proofs.Replay.{page_fits, states_fit, sets_first}
+use Rattle.pk_redo.proofs.Replaying.{page_fits, states_fit, sets_first}
 
 -- the place of a page ends where that of a later one begins, or before
 places_apart : (shape : Shape) (k p : ℕ) → k < p → page_place shape k + shape.page_bytes ≤ page_place shape p

@@ -3,4 +3,4 @@ pub mod Log
 pub mod Steps
 pub mod Record
 pub mod Image
-pub mod RedoLog
+pub mod Kept

@@ -50,6 +50,7 @@ pub fn barrier<D: Disk>(
         × BothRead D.Disk log.new image.now shape.now
         (flash_after shape.now (marks ++ now) base)) }
     ensures usable { OnOk result (IsTrue (D.Disk.is_usable log.new)) }
+    ensures clean { IsTrue (D.Disk.is_clean log.new) → IsTrue (D.Disk.is_clean log.old) }
 {
     let _ = image;
     let _ = shape;
@@ -255,6 +256,7 @@ pub fn finish<D: Disk>(
     ensures seen { D.Disk.seen image.new ≡ D.Disk.seen image.old }
     ensures usable { OnOk result
         (IsTrue (D.Disk.is_usable log.new) × IsTrue (D.Disk.is_usable image.new)) }
+    ensures clean { IsTrue (D.Disk.is_clean log.new) → IsTrue (D.Disk.is_clean log.old) }
 {
     let _ = shape;
     image.sync()?; // before the log has no batch any more
@@ -276,6 +278,7 @@ pub fn close<D: Disk>(log: &mut D, image: &mut D, shape: &Shape) -> io::Result<(
     ensures done { OnOk result (IsTrue (D.Disk.is_clean log.new)
         → LogStands D.Disk log.new shape.now (D.Disk.seen image.old) []
         × Only (D.Disk.seen image.old) (D.Disk.may_leave image.new)) }
+    ensures clean { IsTrue (D.Disk.is_clean log.new) → IsTrue (D.Disk.is_clean log.old) }
 {
     let _ = shape;
     image.sync()?;

@@ -21,6 +21,7 @@ fn commit_counted<D: Disk>(disk: &mut D, end: usize, room: usize, batch: &[u8]) 
     ensures done { OnOk result ((bs : List (List ℕ)) → AllReady D.Disk disk.old bs end room
         → AllReady D.Disk disk.new (bs ++ (drop BATCH_HEAD batch.now ∷ []))
         (end + length batch.now) room) }
+    ensures clean { IsTrue (D.Disk.is_clean disk.new) → IsTrue (D.Disk.is_clean disk.old) }
     ensures usable { OnOk result (IsTrue (D.Disk.is_usable disk.new)) }
 {
     disk.write_at(end, batch)?;
@@ -40,6 +41,7 @@ fn commit_twice<D: Disk>(disk: &mut D, end: usize, room: usize, batch: &[u8]) ->
     ensures done { OnOk result ((bs : List (List ℕ)) → AllReady D.Disk disk.old bs end room
         → AllReady D.Disk disk.new (bs ++ (drop BATCH_HEAD batch.now ∷ []))
         (end + length batch.now) room) }
+    ensures clean { IsTrue (D.Disk.is_clean disk.new) → IsTrue (D.Disk.is_clean disk.old) }
     ensures usable { OnOk result (IsTrue (D.Disk.is_usable disk.new)) }
 {
     disk.write_at(end + 1, &batch[1..])?;
@@ -62,6 +64,7 @@ pub fn commit<D: Disk>(disk: &mut D, end: usize, room: usize, batch: &[u8]) -> i
     ensures done { OnOk result ((bs : List (List ℕ)) → AllReady D.Disk disk.old bs end room
         → AllReady D.Disk disk.new (bs ++ (drop BATCH_HEAD batch.now ∷ []))
         (end + length batch.now) room) }
+    ensures clean { IsTrue (D.Disk.is_clean disk.new) → IsTrue (D.Disk.is_clean disk.old) }
     ensures usable { OnOk result (IsTrue (D.Disk.is_usable disk.new)) }
 {
     if disk.mixes() {
@@ -84,6 +87,7 @@ pub fn extend<D: Disk>(disk: &mut D, end: usize, room: usize, blank: &[u8]) -> i
         → AllReady D.Disk disk.new bs end room }
     ensures done { OnOk result ((bs : List (List ℕ)) → AllReady D.Disk disk.old bs end room
         → AllReady D.Disk disk.new bs end (room + length blank.now)) }
+    ensures clean { IsTrue (D.Disk.is_clean disk.new) → IsTrue (D.Disk.is_clean disk.old) }
     ensures usable { OnOk result (IsTrue (D.Disk.is_usable disk.new)) }
 {
     disk.write_at(room, blank)?;
@@ -148,6 +152,7 @@ pub fn reset<D: Disk>(disk: &mut D, first: &[u8], blank: &[u8]) -> io::Result<()
         → AllReady D.Disk disk.new (drop BATCH_HEAD first.now ∷ [])
         (FIRST_BATCH + length first.now)
         (FIRST_BATCH + length first.now + length blank.now)) }
+    ensures clean { IsTrue (D.Disk.is_clean disk.new) → IsTrue (D.Disk.is_clean disk.old) }
     ensures usable { OnOk result (IsTrue (D.Disk.is_usable disk.new)) }
 {
     shut(disk)?;

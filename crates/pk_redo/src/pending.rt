@@ -3,6 +3,7 @@ ghost use Rattle.std.specs.Prelude.{◌≡◌, ◌+◌, ◌<◌, ◌≤◌, ◌�
 ghost use Rattle.pk_base.specs.Fields.{padded};
 ghost use Rattle.pk_base.specs.Mark.{Mark, program, erase};
 ghost use Rattle.pk_base.specs.Shape as spec;
+ghost use Rattle.pk_redo.specs.declared.batch.TheConstants.{BATCH_HEAD, MOST_BATCH};
 ghost use Rattle.pk_redo.specs.Log.{IsSealed};
 ghost use Rattle.pk_redo.specs.Steps.{AreSteps, BodySays};
 

@@ -9,7 +9,7 @@ ghost use Rattle.pk_image.specs.Header.{file_size, header_bytes};
 ghost use Rattle.pk_image.specs.Image.{state_byte};
 ghost use Rattle.pk_redo.specs.Steps.{AreSteps};
 ghost use Rattle.pk_redo.specs.Image.{AllSameBut, LogSays, ReadAs, flash_after};
-ghost use Rattle.pk_redo.specs.RedoLog.{KeepsPages, StillKeeps, ImageAlone, HasRoomForStep, ReplayedTo};
+ghost use Rattle.pk_redo.specs.Kept.{KeepsPages, StillKeeps, ImageAlone, HasRoomForStep, ReplayedTo};
 
 use crate::batch::{BATCH_HEAD, FIRST_BATCH};
 use crate::image::{Pages, barrier, checkpoint, close, finish};
@@ -41,7 +41,8 @@ fn note_states<P: Pages>(states: &mut [u8], pages: &P)
     }
 }
 
-/// Commits the batch in memory behind the batches of the log, which end at a place.
+/// Commits the batch in memory behind the batches of the log, which end at a place. A log that was
+/// cut short is not filled up.
 fn commit_pending<D: Disk>(
     log: &mut D,
     image: &D,
@@ -71,11 +72,16 @@ fn commit_pending<D: Disk>(
     ensures filled { batch.new.filled ≡ batch.old.filled }
     ensures len { length batch.new.bytes.items ≡ length batch.old.bytes.items }
 {
+    match log.len() {
+        Ok(len) if room <= len => {}
+        Ok(_) => return Err(io::ErrorKind::UnexpectedEof.into()),
+        Err(error) => return Err(error),
+    }
     batch.seal();
     barrier(log, image, shape, end, room, batch.as_slice())
 }
 
-impl<D: Disk> RedoLog<D> {
+impl<D: Disk + Drop> RedoLog<D> {
     /// Takes an image and its log, as both were read, and the memory for all later calls. Nothing
     /// is asked of the disks. The extents say of each page how many bytes at its place in the image
     /// may differ from zero.
@@ -118,7 +124,9 @@ impl<D: Disk> RedoLog<D> {
             shape,
         })
     }
+}
 
+impl<D: Disk> RedoLog<D> {
     /// Whether nothing more is written: a write or a sync failed, or the run has ended.
     pub fn is_lost(&self) -> bool
         ensures ended { self.now.state ≡ LogState.Ended → result ≡ true }
@@ -128,10 +136,11 @@ impl<D: Disk> RedoLog<D> {
         self.state == LogState::Ended || !self.log.may_be_used() || !self.image.may_be_used()
     }
 
-    /// The log and the image, of which nothing more is asked.
-    pub fn into_disks(self) -> (D, D) {
-        let RedoLog { log, image, .. } = self;
-        (log, image)
+    /// The log and the image.
+    pub fn into_disks(self) -> (D, D)
+        ensures { result ≡ (self.log, self.image) }
+    {
+        (self.log, self.image)
     }
 
     /// Whether steps wait for a barrier.
@@ -361,6 +370,7 @@ impl<D: Disk> RedoLog<D> {
         ensures keeps { (kept now : Flash) → KeepsPages D.Disk self.old kept now
             → KeepsPages D.Disk self.new kept (after self.old.shape
             (program page (padded self.old.shape.page_bytes front.now)) now) }
+        ensures disks { (self.new.log ≡ self.old.log) × (self.new.image ≡ self.old.image) }
         ensures shape { self.new.shape ≡ self.old.shape }
     {
         self.batch.program(&self.shape, page, front);
@@ -373,6 +383,7 @@ impl<D: Disk> RedoLog<D> {
         requires room { HasRoomForStep self.old 0 }
         ensures keeps { (kept now : Flash) → KeepsPages D.Disk self.old kept now
             → KeepsPages D.Disk self.new kept (after self.old.shape (erase block) now) }
+        ensures disks { (self.new.log ≡ self.old.log) × (self.new.image ≡ self.old.image) }
         ensures shape { self.new.shape ≡ self.old.shape }
     {
         let count = self.shape.block_pages() as usize;

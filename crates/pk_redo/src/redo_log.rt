@@ -1,7 +1,10 @@
 //! An image and its log, both open, with the batch in memory.
-ghost use Rattle.std.specs.Prelude.{◌≡◌, ◌⊎◌, ◌+◌, ◌^◌, ◌<◌, ◌≤◌, ℕ, length, slice_index};
+ghost use Rattle.std.specs.Prelude.{◌≡◌, ◌≢◌, ◌+◌, ◌^◌, ◌<◌, ◌≤◌, ℕ, length, slice_index};
 ghost use Rattle.pk_base.specs.Shape as spec;
 ghost use Rattle.pk_redo.specs.Record.{record_size};
+ghost use Rattle.pk_redo.specs.declared.batch.TheConstants.{BATCH_HEAD, MOST_BATCH};
+ghost use Rattle.pk_redo.specs.declared.step.TheConstants.{STEP_BYTES};
+ghost use Rattle.pk_redo.specs.declared.redo_log.LogState.{LogState};
 
 use crate::batch::{BATCH_HEAD, MOST_BATCH};
 use crate::pending::Pending;
@@ -99,7 +102,7 @@ pub struct RedoLog<D: Disk> {
         × (BATCH_HEAD + STEP_BYTES + shape.page_bytes ≤ length batch.bytes.items)
     },
     ghost most: { (room < 2 ^ 62) × (limit ≤ MOST_BATCH) × (length blank.items ≤ MOST_BATCH) },
-    ghost fits: { (batch.filled ≡ BATCH_HEAD)
-        ⊎ ((state ≡ LogState.Ready) × (end + batch.filled < room)) },
+    ghost fits: { batch.filled ≢ BATCH_HEAD
+        → (state ≡ LogState.Ready) × (end + batch.filled < room) },
     ghost ready: { state ≡ LogState.Ready → end < room },
 }

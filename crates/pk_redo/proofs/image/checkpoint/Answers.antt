@@ -1,6 +1,6 @@
 use Rattle.std.proofs.Common.{arith, sym, ◌∙◌, inl, inr}
 use Rattle.std.proofs.lemmas.Bool.{cases_eq}
-use Rattle.pk_redo.proofs.Replay.{unset_page}
+use Rattle.pk_redo.proofs.Replaying.{unset_page}
 use Rattle.pk_redo.proofs.Writes.{only, only_sets, sets_only, same_itself}
 use Rattle.pk_redo.proofs.image.checkpoint.Goals as goal
 use Rattle.pk_redo.proofs.image.checkpoint.Goals.{then-differs+in_ok-put_cell, else-differs}

@@ -1,7 +1,7 @@
 use Rattle.std.proofs.Common.{ℕ, List, [], ◌∷◌, refl, inl, inr}
 use Rattle.std.specs.Prelude.{Result, Ok, Err, OnOk}
 use Rattle.pk_redo.proofs.Gates.{shut_stands}
-use Rattle.pk_redo.proofs.Replay.{replay_is_absolute, written_reads}
+use Rattle.pk_redo.proofs.Replaying.{replay_is_absolute, written_reads}
 use Rattle.pk_redo.proofs.image.close.Goals as goal
 
 -- what two clauses say together

@@ -1,6 +1,6 @@
 use Rattle.std.proofs.Common.{ℕ, List, [], ◌∷◌, refl, sym, ◌∙◌, inl, inr}
 use Rattle.std.proofs.lemmas.Result.{on_ok_weaker}
-use Rattle.pk_redo.proofs.Replay.{replay_is_absolute, written_reads, written_reads_record}
+use Rattle.pk_redo.proofs.Replaying.{replay_is_absolute, written_reads, written_reads_record}
 use Rattle.pk_redo.proofs.image.finish.Goals as goal
 
 pub returns-in_err-sync-clause-crash : goal.returns-in_err-sync-clause-crash

@@ -1,4 +1,4 @@
-use Rattle.pk_redo.proofs.Replay as replay
+use Rattle.pk_redo.proofs.Replaying as replay
 use Rattle.pk_redo.proofs.laws.replay_is_absolute.Goals as goal
 
 pub returns : goal.returns

@@ -23,22 +23,22 @@ replay_marks shape replay = step_marks shape replay.bytes.items replay.steps.ite
 
 -- Whatever a crash leaves of them, the log has these steps, which are done to this image; and the image has other bytes at most in pages
 -- that they set.
-pub record FilesSay {D : Type 0} (g : Ghosts D) (redo : RedoLog D) (base : List ℕ) (marks : List Mark) : Type 0 where
+pub record FilesSay {D : Type 0} (g : Ghosts D) (redo : RedoLog D g) (base : List ℕ) (marks : List Mark) : Type 0 where
   pub stands : LogStands g redo.log redo.shape base marks
   pub ready : redo.state ≡ Ready → LogSays g redo.log redo.shape base marks redo.end redo.room
   pub within : AllSameBut g redo.image redo.shape marks base
   pub header : take HEADER_BYTES base ≡ header_bytes redo.shape
 
 -- the batch in memory has these steps
-abbrev pub BatchSays : {D : Type 0} → RedoLog D → List Mark → Type 0
+abbrev pub BatchSays : {D : Type 0} → {g : Ghosts D} → RedoLog D g → List Mark → Type 0
 BatchSays redo marks = AreSteps redo.shape redo.batch.bytes.items BATCH_HEAD marks redo.batch.filled
 
 -- whether the image may lack a page
-abbrev pub is_lacking : {D : Type 0} → RedoLog D → ℕ → Bool
+abbrev pub is_lacking : {D : Type 0} → {g : Ghosts D} → RedoLog D g → ℕ → Bool
 is_lacking redo k = get_or redo.lacks.items k false
 
 -- Whatever a crash leaves of both files is read as the pages `kept`; and with the batch in memory the pages are `now`.
-pub record KeepsPages {D : Type 0} (g : Ghosts D) (redo : RedoLog D) (kept now : Flash) : Type 0 where
+pub record KeepsPages {D : Type 0} (g : Ghosts D) (redo : RedoLog D g) (kept now : Flash) : Type 0 where
   pub base : List ℕ
   pub marks : List Mark
   pub later : List Mark
@@ -50,15 +50,15 @@ pub record KeepsPages {D : Type 0} (g : Ghosts D) (redo : RedoLog D) (kept now :
   pub others : (k : ℕ) → k < page_count redo.shape → is_lacking redo k ≡ false → page_in_file redo.shape (g.seen redo.image) k ≡ page_at now k
 
 -- whatever a crash leaves of both files, it is read as one of these two
-abbrev pub EitherRead : {D : Type 0} → Ghosts D → RedoLog D → Flash → Flash → Type 0
+abbrev pub EitherRead : {D : Type 0} → (g : Ghosts D) → RedoLog D g → Flash → Flash → Type 0
 EitherRead g redo kept now = (l i : List ℕ) → g.may_leave redo.log l → g.may_leave redo.image i → ReadAs redo.shape l i kept ⊎ ReadAs redo.shape l i now
 
 -- after a call, whatever it answered: the same pages are kept as before it, or all of them, or nothing more is written
-abbrev pub StillKeeps : {D : Type 0} → Ghosts D → RedoLog D → Flash → Flash → Type 0
+abbrev pub StillKeeps : {D : Type 0} → (g : Ghosts D) → RedoLog D g → Flash → Flash → Type 0
 StillKeeps g redo kept now = KeepsPages g redo kept now ⊎ (KeepsPages g redo now now ⊎ ((redo.state ≡ Ended) × EitherRead g redo kept now))
 
 -- both files, the image alone: a crash leaves a log without a batch, and an image that has these pages
-pub record ImageAlone {D : Type 0} (g : Ghosts D) (redo : RedoLog D) (flash : Flash) : Type 0 where
+pub record ImageAlone {D : Type 0} (g : Ghosts D) (redo : RedoLog D g) (flash : Flash) : Type 0 where
   pub no_batch : AtEachCrash g redo.log (λ l. LogHolds l [])
   pub one_image : Only (g.seen redo.image) (g.may_leave redo.image)
   pub pages : flash_in_file redo.shape (g.seen redo.image) ≡ flash
@@ -78,7 +78,7 @@ pub record ReplayedTo (shape : Shape) (log image : List ℕ) (replay : Replay) (
 -- ---- room
 
 -- there is room in the batch and in the log for a step with a front of so many bytes
-pub record HasRoomForStep {D : Type 0} (redo : RedoLog D) (len : ℕ) : Type 0 where
+pub record HasRoomForStep {D : Type 0} {g : Ghosts D} (redo : RedoLog D g) (len : ℕ) : Type 0 where
   pub ready : redo.state ≡ Ready
   pub in_batch : redo.batch.filled + (STEP_BYTES + len) ≤ length redo.batch.bytes.items
   pub in_log : redo.end + redo.batch.filled + (STEP_BYTES + len) < redo.room
@@ -86,6 +86,5 @@ pub record HasRoomForStep {D : Type 0} (redo : RedoLog D) (len : ℕ) : Type 0 w
 -- ---- laws
 
 -- What is kept is read.
-abbrev pub KeptIsRead : Type 0
-KeptIsRead =
-    {D : Type 0} (g : Ghosts D) (redo : RedoLog D) (kept now : Flash) → StillKeeps g redo kept now → EitherRead g redo kept now
+abbrev pub KeptIsRead : Type 1
+KeptIsRead = (D : Type 0) (g : Ghosts D) (redo : RedoLog D g) (kept now : Flash) → StillKeeps g redo kept now → EitherRead g redo kept now

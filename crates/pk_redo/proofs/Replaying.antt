@@ -150,15 +150,20 @@ same_header shape marks base file same =
     get_or-take 32 file i 0 below ∙ same.header i below ∙ sym (get_or-take 32 base i 0 below))
 
 -- the record of an image is one of each file that differs from it in pages that steps set
-pub belongs_still : (shape : Shape) (batches : List (List ℕ)) (marks : List Mark) (base file : List ℕ) → BelongTo shape batches [] base → SameButSet shape marks base file
+pub belongs_still : (shape : Shape) (batches : List (List ℕ)) (marks : List Mark) (base file : List ℕ) → BelongTo shape batches marks base → SameButSet shape marks base file
     → BelongTo shape batches marks file
 belongs_still shape [] marks base file own same = tt
 belongs_still shape (first ∷ later) marks base file own same =
     record {
       size = own.size;
       same_header = own.same_header ∙ sym (same_header shape marks base file same);
-      same_states = λ k low not. own.same_states k low (λ none. none) ∙ sym (ap state_byte (unset_page shape marks base file same k low not));
+      same_states = λ k low not. own.same_states k low not ∙ sym (ap state_byte (unset_page shape marks base file same k low not));
     }
+
+-- and one of itself, whatever steps follow
+pub belongs_more : (shape : Shape) (batches : List (List ℕ)) (marks : List Mark) (base : List ℕ) → BelongTo shape batches [] base → BelongTo shape batches marks base
+belongs_more shape [] marks base own = tt
+belongs_more shape (first ∷ later) marks base own = record { size = own.size; same_header = own.same_header; same_states = λ k low not. own.same_states k low (λ none. none) }
 
 pub replay_is_absolute : ReplayIsAbsolute
 replay_is_absolute shape log base image batches marks stands says own same =
