@@ -1,7 +1,7 @@
 //! A session: the files are opened, deeds are done, and the run ends; or as much of it as the files let through.
 
 ghost use Rattle.std.specs.Prelude.{◌≡◌, ◌≤◌, true};
-ghost use Rattle.pk_redo.specs.RedoLog.{HasRoomForStep};
+ghost use Rattle.pk_redo.specs.Kept.{HasRoomForStep};
 ghost use Rattle.pk_test_redo.specs.declared.cell.TheConstants.{PAGE};
 
 use crate::cell::PAGE;
