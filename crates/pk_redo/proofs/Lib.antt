@@ -9,3 +9,4 @@ pub mod Tables
 pub mod Records
 pub mod Writes
 pub mod Keeping
+pub mod Found

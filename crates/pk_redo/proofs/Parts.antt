@@ -1,5 +1,5 @@
 -- Parts of files.
-use Rattle.std.proofs.Common.{◌≡◌, ℕ, ◌+◌, ◌<◌, ◌≤◌, List, length, drop, slice_index, sym, add-zero, ◌∙◌, arith, rules, ext_get_or, get_or-take, get_or-drop}
+use Rattle.std.proofs.Common.{◌≡◌, ℕ, ◌+◌, ◌<◌, ◌≤◌, List, length, drop, slice_index, sym, ◌∙◌, arith, rules, ext_get_or, get_or-take, get_or-drop}
 use Rattle.std.proofs.lemmas.List.{places}
 use Rattle.sqlite_disk.specs.Disk.{Holds}
 use Rattle.pk_redo.specs.Bytes.{bytes_at, number_in}

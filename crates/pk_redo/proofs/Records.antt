@@ -1,5 +1,5 @@
 -- A record as it is written.
-use Rattle.std.proofs.Common.{◌≡◌, ℕ, ◌+◌, ◌/◌, ◌%◌, ◌^◌, ◌<◌, ◌≤◌, List, [], ◌++◌, length, length-drop, take, drop, slice_index, refl, ap, ◌∙◌, arith, get_or-drop}
+use Rattle.std.proofs.Common.{◌≡◌, ℕ, ◌+◌, ◌/◌, ◌%◌, ◌^◌, ◌<◌, List, [], ◌++◌, length, length-drop, take, drop, slice_index, refl, ap, ◌∙◌, arith, get_or-drop}
 use Rattle.std.proofs.lemmas.List.{take_at}
 use Rattle.pk_base.specs.Shape.{Shape, page_count}
 use Rattle.pk_image.specs.Header.{header_bytes}

@@ -2,7 +2,6 @@
 use Rattle.std.proofs.Common.{◌≡◌, ◌≢◌, ◌⊎◌, ℕ, zero, suc, ◌+◌, ◌*◌, ◌/◌, ◌<◌, ◌≤◌, List, [], ◌∷◌}
 use Rattle.std.proofs.Common.{◌++◌, length, take, drop, slice_index, sym, refl, ◌∙◌, ap, inl, inr, arith, zero-add, get_or-take, ext_get_or}
 use Rattle.std.{proofs.Math.Nat.mul-le-mul_right, proofs.Math.Nat.mul-suc, proofs.lemmas.Bool.cases_eq, proofs.lemmas.Bool.cases_lt, proofs.lemmas.List.length-take-le}
-use Rattle.sqlite_disk.specs.Disk.{Holds, Torn}
 use Rattle.pk_image.{specs.Header.file_size, specs.Image.state_place, specs.Image.page_place, specs.Image.page_by}
 use Rattle.pk_image.{specs.Image.page_in_file, specs.Image.pages_in_file, specs.Image.flash_in_file, specs.Image.state_byte}
 use Rattle.pk_base.{specs.Shape.Shape, specs.Shape.page_count, specs.Page.Page, specs.Page.Flash, specs.Page.page_at, specs.Page.torn}
@@ -13,7 +12,7 @@ use Rattle.pk_redo.specs.Steps.{SetBy, Sets}
 use Rattle.pk_redo.specs.Image.{SameButSet, BelongTo, ReadAs, ReplayIsAbsolute, flash_after}
 use Rattle.pk_redo.specs.Log.{LogHolds}
 use Rattle.pk_redo.specs.Record.{RecordFits}
-use Rattle.pk_redo.proofs.Parts.{same_parts, held_is_part}
+use Rattle.pk_redo.proofs.Parts.{same_parts}
 
 -- ---- steps that set a page
 

@@ -1,8 +1,8 @@
 -- Steps one after another.
-use Rattle.std.proofs.Common.{◌≡◌, ◌⊎◌, ℕ, ◌+◌, ◌-◌, ◌*◌, ◌<◌, ◌≤◌, List, [], ◌∷◌, ◌++◌, length, drop}
+use Rattle.std.proofs.Common.{◌≡◌, ℕ, ◌+◌, ◌-◌, ◌*◌, ◌<◌, ◌≤◌, List, [], ◌∷◌, ◌++◌, length, drop}
 use Rattle.std.proofs.Common.{slice_index, sym, refl, ◌∙◌, ap, subst, inl, inr, arith, append_assoc, zero-add, take, true, false}
 use Rattle.std.specs.Prelude.{nat_lt}
-use Rattle.std.{proofs.lemmas.List.append-nil, proofs.lemmas.List.take_at, proofs.lemmas.Bool.Decides.nat_tests, proofs.Math.Nat.mul-le-mul}
+use Rattle.std.{proofs.lemmas.List.append-nil, proofs.lemmas.List.take_at, proofs.lemmas.List.drop-take, proofs.lemmas.List.drop_all, proofs.lemmas.List.take_all, proofs.lemmas.Bool.Decides.nat_tests, proofs.Math.Nat.mul-le-mul}
 use Rattle.sqlite_disk.specs.Disk.{Torn}
 use Rattle.pk_base.{specs.Shape.Shape, specs.Shape.IsShape, specs.Shape.page_count, specs.Fields.padded, specs.Mark.Mark, specs.Mark.program, specs.Mark.erase}
 use Rattle.pk_redo.specs.Bytes.{bytes_at, number_in}
@@ -134,6 +134,23 @@ body_of_steps shape log at len marks fits says =
     let sized = length-part log at len fits in
     let own = subst (λ (end : ℕ). AreSteps shape (bytes_at log at len) 0 marks end) (sized ∙ sym (zero-add len)) says in
     steps_same shape (bytes_at log at len) log 0 at marks len fits (λ i low. rw (zero-add i) (sym (index-part log at len i low))) own
+
+-- the steps of a batch whose head was written
+pub steps_sealed : (shape : Shape) (old new : List ℕ) (filled : ℕ) (marks : List Mark) → 9 ≤ filled → filled ≤ length old → drop 9 (take filled new) ≡ drop 9 (take filled old)
+    → AreSteps shape old 9 marks filled → BodySays shape (drop 9 (take filled new)) marks
+unfolding bytes_at
+steps_sealed shape old new filled marks long within same steps =
+    let n : ℕ = filled - 9 in
+    let end : 9 + n ≡ filled = omega (arith, long) in
+    let part : drop 9 (take filled old) ≡ take n (drop 9 old) = ap (λ (m : ℕ). drop 9 (take m old)) (sym end) ∙ drop-take 9 n old in
+    let own : BodySays shape (take n (drop 9 old)) marks = steps_of_body shape old 9 n marks (omega (arith, end, within)) (rw end steps) in
+    rw (same, part) own
+
+-- a slice that was written back to its vector
+pub written_back : (n : ℕ) (new old : List ℕ) → length new ≡ length old → n ≡ length old → take n (new ++ drop (length new) old) ≡ new
+written_back n new old same all =
+    let none : drop (length new) old ≡ [] = drop_all (length new) old (omega (arith, same)) in
+    ap (λ (rest : List ℕ). take n (new ++ rest)) none ∙ ap (λ (xs : List ℕ). take n xs) (append-nil new) ∙ take_all n new (omega (arith, same, all))
 
 -- ---- steps that are written
 

@@ -1,13 +1,13 @@
 -- Tables of states, four in a byte; and pages that are noted as set.
-use Rattle.std.proofs.Common.{◌≡◌, ◌≢◌, ◌⊎◌, ℕ, ◌+◌, ◌*◌, ◌/◌, ◌%◌, ◌^◌, ◌<◌, ◌≤◌, List, [], ◌∷◌, ◌++◌}
+use Rattle.std.proofs.Common.{◌≡◌, ◌≢◌, ◌⊎◌, ℕ, zero, suc, ◌+◌, ◌*◌, ◌/◌, ◌%◌, ◌^◌, ◌<◌, ◌≤◌, List, [], ◌∷◌, ◌++◌}
 use Rattle.std.proofs.Common.{length, take, slice_index, slice_set, get_or, sym, refl, ◌∙◌, ap, inl, inr, arith, Bool, true, false}
 use Rattle.std.{proofs.lemmas.Bool.cases_eq, proofs.lemmas.Bool.cases_lt, proofs.lemmas.List.get_or-set_same}
 use Rattle.std.{proofs.lemmas.List.take_more, proofs.lemmas.List.map-append, proofs.lemmas.List.get_or-set_other}
 use Rattle.std.specs.Prelude.{if◌then◌else◌, ◌==◌, ◌↔◌}
 use Rattle.std.proofs.Math.Nat.{mul_assoc}
-use Rattle.pk_base.{specs.Shape.Shape, specs.Shape.IsShape, specs.Shape.page_count, specs.Page.erased, specs.Page.whole, specs.Page.torn, specs.Mark.Mark}
+use Rattle.pk_base.{specs.Shape.Shape, specs.Shape.IsShape, specs.Shape.page_count, specs.Page.Page, specs.Page.erased, specs.Page.whole, specs.Page.torn, specs.Mark.Mark}
 use Rattle.pk_base.proofs.BlockLemmas.{in_block, of_block}
-use Rattle.pk_image.specs.Image.{state_byte}
+use Rattle.pk_image.specs.Image.{state_byte, page_by}
 use Rattle.pk_redo.specs.declared.step.Step.{Step}
 use Rattle.pk_redo.specs.Steps.{SetBy, Sets, step_mark, step_marks}
 use Rattle.pk_redo.proofs.Replaying.{sets_first}
@@ -72,6 +72,27 @@ state_small false false bytes = omega arith
 pub said_small : (byte : ℕ) → said byte < 4
 said_small byte = state_small (byte == 0) (byte == 1) []
 
+-- and it is the state of a page with any bytes
+state_of_tests : (a b : Bool) (one other : List ℕ)
+    → state_byte (if a then erased else if b then whole one else torn) ≡ state_byte (if a then erased else if b then whole other else torn)
+state_of_tests true b one other = refl
+state_of_tests false true one other = refl
+state_of_tests false false one other = refl
+
+pub said_page : (byte : ℕ) (bytes : List ℕ) → state_byte (page_by byte bytes) ≡ said byte
+said_page byte bytes = state_of_tests (byte == 0) (byte == 1) bytes []
+
+pub said_state : (page : Page) → said (state_byte page) ≡ state_byte page
+said_state erased = refl
+said_state (whole bytes) = refl
+said_state torn = refl
+
+-- a page by its state and by the bytes that it has if it is Whole
+pub page_shown : (page : Page) (byte : ℕ) (bytes : List ℕ) → byte ≡ state_byte page → ((own : List ℕ) → page ≡ whole own → own ≡ bytes) → page_by byte bytes ≡ page
+page_shown erased byte bytes is own = rw is refl
+page_shown (whole other) byte bytes is own = rw is (ap whole (sym (own other refl)))
+page_shown torn byte bytes is own = rw is refl
+
 -- a shape has a multiple of four pages
 pub fours : (shape : Shape) → IsShape shape → page_count shape % 4 ≡ 0
 fours shape is =
@@ -94,6 +115,33 @@ pub sets_either : (shape : Shape) (xs : List Mark) (mark : Mark) (k : ℕ) → S
 sets_either shape [] mark k sets = elim sets [ inl is ↦ inr is | inr none ↦ absurd none ]
 sets_either shape (x ∷ xs) mark k sets =
     elim sets [ inl is ↦ inl (inl is) | inr later ↦ elim (sets_either shape xs mark k later) [ inl early ↦ inl (inr early) | inr last ↦ inr last ] ]
+
+-- a page that is set is no page that is not
+pub set_apart : (set : List Bool) (k page : ℕ) → get_or set k false ≡ false → get_or set page false ≡ true → k ≢ page
+set_apart set k page not is same = let both : false ≡ true = sym not ∙ ap (λ (n : ℕ). get_or set n false) same ∙ is in cc
+
+-- a page that is set is one of them
+pub set_within : (set : List Bool) (k : ℕ) → get_or set k false ≡ true → k < length set
+set_within [] k is = absurd (let clash : false ≡ true = is in cc)
+set_within (x ∷ xs) zero is = omega arith
+set_within (x ∷ xs) (suc k) is = let below = set_within xs k is in omega (arith, below)
+
+-- what is not set now was not, and did not become so
+pub unset_both : (a b : Bool) (P : Type 0) → ((b ≡ true) ⊎ P → a ≡ true) → a ≡ false → (b ≡ false) × (¬ P)
+unset_both a true P back not = absurd (let clash : false ≡ true = sym not ∙ back (inl refl) in cc)
+unset_both a false P back not = (refl, λ p. let clash : false ≡ true = sym not ∙ back (inr p) in cc)
+
+-- one page became set, and the others are as they were
+pub one_set : (at k : ℕ) (old new : List Bool) → at < length old → ((k : ℕ) → at ≤ k → k < at + 1 → k < length old → get_or new k false ≡ true)
+    → ((k : ℕ) → (k < at) ⊎ (at + 1 ≤ k) → get_or new k false ≡ get_or old k false)
+    → (get_or new k false ≡ true → (get_or old k false ≡ true) ⊎ (k ≡ at)) × ((get_or old k false ≡ true) ⊎ (k ≡ at) → get_or new k false ≡ true)
+one_set at k old new low inside outside =
+    elim (cases_eq k at) [
+      | inl is ↦ (λ lacks. inr is, λ known. inside k (omega (arith, is)) (omega (arith, is)) (omega (arith, is, low)))
+      | inr other ↦
+          let same = outside k (elim (cases_lt k at) [ inl before ↦ inl before | inr from ↦ inr (omega (arith, from, other)) ]) in
+          (λ lacks. inl (sym same ∙ lacks), λ known. elim known [ inl was ↦ same ∙ was | inr is ↦ absurd (other is) ])
+    ]
 
 -- the pages of a row became set, and the others are as they were
 pub row_set : (shape : Shape) (block k : ℕ) (old new : List Bool) → 0 < shape.block_pages → k < length old

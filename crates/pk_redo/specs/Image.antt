@@ -1,9 +1,9 @@
 -- An image beside its log, and what both files hold together.
-use Rattle.std.specs.Prelude.{◌≡◌, ◌⊎◌, ℕ, Bool, true, false, ◌+◌, ◌<◌, ◌≤◌, List, [], ◌∷◌, ◌++◌, length, take, slice_index}
+use Rattle.std.specs.Prelude.{◌≡◌, ℕ, ◌+◌, ◌<◌, ◌≤◌, List, [], ◌∷◌, ◌++◌, length, take, slice_index}
 use Rattle.sqlite_disk.specs.declared.Disk.{Ghosts}
 use Rattle.pk_image.specs.declared.head.TheConstants.{HEADER_BYTES}
 use Rattle.pk_image.{specs.Header.file_size, specs.Image.state_place, specs.Image.page_place, specs.Image.page_in_file, specs.Image.state_byte, specs.Image.flash_in_file}
-use Rattle.pk_base.{specs.Shape.Shape, specs.Shape.page_count, specs.Page.Page, specs.Page.Flash, specs.Page.page_at, specs.Mark.Mark, specs.Mark.after_all, specs.Mark.all_posted}
+use Rattle.pk_base.{specs.Shape.Shape, specs.Shape.page_count, specs.Page.Flash, specs.Mark.Mark, specs.Mark.after_all, specs.Mark.all_posted}
 use Rattle.pk_nand.specs.Cut.{Cut}
 use Rattle.pk_redo.specs.Log.{LogHolds, AtEachCrash, AllReady, AllStand}
 use Rattle.pk_redo.specs.Steps.{BodiesSay, Sets}

@@ -1,5 +1,5 @@
 -- An image and its log as they are open: the pages that a crash keeps, and those of the board.
-use Rattle.std.specs.Prelude.{◌≡◌, ◌⊎◌, ℕ, Bool, true, false, ◌+◌, ◌<◌, ◌≤◌, List, [], ◌++◌, length, take, get_or, slice_index}
+use Rattle.std.specs.Prelude.{◌≡◌, ◌⊎◌, ℕ, Bool, true, false, ◌+◌, ◌<◌, ◌≤◌, List, [], ◌++◌, length, take, get_or}
 use Rattle.sqlite_disk.specs.declared.Disk.{Ghosts}
 use Rattle.sqlite_disk.specs.Disk.{Only}
 use Rattle.pk_image.specs.declared.head.TheConstants.{HEADER_BYTES}
@@ -7,7 +7,6 @@ use Rattle.pk_image.{specs.Header.header_bytes, specs.Header.file_size, specs.Im
 use Rattle.pk_base.{specs.Shape.Shape, specs.Shape.page_count, specs.Page.Flash, specs.Page.page_at, specs.Mark.Mark, specs.Mark.after_all}
 use Rattle.pk_redo.specs.declared.batch.TheConstants.{BATCH_HEAD}
 use Rattle.pk_redo.specs.declared.step.TheConstants.{STEP_BYTES}
-use Rattle.pk_redo.specs.declared.redo_log.LogState.{LogState}
 use Rattle.pk_redo.specs.declared.redo_log.LogState.TheVariants.{Ready, Ended}
 use Rattle.pk_redo.specs.declared.redo_log.RedoLog.{RedoLog}
 use Rattle.pk_redo.specs.Log.{LogHolds, AtEachCrash}
@@ -82,9 +81,3 @@ pub record HasRoomForStep {D : Type 0} {g : Ghosts D} (redo : RedoLog D g) (len 
   pub ready : redo.state ≡ Ready
   pub in_batch : redo.batch.filled + (STEP_BYTES + len) ≤ length redo.batch.bytes.items
   pub in_log : redo.end + redo.batch.filled + (STEP_BYTES + len) < redo.room
-
--- ---- laws
-
--- What is kept is read.
-abbrev pub KeptIsRead : Type 1
-KeptIsRead = (D : Type 0) (g : Ghosts D) (redo : RedoLog D g) (kept now : Flash) → StillKeeps g redo kept now → EitherRead g redo kept now

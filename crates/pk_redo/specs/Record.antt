@@ -1,8 +1,8 @@
 -- The record with which a log begins: the image that it belongs to, by its header and the states of its pages.
-use Rattle.std.specs.Prelude.{◌≡◌, ℕ, ◌+◌, ◌*◌, ◌/◌, ◌%◌, ◌^◌, ◌<◌, List, [], length, take, slice_index}
+use Rattle.std.specs.Prelude.{◌≡◌, ℕ, ◌+◌, ◌/◌, ◌%◌, ◌^◌, ◌<◌, List, [], ◌∷◌, length, take, slice_index}
 use Rattle.pk_image.specs.declared.head.TheConstants.{HEADER_BYTES}
 use Rattle.pk_image.{specs.Image.page_by, specs.Image.state_byte}
-use Rattle.pk_base.{specs.Shape.Shape, specs.Shape.page_count, specs.Page.Page, specs.Mark.Mark}
+use Rattle.pk_base.{specs.Shape.Shape, specs.Shape.page_count, specs.Mark.Mark}
 use Rattle.pk_redo.specs.Steps.{Sets}
 
 -- the bytes of a record: the header of the image, and two bits for the state of each page
@@ -22,3 +22,8 @@ pub record RecordFits (shape : Shape) (bytes header : List ℕ) (states : ℕ �
   pub size : length bytes ≡ record_size shape
   pub same_header : take HEADER_BYTES bytes ≡ header
   pub same_states : (k : ℕ) → k < page_count shape → ¬ Sets shape marks k → state_in bytes HEADER_BYTES k ≡ states k
+
+-- The first batch, if there is one, is a record of an image with this header and these state bytes, but for pages that steps set.
+abbrev pub RecordedAs : Shape → List (List ℕ) → List ℕ → List ℕ → List Mark → Type 0
+RecordedAs shape [] header states marks = Unit {0}
+RecordedAs shape (first ∷ later) header states marks = RecordFits shape first header (λ k. said (slice_index states k)) marks

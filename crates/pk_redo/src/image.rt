@@ -7,12 +7,13 @@ ghost use Rattle.pk_base.specs.Page.{Flash, page_at, whole};
 ghost use Rattle.pk_base.specs.Mark.{Mark};
 ghost use Rattle.pk_image.specs.Header.{file_size};
 ghost use Rattle.pk_image.specs.Image.{byte_of, page_by, page_in_file, state_byte, state_place, page_place};
-ghost use Rattle.pk_redo.specs.Log.{IsSealed};
+ghost use Rattle.pk_redo.specs.Log.{IsSealed, AllStand};
 ghost use Rattle.pk_redo.specs.Steps.{BodySays, Sets};
 ghost use Rattle.pk_redo.specs.Image.{SameButSet, AllSameBut, BelongTo, LogSays, LogStands, ReadAs, BothRead, flash_after};
 
 use crate::batch::{BATCH_HEAD, FIRST_BATCH};
 use crate::log::{commit, reset, shut};
+use crate::record::is_set;
 use pk_base::{Shape, put_text, put_zeros};
 use pk_image::{PageTag, page_at, state_at};
 use sqlite_disk::Disk;
@@ -186,26 +187,26 @@ pub fn checkpoint<D: Disk, P: Pages>(
     image: &mut D,
     shape: &Shape,
     pages: &P,
-    lacks: &[bool],
+    lacks: &Vec<bool>,
     buffer: &mut [u8],
 ) -> io::Result<()>
     requires usable { IsTrue (D.Disk.is_usable image.old) }
     requires shape { P.shape_of pages.now ≡ shape.now }
     requires buffer { length buffer.old ≡ shape.now.page_bytes }
-    requires lacks { length lacks.now ≡ spec.page_count shape.now }
+    requires lacks { length lacks.now.items ≡ spec.page_count shape.now }
     // If steps set these pages, the image differs as before at most in pages that steps set.
     ensures crash { (marks : List Mark) (base : List ℕ)
-        → ((k : ℕ) → get_or lacks.now k false ≡ true → Sets shape.now marks k)
+        → ((k : ℕ) → get_or lacks.now.items k false ≡ true → Sets shape.now marks k)
         → AllSameBut D.Disk image.old shape.now marks base
         → AllSameBut D.Disk image.new shape.now marks base }
     // The others are as they were.
     ensures others { (k : ℕ) → file_size shape.now ≤ length (D.Disk.seen image.old)
-        → k < spec.page_count shape.now → get_or lacks.now k false ≡ false
+        → k < spec.page_count shape.now → get_or lacks.now.items k false ≡ false
         → page_in_file shape.now (D.Disk.seen image.new) k
         ≡ page_in_file shape.now (D.Disk.seen image.old) k }
     // If it had the others, it has all.
     ensures written { OnOk result (file_size shape.now ≤ length (D.Disk.seen image.old)
-        → ((k : ℕ) → k < spec.page_count shape.now → get_or lacks.now k false ≡ false
+        → ((k : ℕ) → k < spec.page_count shape.now → get_or lacks.now.items k false ≡ false
         → page_in_file shape.now (D.Disk.seen image.old) k ≡ page_at (P.flash_of pages.now) k)
         → (k : ℕ) → k < spec.page_count shape.now
         → page_in_file shape.now (D.Disk.seen image.new) k ≡ page_at (P.flash_of pages.now) k) }
@@ -213,7 +214,7 @@ pub fn checkpoint<D: Disk, P: Pages>(
     ensures buffer { length buffer.new ≡ length buffer.old }
 {
     for page in 0..shape.page_count() {
-        if lacks[page as usize] {
+        if is_set(lacks, page) {
             let tag = pages.state(page);
             fill(buffer, pages.front(page));
             put_cell(image, shape, page, tag, buffer)?;
@@ -276,8 +277,8 @@ pub fn close<D: Disk>(log: &mut D, image: &mut D, shape: &Shape) -> io::Result<(
         ≡ page_at (flash_after shape.now marks base) k)
         → BothRead D.Disk log.new image.new shape.now (flash_after shape.now marks base) }
     ensures done { OnOk result (IsTrue (D.Disk.is_clean log.new)
-        → LogStands D.Disk log.new shape.now (D.Disk.seen image.old) []
-        × Only (D.Disk.seen image.old) (D.Disk.may_leave image.new)) }
+        → AllStand D.Disk log.new [] × Only (D.Disk.seen image.old) (D.Disk.may_leave image.new)) }
+    ensures seen { D.Disk.seen image.new ≡ D.Disk.seen image.old }
     ensures clean { IsTrue (D.Disk.is_clean log.new) → IsTrue (D.Disk.is_clean log.old) }
 {
     let _ = shape;

@@ -17,7 +17,7 @@ mod step;
 
 pub use batch::{BATCH_HEAD, FIRST_BATCH, MOST_BATCH, batch_at, is_open, seal};
 pub use image::{Pages, barrier, checkpoint, close, finish, put_page, put_states};
-pub use laws::{each_prefix_is_a_cut, reads_once, replay_is_absolute, steps_read_once};
+pub use laws::{each_prefix_is_a_cut, kept_is_read, reads_once, replay_is_absolute, steps_read_once};
 pub use log::{commit, extend, reset, shut};
 pub use reader::{LogFault, find_batches, read_log, read_steps};
 pub use record::{is_record_of, put_record, record_len, set_pages};

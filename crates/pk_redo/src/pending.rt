@@ -1,5 +1,5 @@
 //! The batch in memory: steps that were done and are in no log yet.
-ghost use Rattle.std.specs.Prelude.{◌≡◌, ◌+◌, ◌<◌, ◌≤◌, ◌↔◌, ℕ, List, [], ◌∷◌, ◌++◌, length, take, drop, IsTrue, IfOk, OnOk};
+ghost use Rattle.std.specs.Prelude.{◌≡◌, ◌≢◌, true, false, ◌+◌, ◌<◌, ◌≤◌, ◌↔◌, ℕ, List, [], ◌∷◌, ◌++◌, length, take, drop, IsTrue, IfOk, OnOk};
 ghost use Rattle.pk_base.specs.Fields.{padded};
 ghost use Rattle.pk_base.specs.Mark.{Mark, program, erase};
 ghost use Rattle.pk_base.specs.Shape as spec;
@@ -23,6 +23,18 @@ pub struct Pending {
     ghost short: { length bytes.items ≤ BATCH_HEAD + MOST_BATCH },
 }
 
+/// Makes the head of the batch that the first bytes are.
+fn seal_front(bytes: &mut [u8], len: usize)
+    requires long { BATCH_HEAD ≤ len }
+    requires within { len ≤ length bytes.old }
+    requires short { len ≤ BATCH_HEAD + MOST_BATCH }
+    ensures sealed { IsSealed (take len bytes.new) }
+    ensures body { drop BATCH_HEAD (take len bytes.new) ≡ drop BATCH_HEAD (take len bytes.old) }
+    ensures len { length bytes.new ≡ length bytes.old }
+{
+    seal(&mut bytes[..len]);
+}
+
 impl Pending {
     /// No step, and the memory for this many bytes of them.
     pub fn new(alloc: Global, room: usize) -> Result<Pending, AllocError>
@@ -38,7 +50,8 @@ impl Pending {
 
     /// Whether it has no step.
     pub fn is_empty(&self) -> bool
-        ensures { IsTrue result ↔ (self.now.filled ≡ BATCH_HEAD) }
+        ensures yes { result ≡ true → self.now.filled ≡ BATCH_HEAD }
+        ensures no { result ≡ false → self.now.filled ≢ BATCH_HEAD }
     {
         self.filled == BATCH_HEAD
     }
@@ -97,12 +110,13 @@ impl Pending {
         ensures filled { self.new.filled ≡ self.old.filled }
         ensures len { length self.new.bytes.items ≡ length self.old.bytes.items }
     {
-        seal(&mut self.bytes.as_mut_slice()[..self.filled]);
+        seal_front(self.bytes.as_mut_slice(), self.filled);
     }
 
     /// Its bytes.
     pub fn as_slice(&self) -> &[u8]
-        ensures { result.now ≡ take self.now.filled self.now.bytes.items }
+        ensures bytes { result.now ≡ take self.now.filled self.now.bytes.items }
+        ensures len { length result.now ≡ self.now.filled }
     {
         &self.bytes.as_slice()[..self.filled]
     }

@@ -106,6 +106,22 @@ pub(crate) fn note_row(set: &mut Vec<bool>, first: usize, count: usize)
     }
 }
 
+/// Whether a page is among those that are set.
+pub(crate) fn is_set(set: &Vec<bool>, page: u32) -> bool
+    requires { page < length set.now.items }
+    ensures { result ≡ get_or set.now.items page false }
+{
+    set[page as usize]
+}
+
+/// No page is among those that steps set.
+pub(crate) fn clear_pages(set: &mut Vec<bool>)
+    ensures none { (k : ℕ) → get_or set.new.items k false ≡ false }
+    ensures len { length set.new.items ≡ length set.old.items }
+{
+    set.as_mut_slice().fill(false);
+}
+
 /// The pages that a step sets are among those that steps set.
 fn note_step(set: &mut Vec<bool>, shape: &Shape, step: &Step)
     requires { length set.old.items ≡ spec.page_count shape.now }

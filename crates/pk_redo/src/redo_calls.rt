@@ -1,5 +1,5 @@
 //! What a board asks of an image and its log. Each clause on what is kept holds whatever the call answers.
-ghost use Rattle.std.specs.Prelude.{◌≡◌, ◌≢◌, ◌⊎◌, ◌+◌, ◌^◌, ◌<◌, ◌≤◌, ◌↔◌, ℕ, List, [], ◌∷◌, ◌++◌, length, take, slice_index, get_or, true, false, replicate, IsTrue, OnOk, OnErr, IfOk};
+ghost use Rattle.std.specs.Prelude.{◌≡◌, ◌≢◌, ◌⊎◌, ◌+◌, ◌^◌, ◌<◌, ◌≤◌, ◌↔◌, ℕ, List, [], ◌∷◌, ◌++◌, length, take, drop, slice_index, get_or, true, false, replicate, IsTrue, OnOk, OnErr, IfOk};
 ghost use Rattle.sqlite_disk.specs.Disk.{Only};
 ghost use Rattle.pk_base.specs.Fields.{padded};
 ghost use Rattle.pk_base.specs.Mark.{Mark, program, erase, after};
@@ -7,6 +7,8 @@ ghost use Rattle.pk_base.specs.Page.{Flash, page_at};
 ghost use Rattle.pk_base.specs.Shape as spec;
 ghost use Rattle.pk_image.specs.Header.{file_size, header_bytes};
 ghost use Rattle.pk_image.specs.Image.{state_byte};
+ghost use Rattle.pk_redo.specs.Log.{IsSealed};
+ghost use Rattle.pk_redo.specs.Record.{RecordFits, record_size};
 ghost use Rattle.pk_redo.specs.Steps.{AreSteps};
 ghost use Rattle.pk_redo.specs.Image.{AllSameBut, LogSays, ReadAs, flash_after};
 ghost use Rattle.pk_redo.specs.Kept.{KeepsPages, StillKeeps, ImageAlone, HasRoomForStep, ReplayedTo};
@@ -15,7 +17,7 @@ use crate::batch::{BATCH_HEAD, FIRST_BATCH};
 use crate::image::{Pages, barrier, checkpoint, close, finish};
 use crate::log::extend;
 use crate::pending::Pending;
-use crate::record::{note_row, put_record, record_len, set_pages};
+use crate::record::{clear_pages, note_row, put_record, record_len, set_pages};
 use crate::redo_log::{LogSizes, LogState, RedoLog};
 use crate::replay::Replay;
 use crate::step::STEP_BYTES;
@@ -30,15 +32,31 @@ fn ended() -> io::Error {
 }
 
 /// Writes the states of all pages.
-fn note_states<P: Pages>(states: &mut [u8], pages: &P)
-    requires { length states.old ≡ spec.page_count (P.shape_of pages.now) }
+fn note_states<P: Pages>(states: &mut [u8], shape: &Shape, pages: &P)
+    requires shape { P.shape_of pages.now ≡ shape.now }
+    requires len { length states.old ≡ spec.page_count shape.now }
     ensures states { (k : ℕ) → k < length states.old
         → slice_index states.new k ≡ state_byte (page_at (P.flash_of pages.now) k) }
     ensures len { length states.new ≡ length states.old }
 {
-    for page in 0..states.len() {
-        states[page] = pages.state(page as u32).byte();
+    for page in 0..shape.page_count() {
+        states[page as usize] = pages.state(page).byte();
     }
+}
+
+/// Makes the record of an image that has these pages.
+fn note_record<P: Pages>(first: &mut Vec<u8>, states: &mut Vec<u8>, shape: &Shape, pages: &P)
+    requires shape { P.shape_of pages.now ≡ shape.now }
+    requires states { length states.old.items ≡ spec.page_count shape.now }
+    requires room { length first.old.items ≡ BATCH_HEAD + record_size shape.now }
+    ensures sealed { IsSealed first.new.items }
+    ensures fits { RecordFits shape.now (drop BATCH_HEAD first.new.items) (header_bytes shape.now)
+        (λ k. state_byte (page_at (P.flash_of pages.now) k)) [] }
+    ensures states_len { length states.new.items ≡ length states.old.items }
+    ensures len { length first.new.items ≡ length first.old.items }
+{
+    note_states(states.as_mut_slice(), shape, pages);
+    put_record(first.as_mut_slice(), shape, states.as_slice());
 }
 
 /// Commits the batch in memory behind the batches of the log, which end at a place. A log that was
@@ -217,8 +235,7 @@ impl<D: Disk> RedoLog<D> {
         if self.is_lost() {
             return Err(ended());
         }
-        note_states(self.states.as_mut_slice(), pages);
-        put_record(self.record.as_mut_slice(), &self.shape, &self.states);
+        note_record(&mut self.record, &mut self.states, &self.shape, pages);
         match checkpoint(
             &mut self.image,
             &self.shape,
@@ -239,7 +256,7 @@ impl<D: Disk> RedoLog<D> {
             Ok(()) => {
                 self.end = FIRST_BATCH + self.record.len();
                 self.room = self.end + self.blank.len();
-                self.lacks.as_mut_slice().fill(false);
+                clear_pages(&mut self.lacks);
                 self.state = LogState::Ready;
                 Ok(())
             }

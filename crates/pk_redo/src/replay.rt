@@ -1,12 +1,14 @@
 //! What a log says to its image when both are opened.
-ghost use Rattle.std.specs.Prelude.{◌≡◌, ◌≢◌, ◌+◌, ◌<◌, ◌≤◌, ◌↔◌, ℕ, List, [], length, take, Err, true, false, IfOk, IsTrue};
+ghost use Rattle.std.specs.Prelude.{◌≡◌, ◌≢◌, ◌+◌, ◌<◌, ◌≤◌, ◌↔◌, ℕ, List, [], length, take, drop, get_or, Ok, Err, true, false, IfOk, IsTrue};
 ghost use Rattle.sqlite_disk.specs.Disk.{Holds};
 ghost use Rattle.pk_base.specs.Mark.{Mark};
 ghost use Rattle.pk_base.specs.Shape as spec;
 ghost use Rattle.pk_image.specs.Header.{file_size, header_bytes};
 ghost use Rattle.pk_redo.specs.Log.{LogHolds};
-ghost use Rattle.pk_redo.specs.Steps.{step_marks};
-ghost use Rattle.pk_redo.specs.Image.{BatchesSay, BelongTo, flash_after};
+ghost use Rattle.pk_redo.specs.Steps.{Sets, step_marks};
+ghost use Rattle.pk_redo.specs.Record.{RecordedAs};
+ghost use Rattle.pk_redo.specs.Image.{flash_after};
+ghost use Rattle.pk_redo.specs.Kept.{ReplayedTo, replay_marks};
 ghost use Rattle.pk_redo.specs.declared.reader.LogFault.{LogFault};
 
 use crate::batch::{BATCH_HEAD, FIRST_BATCH, batch_at, is_open};
@@ -30,7 +32,9 @@ pub struct Replay {
 }
 
 /// Why a file is not read.
-fn fault_of(error: &io::Error) -> LogFault {
+fn fault_of(error: &io::Error) -> LogFault
+    ensures { result ≢ LogFault.OtherImage }
+{
     if error.kind() == io::ErrorKind::OutOfMemory {
         LogFault::Memory
     } else {
@@ -65,12 +69,34 @@ fn read_head<D: Disk>(image: &mut D, alloc: Global, shape: &Shape) -> Result<Vec
     }
 }
 
+/// The header in the head of an image.
+fn header_of(head: &[u8]) -> &[u8]
+    requires { HEADER_BYTES ≤ length head.now }
+    ensures value { result.now ≡ take HEADER_BYTES head.now }
+    ensures len { length result.now ≡ HEADER_BYTES }
+{
+    &head[..HEADER_BYTES]
+}
+
+/// The states of the pages behind it.
+fn states_of(head: &[u8]) -> &[u8]
+    requires { HEADER_BYTES ≤ length head.now }
+    ensures value { result.now ≡ drop HEADER_BYTES head.now }
+    ensures len { HEADER_BYTES + length result.now ≡ length head.now }
+{
+    &head[HEADER_BYTES..]
+}
+
 /// Whether a log is of an image with this header and these states: it has no record, or one of
 /// them, but for pages that its steps set.
 fn is_of(shape: &Shape, log: &[u8], set: &[bool], header: &[u8], states: &[u8]) -> bool
     requires header { length header.now ≡ HEADER_BYTES }
     requires states { length states.now ≡ spec.page_count shape.now }
     requires set { length set.now ≡ spec.page_count shape.now }
+    ensures { result ≡ true → (batches : List (List ℕ)) (marks : List Mark) → LogHolds log.now batches
+        → ((k : ℕ) → k < spec.page_count shape.now
+        → (get_or set.now k false ≡ true) ↔ Sets shape.now marks k)
+        → RecordedAs shape.now batches header.now states.now marks }
 {
     if !is_open(log) {
         return true;
@@ -91,11 +117,16 @@ fn belongs(
     head: &[u8],
 ) -> Result<bool, LogFault>
     requires { length head.now ≡ HEADER_BYTES + spec.page_count shape.now }
+    ensures header { result ≡ Ok true → take HEADER_BYTES head.now ≡ header_bytes shape.now }
+    ensures record { result ≡ Ok true → (batches : List (List ℕ)) → LogHolds log.now batches
+        → RecordedAs shape.now batches (take HEADER_BYTES head.now) (drop HEADER_BYTES head.now)
+        (step_marks shape.now log.now steps.now) }
+    ensures other { result ≢ Err (LogFault.OtherImage) }
 {
     let Ok(set) = set_pages(alloc, shape, steps) else {
         return Err(LogFault::Memory);
     };
-    let (own, states) = (&head[..HEADER_BYTES], &head[HEADER_BYTES..]);
+    let (own, states) = (header_of(head), states_of(head));
     let wanted = header(shape);
     if own != &wanted[..] {
         return Ok(false);
@@ -113,6 +144,18 @@ impl Replay {
     ) -> Result<Replay, LogFault>
         requires log { IsTrue (D.Disk.is_usable log.old) }
         requires image { IsTrue (D.Disk.is_usable image.old) }
+        // The steps are those that a reader of both files does.
+        ensures found { IfOk result (λ replay. IsTrue (D.Disk.is_clean log.new)
+            → IsTrue (D.Disk.is_clean image.new)
+            → ReplayedTo shape.now (D.Disk.seen log.old) (D.Disk.seen image.old) replay
+            (flash_after shape.now (replay_marks shape.now replay) (D.Disk.seen image.old))) }
+        ensures log_seen { D.Disk.seen log.new ≡ D.Disk.seen log.old }
+        ensures image_seen { D.Disk.seen image.new ≡ D.Disk.seen image.old }
+        ensures log_crash { (c : List ℕ) → D.Disk.may_leave log.new c
+            → D.Disk.may_leave log.old c }
+        ensures image_crash { (c : List ℕ) → D.Disk.may_leave image.new c
+            → D.Disk.may_leave image.old c }
+        ensures usable { IsTrue (D.Disk.is_usable log.new) × IsTrue (D.Disk.is_usable image.new) }
     {
         let bytes = match read_log(log, alloc) {
             Ok(bytes) => bytes,

@@ -1,4 +1,3 @@
-use Rattle.std.proofs.Common.{refl}
 use Rattle.pk_redo.specs.Bytes.{number_in}
 use Rattle.pk_redo.proofs.batch.get_number.Goals as goal
 

@@ -1,4 +1,4 @@
-use Rattle.std.proofs.Common.{ℕ, List, [], ◌∷◌, inl, inr}
+use Rattle.std.proofs.Common.{ℕ, List, [], ◌∷◌, ◌++◌, drop, inl, inr}
 use Rattle.std.proofs.lemmas.Result.{on_ok_weaker}
 use Rattle.pk_redo.proofs.Batches.{ready_stands}
 use Rattle.pk_redo.proofs.Stepping.{bodies_more}
@@ -11,8 +11,8 @@ returns-clause-crash g c base marks now says within own l i may_l may_i =
     let shape = c.args.shape.now in
     let more = bodies_more shape says.later marks _ now says.says own in
     elim (c.commit.ensures.crash (says.first ∷ says.later) says.ready l may_l) [
-      | inl old ↦ inl (replay_is_absolute shape l base i _ marks old says.says (belongs_more shape _ marks base says.of_base) (within i may_i))
-      | inr new ↦ inr (replay_is_absolute shape l base i _ _ new more (belongs_more shape _ _ base says.of_base) (within_more shape marks now base i (within i may_i)))
+      | inl old ↦ inl (replay_is_absolute shape l base i _ marks old says.says (belongs_more shape (says.first ∷ says.later) marks base says.of_base) (within i may_i))
+      | inr new ↦ inr (replay_is_absolute shape l base i _ _ new more (belongs_more shape (says.first ∷ (says.later ++ (drop 9 c.args.batch.now ∷ []))) (marks ++ now) base says.of_base) (within_more shape marks now base i (within i may_i)))
     ]
 
 pub returns-clause-done : goal.returns-clause-done
@@ -24,5 +24,5 @@ returns-clause-done g c =
     let files = λ (i : List ℕ) (may : g.D.Disk.may_leave c.args.image.now i). within_more shape marks now base i (within i may) in (
       record { first = says.first; later = _; ready = all; says = more; of_base = says.of_base },
       files,
-      λ l i may_l may_i. replay_is_absolute shape l base i _ _ (ready_stands l _ _ _ c.requires.fits (all l may_l)) more (belongs_more shape _ _ base says.of_base) (files i may_i),
+      λ l i may_l may_i. replay_is_absolute shape l base i _ _ (ready_stands l _ _ _ c.requires.fits (all l may_l)) more (belongs_more shape (says.first ∷ (says.later ++ (drop 9 c.args.batch.now ∷ []))) (marks ++ now) base says.of_base) (files i may_i),
     )) c.commit.ensures.done

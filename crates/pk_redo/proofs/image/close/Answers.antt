@@ -1,4 +1,4 @@
-use Rattle.std.proofs.Common.{ℕ, List, [], ◌∷◌, refl, inl, inr}
+use Rattle.std.proofs.Common.{inl, inr}
 use Rattle.std.specs.Prelude.{Result, Ok, Err, OnOk}
 use Rattle.pk_redo.proofs.Gates.{shut_stands}
 use Rattle.pk_redo.proofs.Replaying.{replay_is_absolute, written_reads}
@@ -24,5 +24,4 @@ returns-clause-crash g c clean base marks stands within written l i may_l may_i 
 
 pub returns-clause-done : goal.returns-clause-done
 returns-clause-done g c =
-    both c.shut.result (λ is synced clean. (record { batches = []; stands = λ l may. shut_stands l (rw (synced l may) (is clean)); says = refl; of_base = tt }, c.in_ok-sync.ensures.durable))
-    c.shut.ensures.shut c.shut.ensures.synced
+    both c.shut.result (λ is synced clean. ((λ l may. shut_stands l (rw (synced l may) (is clean))), c.in_ok-sync.ensures.durable)) c.shut.ensures.shut c.shut.ensures.synced

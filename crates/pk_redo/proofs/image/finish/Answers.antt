@@ -1,4 +1,4 @@
-use Rattle.std.proofs.Common.{ℕ, List, [], ◌∷◌, refl, sym, ◌∙◌, inl, inr}
+use Rattle.std.proofs.Common.{[], refl, inl, inr}
 use Rattle.std.proofs.lemmas.Result.{on_ok_weaker}
 use Rattle.pk_redo.proofs.Replaying.{replay_is_absolute, written_reads, written_reads_record}
 use Rattle.pk_redo.proofs.image.finish.Goals as goal

@@ -1,4 +1,4 @@
-use Rattle.std.proofs.Common.{◌≡◌, ℕ, refl, List, [], ◌∷◌, ◌++◌, inl, subst}
+use Rattle.std.proofs.Common.{ℕ, refl, List, [], ◌∷◌, ◌++◌, inl, subst}
 use Rattle.std.proofs.lemmas.List.{append-nil}
 use Rattle.pk_base.{specs.Shape.Shape, specs.Page.Flash, specs.Mark.Mark, specs.Mark.after_all, specs.Mark.all_posted}
 use Rattle.pk_nand.{specs.Cut.Cut, proofs.CutLemmas.cut_behind, proofs.CutLemmas.interrupted_none}

@@ -1,4 +1,4 @@
-use Rattle.std.proofs.Common.{◌≡◌, ◌<◌, ◌+◌, List, ℕ, length, slice_index, arith, inl, inr}
+use Rattle.std.proofs.Common.{◌<◌, length, arith, inl, inr}
 use Rattle.std.proofs.lemmas.Result.{on_ok_weaker}
 use Rattle.pk_redo.proofs.Gates.{first_stands, first_ready, still_shut, shut_stands}
 use Rattle.pk_redo.proofs.log.reset.Goals as goal

@@ -1,10 +1,9 @@
-use Rattle.std.proofs.Common.{◌≡◌, ℕ, ◌+◌, ◌≤◌, List, [], ◌∷◌, ◌++◌, length, arith, ap, Err, sym, subst, inl, inr}
-use Rattle.pk_base.specs.Mark.{Mark}
+use Rattle.std.proofs.Common.{◌≡◌, ℕ, ◌+◌, ◌≤◌, List, [], ◌∷◌, ◌++◌, length, arith, ap, Err, subst, inl, inr}
 use Rattle.pk_redo.specs.declared.batch.TheConstants.{FIRST_BATCH}
 use Rattle.pk_redo.specs.declared.reader.LogFault.TheVariants.{BadStep}
 use Rattle.pk_redo.specs.Bytes.{bytes_at}
-use Rattle.pk_redo.specs.Log.{Walks, body_at, next_at}
-use Rattle.pk_redo.specs.Steps.{BodySays, BodiesSay}
+use Rattle.pk_redo.specs.Log.{body_at, next_at}
+use Rattle.pk_redo.specs.Steps.{BodySays}
 use Rattle.pk_redo.specs.Image.{BatchesSay}
 use Rattle.pk_redo.proofs.Batches.{walks_on, batches_through}
 use Rattle.pk_redo.proofs.Stepping.{steps_of_body, body_of_steps, bodies_more, bodies_behind}

@@ -1,4 +1,4 @@
-use Rattle.std.proofs.Common.{◌≡◌, ◌+◌, ◌-◌, ◌≤◌, List, ℕ, ◌∷◌, length, slice_index}
+use Rattle.std.proofs.Common.{◌≡◌, ◌-◌, ◌≤◌, List, ℕ, ◌∷◌, length, slice_index}
 use Rattle.pk_redo.specs.declared.batch.TheConstants.{FIRST_BATCH, OPEN}
 use Rattle.pk_redo.specs.Log.{Walks}
 use Rattle.pk_redo.specs.Steps.{BodiesSay, step_marks}

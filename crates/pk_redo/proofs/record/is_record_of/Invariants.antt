@@ -1,4 +1,4 @@
-use Rattle.std.proofs.Common.{◌≡◌, ℕ, ◌<◌, get_or, true, false, slice_index}
+use Rattle.std.proofs.Common.{◌≡◌, ℕ, ◌<◌, get_or, false, slice_index}
 use Rattle.pk_redo.specs.Record.{state_in, said}
 use Rattle.pk_redo.proofs.record.is_record_of.Given as goal
 

@@ -1,4 +1,4 @@
-use Rattle.std.proofs.Common.{◌≡◌, ◌∙◌, ◌%◌, ◌/◌, ◌^◌, ◌+◌, ◌<◌, slice_index, arith}
+use Rattle.std.proofs.Common.{◌≡◌, ◌∙◌, ◌%◌, ◌/◌, ◌+◌, arith}
 use Rattle.pk_redo.proofs.Tables.{state_read}
 use Rattle.pk_redo.proofs.record.state_at_page.Goals as goal
 
