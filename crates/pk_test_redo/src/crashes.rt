@@ -19,7 +19,7 @@ const CHANCES: u32 = 4;
 
 pub const NEVER: Fails = Fails::From(u32::MAX);
 
-pub const NO_FAILURE: Failing = Failing {
+const NO_FAILURE: Failing = Failing {
     log: NEVER,
     image: NEVER,
 };

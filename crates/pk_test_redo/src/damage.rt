@@ -1,6 +1,6 @@
 //! Logs that lost bytes after a session, and the log of another image.
 
-use crate::crashes::{NEVER, NO_FAILURE, SESSION, is_cut, whole};
+use crate::crashes::{NEVER, SESSION, is_cut, whole};
 use crate::drive::Drive;
 use crate::medium::{Fails, Medium};
 use crate::reading::{Opened, open};
@@ -119,7 +119,7 @@ fn a_log_that_lost_a_byte_is_read_up_to_its_batch(rt: HostRuntime) -> Result<(),
 fn the_log_of_another_image_is_refused(rt: HostRuntime) -> Result<(), Fail> {
     let alloc = rt.alloc();
     let (done, files) = stopped(alloc)?;
-    let mut other = made(alloc, true, NO_FAILURE)?.ok_or("no files")?;
+    let (_, mut other) = whole(alloc, true, SESSION + 1)?;
     let mut log = Medium::new(alloc, files.log.bytes(), true, NEVER)?;
     match open(alloc, &mut log, &mut other.image)? {
         Ok(_) => return Err("the log of another image is read".into()),
