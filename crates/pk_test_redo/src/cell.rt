@@ -1,5 +1,6 @@
 //! A page in memory.
 ghost use Rattle.std.specs.Prelude.{◌≡◌, ◌≤◌, ℕ, List, length};
+ghost use Rattle.pk_test_redo.specs.declared.cell.TheConstants.{PAGE};
 
 use pk_image::PageTag;
 use std::alloc::{AllocError, Global};
@@ -34,12 +35,18 @@ fn trimmed(bytes: &[u8]) -> usize
     0
 }
 
+// The bytes up to the last that is not 0, and at most those of a page.
+fn front_of(bytes: &[u8]) -> &[u8]
+    ensures { length result.now ≤ PAGE }
+{
+    &bytes[..trimmed(bytes).min(PAGE)]
+}
+
 impl Front {
     /// The front of a page with these bytes; those behind its end are left out.
     pub fn new(alloc: Global, bytes: &[u8]) -> Result<Front, AllocError> {
-        let len = trimmed(bytes).min(PAGE);
         Ok(Front {
-            bytes: bytes[..len].to_vec(alloc)?,
+            bytes: front_of(bytes).to_vec(alloc)?,
         })
     }
 

@@ -168,7 +168,7 @@ fn is_kept_further(
 
 // How a trial went.
 #[derive(Clone, Copy, Debug, PartialEq, Eq)]
-enum Trial {
+enum Ending {
     // The files were opened as other pages, or refused.
     Lost,
     // The session was stopped before its end.
@@ -177,26 +177,31 @@ enum Trial {
 }
 
 // A session of which these calls fail, and what comes after it.
-fn trial(alloc: Global, is_mixing: bool, failing: Failing, seed: u32) -> Result<Trial, AllocError> {
+fn trial(
+    alloc: Global,
+    is_mixing: bool,
+    failing: Failing,
+    seed: u32,
+) -> Result<Ending, AllocError> {
     let Some(files) = made(alloc, is_mixing, failing)? else {
-        return Ok(Trial::Lost);
+        return Ok(Ending::Lost);
     };
     let (done, files) = match session(alloc, files, seed)? {
         Ok(it) => it,
-        Err(LogFault::Disk) => return Ok(Trial::Stopped), // nothing was done
-        Err(_) => return Ok(Trial::Lost),
+        Err(LogFault::Disk) => return Ok(Ending::Stopped), // nothing was done
+        Err(_) => return Ok(Ending::Lost),
     };
     let mut random = Random::new(seed);
     if !is_kept_by_extremes(alloc, &done, &files)?
         || !is_kept_by_chance(alloc, &done, &files, &mut random)?
         || !is_kept_further(alloc, &done, &files, &mut random)?
     {
-        return Ok(Trial::Lost);
+        return Ok(Ending::Lost);
     }
     Ok(if done.is_over {
-        Trial::Over
+        Ending::Over
     } else {
-        Trial::Stopped
+        Ending::Stopped
     })
 }
 
@@ -219,7 +224,7 @@ enum Which {
 }
 
 // One call of a file fails, or all from it on.
-fn failing(which: Which, fails: Fails) -> Failing {
+fn failing_of(which: Which, fails: Fails) -> Failing {
     match which {
         Which::Log => Failing {
             log: fails,
@@ -254,10 +259,10 @@ fn trials(alloc: Global, is_mixing: bool, which: Which, is_stopped: bool) -> Res
         } else {
             Fails::Once(call)
         };
-        match trial(alloc, is_mixing, failing(which, fails), SESSION)? {
-            Trial::Over => over = over.saturating_add(1),
-            Trial::Stopped => {}
-            Trial::Lost => {
+        match trial(alloc, is_mixing, failing_of(which, fails), SESSION)? {
+            Ending::Over => over = over.saturating_add(1),
+            Ending::Stopped => {}
+            Ending::Lost => {
                 return Ok(Found {
                     over,
                     lost: Some(call),
@@ -324,7 +329,7 @@ fn sessions_that_chance_stops_keep_what_they_answered(rt: HostRuntime) -> Result
             image: Fails::From(random.below(100) as u32),
         };
         let found = trial(rt.alloc(), number % 2 == 0, failing, random.seed())?;
-        assert!(rt; found != Trial::Lost, "session {number}");
+        assert!(rt; found != Ending::Lost, "session {number}");
     }
     Ok(())
 }

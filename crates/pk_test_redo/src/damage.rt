@@ -24,7 +24,7 @@ fn stopped(alloc: Global) -> Result<(Done, Files), Fail> {
 }
 
 // The drive that is opened of these bytes of a log, and of what the image has on the disk.
-fn opened(
+fn open_bytes(
     alloc: Global,
     log: &[u8],
     files: &Files,
@@ -36,7 +36,7 @@ fn opened(
 
 // Whether these bytes of a log are opened as the same pages.
 fn opens_as(alloc: Global, log: &[u8], files: &Files, wanted: &Drive) -> Result<bool, AllocError> {
-    match opened(alloc, log, files)? {
+    match open_bytes(alloc, log, files)? {
         Ok(opened) => Ok(opened.drive.is_same(wanted)),
         Err(_) => Ok(false),
     }
@@ -68,7 +68,7 @@ fn a_log_cut_in_its_last_batch_is_read_without_it(rt: HostRuntime) -> Result<(),
     let log = files.log.bytes();
     let (begin, end) = last_batch(alloc, log)?;
     assert!(rt; begin < end && end < log.len());
-    let Ok(without) = opened(alloc, &log[..begin], &files)? else {
+    let Ok(without) = open_bytes(alloc, &log[..begin], &files)? else {
         return Err("the log without its last batch is refused".into());
     };
     assert!(rt; !without.drive.is_same(&done.end));
@@ -78,15 +78,12 @@ fn a_log_cut_in_its_last_batch_is_read_without_it(rt: HostRuntime) -> Result<(),
             "ends at {at}"
         );
         let lost = lost_from(alloc, log, at)?;
-        let wanted = if lost.as_slice() == log {
-            &done.end
+        let is_right = if lost.as_slice() == log {
+            opens_as(alloc, lost.as_slice(), &files, &done.end)?
         } else {
-            &without.drive
+            opens_as(alloc, lost.as_slice(), &files, &without.drive)?
         };
-        assert!(rt;
-            opens_as(alloc, lost.as_slice(), &files, wanted)?,
-            "lost from {at}"
-        );
+        assert!(rt; is_right, "lost from {at}");
     }
     assert!(rt; opens_as(alloc, log, &files, &done.end)?);
     Ok(())
@@ -105,7 +102,7 @@ fn a_log_that_lost_a_byte_is_read_up_to_its_batch(rt: HostRuntime) -> Result<(),
         let mut lost = log.to_vec(alloc)?;
         assert!(rt; at < lost.len());
         lost[at] = 0;
-        let Ok(opened) = opened(alloc, lost.as_slice(), &files)? else {
+        let Ok(opened) = open_bytes(alloc, lost.as_slice(), &files)? else {
             return Err("a log that lost a byte is refused".into());
         };
         assert!(rt; is_cut(alloc, &done, &opened.drive)?, "{at}");

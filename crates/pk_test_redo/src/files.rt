@@ -1,6 +1,7 @@
 //! Real files as disks: what is written is read by the next opening, and a log is made, found and removed by its name.
 ghost use Rattle.pk_redo.specs.Log.{IsSealed};
 
+use crate::log::zeros;
 use pk_disk::{Syncs, Unknown, Wary, find_log, log_path, make_log, open_disk, remove_log};
 use pk_redo::{FIRST_BATCH, commit, find_batches, read_log, reset, seal};
 use sqlite_disk::Disk;
@@ -32,7 +33,7 @@ fn small_batch() -> [u8; 12]
 // Makes a log of a file, and commits a batch to it.
 fn commits<D: Disk>(disk: &mut D) -> bool {
     let batch = small_batch();
-    if !disk.may_be_used() || reset(disk, &batch, &[0u8; 64]).is_err() {
+    if !disk.may_be_used() || reset(disk, &batch, &zeros()).is_err() {
         return false;
     }
     disk.may_be_used() && commit(disk, FIRST_BATCH + 12, 92, &batch).is_ok()

@@ -1,4 +1,5 @@
 //! A log alone: commits that are stopped, batches that lose bytes, and steps that are read back.
+ghost use Rattle.std.specs.Prelude.{◌≡◌, ◌<◌, ℕ, slice_index};
 ghost use Rattle.pk_redo.specs.Log.{IsSealed};
 
 use pk_base::Shape;
@@ -19,11 +20,17 @@ fn small_batch(byte: u8) -> [u8; 12]
     batch
 }
 
+/// The zeros behind the batches of a small log.
+pub fn zeros() -> [u8; 64]
+    ensures { (i : ℕ) → i < 64 → slice_index result i ≡ 0 }
+{
+    [0u8; 64]
+}
+
 // A log over a disk that lets so many calls through, with a first batch and three more, of which as
 // many are counted as returned success.
 fn three_commits<D: Disk>(disk: &mut D) -> usize {
-    let blank = [0u8; 64];
-    if !disk.may_be_used() || reset(disk, &small_batch(9), &blank).is_err() {
+    if !disk.may_be_used() || reset(disk, &small_batch(9), &zeros()).is_err() {
         return 0;
     }
     for i in 1..4u8 {
@@ -50,7 +57,7 @@ fn a_crash_keeps_each_commit(rt: HostRuntime) -> Result<(), Fail> {
         for i in 1..found.len() {
             let (at, len) = found[i];
             assert_eq!(rt; len, 3);
-            assert!(rt; log.get(at) == Some(&(i as u8)));
+            assert!(rt; log.get(at) == Some(&((i % 256) as u8)));
         }
     }
     Ok(())

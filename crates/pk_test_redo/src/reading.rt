@@ -6,6 +6,7 @@ use crate::drive::{Drive, PAGES};
 use crate::medium::Medium;
 use pk_image::HEADER_BYTES;
 use pk_redo::{LogFault, Replay, Step};
+use sqlite_disk::Disk;
 use std::alloc::{AllocError, Global};
 
 /// Bytes of the image of a drive.
@@ -79,6 +80,9 @@ pub fn open(
     let Some(mut drive) = Drive::new(alloc)? else {
         return Ok(Err(LogFault::Memory));
     };
+    if !log.may_be_used() || !image.may_be_used() {
+        return Ok(Err(LogFault::Disk));
+    }
     let replay = match Replay::read(alloc, log, image, &drive.shape) {
         Ok(replay) => replay,
         Err(fault) => return Ok(Err(fault)),

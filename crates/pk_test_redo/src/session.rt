@@ -95,7 +95,8 @@ impl Run {
     // Secures room for a step; whether there is some.
     fn is_ready(&mut self, len: usize) -> bool
         requires { len ≤ PAGE }
-        ensures { result ≡ true → HasRoomForStep self.new.redo len }
+        ensures room { result ≡ true → HasRoomForStep self.new.redo len }
+        ensures drive { self.new.drive ≡ self.old.drive }
     {
         self.redo.ready(&self.drive, len).is_ok() && self.redo.has_room(len)
     }
