@@ -2,9 +2,10 @@
 # Kills the program at random moments of a serve, again and again on the same image, and compares the value of every key after each kill
 # with the commands whose record was written: each of them must have been executed, and no part of a command. The commands are Stores,
 # Deletes, Flushes and Ticks on two drives, of which the small one reclaims a block with every few Stores. A session that ends before
-# its kill is a session and no kill; both are counted. It is not part of the gate.
+# its kill is a session and no kill; both are counted. With PINK_SYNC=1 in the environment the program has a log beside the image: what the
+# kills leave of it is counted, and sessions of some thousand commands are killed in checkpoints too. It is not part of the gate.
 #
-#   bench/kill.sh [TIMES]        TIMES sessions, 300 by default
+#   bench/kill.sh [TIMES [COMMANDS]]     TIMES sessions, 300 by default, each of less than COMMANDS commands, 600 by default
 set -eu
 
 top=$(CDPATH='' cd -- "$(dirname -- "$0")/.." && pwd)
@@ -13,10 +14,10 @@ trap 'rm -rf "$folder"' EXIT
 
 "$top/pink" "$folder/small.img" make 512 8 33
 "$top/pink" "$folder/worked.img" make 512 16 64
-python3 - "${PINK:-$top/crates/pink/out/pink}" "$folder" "${1:-300}" <<'PY'
-import random, struct, subprocess, sys, time
+python3 - "${PINK:-$top/crates/pink/out/pink}" "$folder" "${1:-300}" "${2:-600}" <<'PY'
+import collections, os, random, struct, subprocess, sys, time
 
-program, folder, times = sys.argv[1], sys.argv[2], int(sys.argv[3])
+program, folder, times, most = sys.argv[1], sys.argv[2], int(sys.argv[3]), int(sys.argv[4])
 FLUSH, STORE, RETRIEVE, DELETE, TICK, RECORD = 0x00, 0x01, 0x02, 0x10, 0xC0, 24
 
 def entry(opcode, key=b'', size=0):
@@ -36,6 +37,7 @@ class Drive:
         self.longest, self.pages = longest, pages       # of a value, and of all blocks for values
         self.map, self.stored, self.commands, self.kills, self.inside = {}, 0, 0, 0, 0
         self.most = None                                # how long a session takes that is not killed
+        self.logs = collections.Counter()               # what kills left of the log
 
     def command(self):                                  # its bytes, and what it makes of a map
         draw = random.random()
@@ -66,6 +68,34 @@ class Drive:
         with open(folder + '/records', 'rb') as records:
             return records.read(), status == -9, spent
 
+    def files(self):                                    # the image, and its log or none
+        names = [self.image, self.image + '-wal']
+        return [(name, open(name, 'rb').read() if os.path.exists(name) else None) for name in names]
+
+    def put(self, files):
+        for name, content in files:
+            if content is not None:
+                with open(name, 'wb') as file:
+                    file.write(content)
+            elif os.path.exists(name):
+                os.remove(name)
+
+    def log(self):
+        name = self.image + '-wal'
+        if not os.path.exists(name):
+            return 'none'
+        with open(name, 'rb') as file:
+            head = file.read(17)
+        if head[:1] != b'\x50':
+            return 'shut'
+        return 'with steps' if self.has_steps(name) else 'with no step'
+
+    def has_steps(self, name):                          # it has a batch behind its first
+        with open(name, 'rb') as file:
+            log = file.read()
+        first = 25 + int.from_bytes(log[17:21], 'little')
+        return log[first:first + 1] == b'\x01'
+
     def held(self):
         records, _, _ = self.serve(b''.join(entry(RETRIEVE, key, 2016) for key in self.keys), 60)
         found, at = {}, 0
@@ -77,7 +107,7 @@ class Drive:
         return found
 
     def trial(self, number):
-        made = [self.command() for _ in range(random.randrange(1, 600))]
+        made = [self.command() for _ in range(random.randrange(1, most))]
         maps = [self.map]                               # after each number of commands
         for _, makes, _ in made:
             maps.append(makes(maps[-1]))
@@ -85,8 +115,12 @@ class Drive:
         records, was_killed, spent = self.serve(b''.join(bytes for bytes, _, _ in made), seconds)
         if not was_killed:
             self.most = spent if self.most is None else (self.most + spent) / 2
+        else:
+            self.logs[self.log()] += 1
         told = -(-len(records) // RECORD)
+        left = self.files()                             # the next session finds this, and not what reading the map made of it
         found = self.held()
+        self.put(left)
         if found not in maps[told:]:
             sys.exit(f'kill {number}: after {told} of {len(made)} records {self.image} holds another map')
         kept = len(maps) - 1 - maps[::-1].index(found)
@@ -103,5 +137,7 @@ for number in range(times):
 for drive in drives:
     print(f'{drive.image.split("/")[-1]}: {drive.kills} kills, {drive.inside} of them between the first and the last command; {drive.commands} '
           f'commands were kept, and their values took {drive.stored} pages, on a drive that has {drive.pages} for values')
+    if set(drive.logs) - {'none'}:
+        print('  logs after kills:', ', '.join(f'{count} {what}' for what, count in sorted(drive.logs.items())))
 print(f'{times} sessions: after each the image held every command whose record was written')
 PY
