@@ -487,7 +487,7 @@ def try_moves(cluster, kills):
                 moved += last - first + 1
                 check_moved(cluster, source, first, last)
             print(f'\r{turn + 1} of {kills} moves', end='', file=sys.stderr)
-        check('no slot is without a server', sum(b - a + 1 for it in cluster.seen() for a, b in it.slots) == 16384)
+        print(file=sys.stderr)
 
     answered, keys = with_writers(cluster, 8, 0, act)
     cluster.check()
@@ -526,7 +526,6 @@ def try_move_steps(cluster, kinds, stride):
 
         answered, keys = with_writers(cluster, 4, 1, act)
         told[-1] += f' ({answered} changes, {keys} keys looked at)'
-        check('no slot is without a server', sum(b - a + 1 for it in cluster.seen() for a, b in it.slots) == 16384)
         cluster.check()
     return 'a move that lost its ' + ', its '.join(told) + ': ended by a second run, nothing lost'
 
