@@ -444,12 +444,12 @@ def a_move(cluster):
     return slot, source, random.choice(sorted({*cluster.primaries()} - {source}))
 
 
-def check_moved(cluster, source, target, first, last):
-    """The target has the slots, or whoever took its place, and the source keeps no key of them."""
-    found = owner(cluster.seen(), first).port
+def check_moved(cluster, source, first, last):
+    """Another server than the source has the slots, and the source keeps no key of them."""
+    until('the others see who has the slot', lambda: getattr(owner(cluster.seen(), first), 'port', source) != source)
     with Node(source) as node:
         left = sum(node.do('CLUSTER', 'COUNTKEYSINSLOT', slot) for slot in range(first, last + 1))
-    check('the source keeps no key', left == 0 and found != source, left, found, target)
+    check('the source keeps no key', left == 0, left)
 
 
 def end_move(cluster, kill):
@@ -485,9 +485,9 @@ def try_moves(cluster, kills):
             end_move(cluster, 'at a moment')
             if owner(cluster.seen(), first).port == target:
                 moved += last - first + 1
-                check_moved(cluster, source, target, first, last)
+                check_moved(cluster, source, first, last)
             print(f'\r{turn + 1} of {kills} moves', end='', file=sys.stderr)
-        check('no slot is without a server', sum(b - a + 1 for it in cluster.seen() for a, b in it.slots) == 16384)
+        print(file=sys.stderr)
 
     answered, keys = with_writers(cluster, 8, 0, act)
     cluster.check()
@@ -518,7 +518,7 @@ def try_move_steps(cluster, kinds, stride):
                 if kind != 'tool':
                     pinkctl('start', cluster.folder)
                 if end_move(cluster, f'of its {kind} before step {step}'):
-                    check_moved(cluster, source, target, slot, slot)
+                    check_moved(cluster, source, slot, slot)
                 ends += said.endswith(' steps')
                 step += stride
                 print(f'\r{step} steps, {kind}', end='', file=sys.stderr)
@@ -526,7 +526,6 @@ def try_move_steps(cluster, kinds, stride):
 
         answered, keys = with_writers(cluster, 4, 1, act)
         told[-1] += f' ({answered} changes, {keys} keys looked at)'
-        check('no slot is without a server', sum(b - a + 1 for it in cluster.seen() for a, b in it.slots) == 16384)
         cluster.check()
     return 'a move that lost its ' + ', its '.join(told) + ': ended by a second run, nothing lost'
 

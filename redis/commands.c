@@ -213,6 +213,7 @@ int register_commands(Ctx *ctx) {
         {"pink.cluster", cluster_command, "readonly admin", 0, 0, 0},
         {"pink.value", get_command, "readonly admin", 0, 0, 0},
         {"pink.raw", raw_command, "write admin", 0, 0, 0},
+        {"pink.take", take_command, "admin", 0, 0, 0},
         {"pink.owns", owns_command, "readonly admin fast", 1, 1, 1},
         {"pink.apply", apply_batch, "write no-monitor no-slowlog", 0, 0, 0},
     };

@@ -13,6 +13,6 @@ int reply_text(Ctx *ctx, const char *text);
 Command set_command, del_command, get_command;
 
 /* SCAN and DBSIZE, and the slots of a cluster (scan.c, slots.c). */
-Command scan_command, dbsize_command, cluster_command, raw_command, owns_command;
+Command scan_command, dbsize_command, cluster_command, raw_command, take_command, owns_command;
 
 #endif

@@ -104,6 +104,28 @@ int raw_command(Ctx *ctx, String **argv, int argc) {
     return reply_text(ctx, "ERR PINK.RAW has SET and DEL");
 }
 
+static int is_refused(Ctx *ctx, CallReply *reply) {
+    if (reply && CallReplyType(reply) != REPLY_ERROR) return 0;
+    if (reply) ReplyWithCallReply(ctx, reply);
+    else reply_text(ctx, "ERR this server is no part of a cluster");
+    return 1;
+}
+
+/* PINK.TAKE slot source own: this server takes a slot from another one, with an epoch above all others, and tells all servers at once.
+ * Redis tells them only at the end of an import, so the slot is imported for the time of this command, in which nobody looks up a key. If the
+ * others heard of it later, and the source got a newer epoch in between, they would say that the source has the slot, and nobody would. */
+int take_command(Ctx *ctx, String **argv, int argc) {
+    if (argc != 4) return reply_arity(ctx, "pink.take");
+    CallReply *begun = Call(ctx, "CLUSTER", "cscs", "SETSLOT", argv[1], "IMPORTING", argv[2]), *taken = NULL;
+    if (!is_refused(ctx, begun)) {
+        taken = Call(ctx, "CLUSTER", "cscs", "SETSLOT", argv[1], "NODE", argv[3]);
+        if (!is_refused(ctx, taken)) ReplyWithSimpleString(ctx, "OK");
+    }
+    if (taken) FreeCallReply(taken);
+    if (begun) FreeCallReply(begun);
+    return API_OK;
+}
+
 /* PINK.OWNS key: refused by Redis if the slot of the key belongs to another server. */
 int owns_command(Ctx *ctx, String **argv, int argc) {
     (void)argv;

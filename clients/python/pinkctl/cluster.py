@@ -276,7 +276,7 @@ def check(args: argparse.Namespace) -> int:
             other = next((seen.port for seen in node.seen() if seen.id == primary.primary), None)
             if other in nodes:
                 faults += compare(nodes[other], node)
-    missing = slots_without(next(iter(nodes.values())).seen())
+    missing = slots_without([seen for node in nodes.values() for seen in node.seen() if "myself" in seen.flags])
     if missing:
         faults.append(f"{missing} slots have no server: pinkctl cluster move-slots ends a move that was broken off")
     for fault in faults:
@@ -317,8 +317,9 @@ def compare(primary: Node, replica: Node) -> list[str]:
     return [f"ports {primary.port} and {replica.port} differ in {len(differ)} keys, first {differ[0]!r}"] if differ else []
 
 
-def slots_without(nodes: list[Seen]) -> int:
-    return SLOTS - sum(last - first + 1 for it in nodes for first, last in it.slots)
+def slots_without(own: list[Seen]) -> int:
+    """How many slots no server says that it has itself."""
+    return SLOTS - len({slot for it in own if not it.primary for first, last in it.slots for slot in range(first, last + 1)})
 
 
 def check_images(it: Cluster) -> int:

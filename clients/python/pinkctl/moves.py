@@ -21,6 +21,8 @@ PAUSE_SECONDS = 6.0
 """A pause that nobody ends is over after this."""
 GIVE_SECONDS = 3.0
 """A slot whose keys took longer to copy is not given away."""
+KNOWN_SECONDS = 60.0
+"""How long the others may take to hear who has a slot; they are told at once."""
 
 
 class Move:
@@ -79,11 +81,29 @@ def copy_keys(source: Node, target: Node, slot: int) -> int:
     return len(keys)
 
 
-def take(target: Node, slot: int, id_: str) -> None:
+def take(target: Node, slot: int, ids: tuple[str, str]) -> None:
     """The target has the slot, with an epoch above that of the source, or the others would give it back."""
-    if not has_slot(target, slot, id_):
-        target.do("CLUSTER", "BUMPEPOCH")
-        target.do("CLUSTER", "SETSLOT", slot, "NODE", id_)
+    if not has_slot(target, slot, ids[1]):
+        target.do("PINK.TAKE", slot, *ids)
+
+
+def wait_until_known(target: Node, slots: list[int], id_: str) -> None:
+    """All servers that answer know who has the slots. One that does not would give them back once the source has a newer epoch."""
+    for port in [it.port for it in target.seen() if it.is_linked]:
+        last = time.monotonic() + KNOWN_SECONDS
+        while not knows(port, slots, id_):
+            if time.monotonic() > last:
+                raise ToolError(f"the server at port {port} does not hear who has the slots: run it again", Exit.PROGRAM)
+            time.sleep(0.05)
+
+
+def knows(port: int, slots: list[int], id_: str) -> bool:
+    """Whether the server at a port knows who has the slots; one that does not answer hears of it when it is back."""
+    try:
+        with Node(port, 5) as node:
+            return any(it.id == id_ and all(it.has(slot) for slot in slots) for it in node.seen())
+    except ToolError:
+        return True
 
 
 def move_slot(source: Node, target: Node, slot: int, ids: tuple[str, str]) -> tuple[int, float]:
@@ -98,11 +118,11 @@ def move_slot(source: Node, target: Node, slot: int, ids: tuple[str, str]) -> tu
             if time.monotonic() - began > GIVE_SECONDS:
                 raise ToolError(f"slot {slot} has too many keys: {len(keys_in(source, slot))} took more than {GIVE_SECONDS} s, it was not moved", Exit.REFUSED)
             source.do("CLUSTER", "SETSLOT", slot, "NODE", ids[1])
-            take(target, slot, ids[1])
+            take(target, slot, ids)
         finally:
             source.do("CLIENT", "UNPAUSE")
         given = time.monotonic() - began
-    take(target, slot, ids[1])  # of a move that was broken off between the two
+    take(target, slot, ids)  # of a move that was broken off between the two
     source.do("CLIENT", "UNPAUSE")
     delete_keys(source, slot)
     return keys, given
@@ -166,6 +186,7 @@ def go_on(move: Move) -> int:
         for slot in move.facts["slots"]:
             keys, paused = move_slot(source, target, slot, ids)
             moved, longest = moved + keys, max(longest, paused)
+        wait_until_known(target, move.facts["slots"], ids[1])
     move.end()
     print(f"{len(move.facts['slots'])} slots moved, {moved} keys; writes were paused for at most {1000 * longest:.0f} ms")
     return Exit.OK
