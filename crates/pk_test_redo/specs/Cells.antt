@@ -6,10 +6,10 @@ use Rattle.pk_test_redo.specs.declared.cell.Cell.{Cell}
 use Rattle.pk_test_redo.specs.declared.cell.Cell.TheVariants.{Erased, Torn, Whole}
 
 -- a page of the flash; of a Whole one zeros follow its front
-abbrev pub page_of : Cell → Page
-page_of Erased = erased
-page_of Torn = torn
-page_of (Whole front) = whole (padded PAGE front.bytes.items)
+abbrev pub page_of_cell : Cell → Page
+page_of_cell Erased = erased
+page_of_cell Torn = torn
+page_of_cell (Whole front) = whole (padded PAGE front.bytes.items)
 
 abbrev pub flash_of_cells : List Cell → Flash
-flash_of_cells cells = map page_of cells
+flash_of_cells cells = map page_of_cell cells

@@ -43,7 +43,7 @@ fn front_of(bytes: &[u8]) -> &[u8]
 }
 
 impl Front {
-    /// The front of a page with these bytes; those behind its end are left out.
+    /// The first bytes of a page, of these; those after its end are left out.
     pub fn new(alloc: Global, bytes: &[u8]) -> Result<Front, AllocError> {
         Ok(Front {
             bytes: front_of(bytes).to_vec(alloc)?,
@@ -62,10 +62,10 @@ impl Cell {
     ghost use Rattle.pk_base.specs.Fields.{padded};
     ghost use Rattle.pk_base.specs.Page.{whole};
     ghost use Rattle.pk_image.specs.Image.{byte_of, state_byte};
-    ghost use Rattle.pk_test_redo.specs.Cells.{page_of};
+    ghost use Rattle.pk_test_redo.specs.Cells.{page_of_cell};
 
     pub fn tag(&self) -> PageTag
-        ensures { byte_of result ≡ state_byte (page_of self.now) }
+        ensures { byte_of result ≡ state_byte (page_of_cell self.now) }
     {
         match self {
             Cell::Erased => PageTag::Erased,
@@ -74,10 +74,10 @@ impl Cell {
         }
     }
 
-    /// The front of a Whole page, and no byte of another one.
+    /// The kept bytes of a Whole page, and no byte of another one.
     pub fn front(&self) -> &[u8]
         ensures short { length result.now ≤ PAGE }
-        ensures page { (own : List ℕ) → page_of self.now ≡ whole own → own ≡ padded PAGE result.now }
+        ensures page { (own : List ℕ) → page_of_cell self.now ≡ whole own → own ≡ padded PAGE result.now }
     {
         match self {
             Cell::Whole(front) => front.as_slice(),

@@ -95,7 +95,7 @@ fn is_kept_by_extremes(alloc: Global, done: &Done, files: &Files) -> Result<bool
     Ok(true)
 }
 
-// The same by chance, so many times.
+// The same by chance, `times` times.
 fn is_kept_by_chance(
     alloc: Global,
     done: &Done,

@@ -12,7 +12,7 @@ const BLOCKS: usize = 6;
 
 #[derive(Clone, Copy)]
 pub enum Deed {
-    /// A page is programmed with a front of so many bytes, the first of which this one is.
+    /// A page is programmed with this many bytes, the first of which this one is.
     Program { page: u32, byte: u8, len: usize },
     Erase { block: u32 },
     Barrier,

@@ -1,5 +1,5 @@
 //! Tests of an image and its log, and of the real file as a disk: sessions that are stopped at each call of a file, and such of which one
-//! call fails; all that a loss of power may leave of both files, at its extremes and at random; sessions over what is left; logs that lost
+//! call fails; all that a loss of power may leave of both files, at its extremes and at random; sessions over what remains; logs that lost
 //! bytes; and a log of another image.
 #![tactic(auto)]
 

@@ -20,14 +20,14 @@ fn small_batch(byte: u8) -> [u8; 12]
     batch
 }
 
-/// The zeros behind the batches of a small log.
+/// The zeros after the batches of a small log.
 pub fn zeros() -> [u8; 64]
     ensures { (i : ℕ) → i < 64 → slice_index result i ≡ 0 }
 {
     [0u8; 64]
 }
 
-// A log over a disk that lets so many calls through, with a first batch and three more, of which as
+// A log over a disk that lets this many calls through, with a first batch and three more, of which as
 // many are counted as returned success.
 fn three_commits<D: Disk>(disk: &mut D) -> usize {
     if !disk.may_be_used() || reset(disk, &small_batch(9), &zeros()).is_err() {
@@ -79,7 +79,7 @@ fn a_batch_that_lost_a_byte_is_none(rt: HostRuntime) -> Result<(), Fail> {
     Ok(())
 }
 
-// A log of three batches, and room behind them.
+// A log of three batches, and room after them.
 fn three_batches() -> [u8; 92] {
     let mut log = [0u8; 92];
     log[0] = 0x50;
@@ -109,7 +109,7 @@ fn a_cut_of_the_last_batch_leaves_those_before_it(rt: HostRuntime) -> Result<(),
     Ok(())
 }
 
-// A byte that becomes another one, and no zero, may not be found; what stands before its batch is.
+// A byte that becomes another one, and no zero, may not be found; what comes before its batch is.
 #[test]
 fn a_changed_byte_leaves_the_batches_before_its_own(rt: HostRuntime) -> Result<(), Fail> {
     let whole = three_batches();

@@ -5,7 +5,7 @@ use crate::random::Random;
 use sqlite_disk::Disk;
 use std::alloc::{AllocError, Global};
 
-/// How much of what was not synced is left.
+/// How much of what was not synced remains.
 #[derive(Clone, Copy, PartialEq, Eq)]
 pub enum Left {
     /// Nothing.
@@ -51,7 +51,7 @@ enum Fate {
     Mixed,
 }
 
-// The fate by chance of a change of so many bytes.
+// The fate by chance of a change of this many bytes.
 fn chance(random: &mut Random, len: usize) -> Fate {
     let limit = len.saturating_add(1);
     match random.below(6) {
@@ -171,7 +171,7 @@ fn seed_of(left: Left) -> u32 {
     }
 }
 
-/// What is left of a file.
+/// What remains of a file.
 pub fn outcome(alloc: Global, medium: &Medium, left: Left) -> Result<Vec<u8>, AllocError> {
     let mut file = medium.synced().to_vec(alloc)?;
     let mut random = Random::new(seed_of(left));

@@ -125,7 +125,7 @@ impl Run {
     }
 }
 
-// Does a step or a barrier of a session. A step for which there is no room is left out.
+// Does a step or a barrier of a session. A step for which there is no room is skipped.
 fn does(alloc: Global, run: &mut Run, done: &mut Done, deed: Deed) -> Result<(), AllocError> {
     let is_step = match deed {
         Deed::Program { page, byte, len } => {
