@@ -1,12 +1,10 @@
-//! The trials run on the program, each a test: whole sessions, cuts and faults; and sessions over the skeleton of a board (`skeleton`).
+//! The trials run on the program, each a test: whole sessions and cuts; and sessions over the skeleton of a board (`skeleton`).
 //!
 //! `pink` is the program as the trials run it, for other crates of tests too.
 #![tactic(auto)]
 
 #[cfg(test)]
 mod cuts;
-#[cfg(test)]
-mod faults;
 pub mod pink;
 #[cfg(test)]
 mod sessions;

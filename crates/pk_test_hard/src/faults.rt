@@ -1,7 +1,7 @@
 //! Calls that fail and flashes that are damaged, run on the program.
 
-use crate::pink::Pink;
 use pk_test_faults::{damage, faults, runs};
+use pk_test_program::pink::Pink;
 use std::test::*;
 
 // ---- damage
