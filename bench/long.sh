@@ -25,7 +25,7 @@ trap 'rm -rf "$folder"' EXIT
 trap 'exit 1' HUP INT TERM
 
 mkdir "$folder/crates"
-cp "$top/crates.txt" "$top/HANDLES" "$folder/"
+cp "$top/HANDLES" "$folder/"
 for crate in "$top"/crates/*/; do
     name=$(basename "$crate")
     mkdir "$folder/crates/$name"
@@ -36,17 +36,14 @@ for crate in "$top"/crates/*/; do
     mkdir "$folder/crates/$name/out"
     cp -rl "${crate}out/rlib" "$folder/crates/$name/out/" 2>/dev/null || cp -rf "${crate}out/rlib" "$folder/crates/$name/out/"
 done
-tests=$folder/crates/pk_test_program
+tests=$folder/crates/pk_test_hard
 rm -r "$tests"/src/*
-cp "$top/crates/pk_test_program/src/reclaims.rt" "$top/crates/pk_test_program/src/steps.rt" "$tests/src/"
+# the trials of reclaims are in another crate than those of hard cases
+sed 's/^pk_test_hard: /&pk_test_cuts /' "$top/crates.txt" > "$folder/crates.txt"
 cat > "$tests/src/lib.rt" <<'RT'
 //! The trials that take long.
 #![tactic(auto)]
 
-#[cfg(test)]
-mod reclaims;
-#[cfg(test)]
-mod steps;
 #[cfg(test)]
 mod tests;
 RT
@@ -68,15 +65,15 @@ RT
     cat <<'RT'
 //! One test for each long trial.
 
-use crate::reclaims::first_on_full_twice;
-use crate::steps::Pink;
+use pk_test_cuts::reclaims::first_on_full_twice;
+use pk_test_program::pink::Pink;
 use pk_test_stress::deep::{SHAPES, three_deep_in_all_ways};
 use pk_test_stress::merged::{FREEZES, MERGES, freeze_in_all_ways, merges_in_all_ways};
 use std::test::*;
 
 #[test]
 fn first_on_full(rt: HostRuntime) -> Result<(), Fail> {
-    let cuts = first_on_full_twice(&rt, rt.alloc(), EVERY);
+    let cuts = first_on_full_twice::<Pink>(rt.alloc(), EVERY)?;
     println!(rt; "first_on_full: {} cuts, and {} after them", cuts.first, cuts.second)?;
     Ok(())
 }
@@ -94,8 +91,8 @@ rt test -- "no trial" >log 2>&1 || {
     cat log >&2
     exit 1
 }
-./out/pk_test_program_tests --list | sed -n "s/^tests::\\(.*$word.*\\): test\$/\\1/p" | while read -r name; do
+./out/pk_test_hard_tests --list | sed -n "s/^tests::\\(.*$word.*\\): test\$/\\1/p" | while read -r name; do
     start=$(date +%s)
-    ./out/pk_test_program_tests "tests::$name"
+    ./out/pk_test_hard_tests "tests::$name"
     echo "$name: $(($(date +%s) - start)) seconds"
 done

@@ -1,3 +1,1 @@
-mod Beginning
-mod Carried
 mod Keys

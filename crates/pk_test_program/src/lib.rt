@@ -1,18 +1,12 @@
-//! The trials run on the program, each a test: whole sessions, cuts, faults, hard cases; drives in
-//! heaps (`stress`); its words on an image file (`image`); and over the skeleton of a board (`skeleton`). The crate has nothing but tests.
+//! The trials run on the program, each a test: whole sessions and cuts; and sessions over the skeleton of a board (`skeleton`).
+//!
+//! `pink` is the program as the trials run it, for other crates of tests too.
 #![tactic(auto)]
 
 #[cfg(test)]
 mod cuts;
-#[cfg(test)]
-mod faults;
-#[cfg(test)]
-mod image;
-#[cfg(test)]
-mod pink;
+pub mod pink;
 #[cfg(test)]
 mod sessions;
 #[cfg(test)]
 mod skeleton;
-#[cfg(test)]
-mod stress;

@@ -2,7 +2,8 @@
 
 use crate::pink::Pink;
 use pk_test_answers::{isolation, machine, spaces};
-use pk_test_sessions::{ends, rows, sessions, space, wear, words};
+use pk_test_sessions::{sessions, space};
+use pk_test_words::{ends, rows, wear, words};
 use std::test::*;
 
 // ---- ends
