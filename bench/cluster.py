@@ -317,6 +317,7 @@ class Router:
                 if wait:
                     it.send('WAIT', wait, 3000)
                 reply, copies = it.reply(), it.reply() if wait else 0
+                copies = 0 if isinstance(copies, Error) else copies  # the server has become a replica meanwhile
             except OSError:
                 self.leave(port)
                 self.at[key] = random.choice(self.ports)
