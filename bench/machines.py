@@ -6,7 +6,6 @@ writers are in one more.
 
 import atexit
 import ctypes
-import glob
 import os
 import random
 import shutil
@@ -95,7 +94,13 @@ class Network:
                 sys.exit('this process cannot enter a network namespace')
 
     def machines(self, count):
+        self.last = count
         return [Machine(self, number + 1) for number in range(count)]
+
+    def another(self):
+        """A machine with an address of its own."""
+        self.last += 1
+        return Machine(self, self.last)
 
     def remove(self):
         for name in (line.split()[0] for line in ip('netns').splitlines() if line.startswith(self.name + '-')):
@@ -112,7 +117,8 @@ class Machines(Cluster):
     """A cluster over machines, made and started on each by the same words."""
 
     def __init__(self, folder, name, machines, count, *words, voter=False):
-        self.machines = Network(folder, name).machines(machines)
+        self.network = Network(folder, name)
+        self.machines = self.network.machines(machines)
         self.secret = folder + '/secret'
         with open(self.secret, 'w') as file:
             file.write(PASSWORD + '\n')
@@ -155,6 +161,16 @@ class Machines(Cluster):
         machine = next(it for it in self.machines if it.address == self.homes[port])
         with open(f'{machine.store}/{port}/pid') as file:
             return int(file.read())
+
+    def move(self, machine):
+        """Another machine, with another address, in the place of one."""
+        new, old = self.network.another(), machine.address
+        self.machines[self.machines.index(machine)] = new
+        self.words = [word.replace(old, new.address) if isinstance(word, str) else word for word in self.words]
+        for homes in (self.homes, self.primary_homes):
+            homes.update({port: new.address for port, home in homes.items() if home == old})
+        self.folder = self.machines[0].store
+        return new
 
     def ports_of(self, machine):
         return [port for port in self.ports if self.homes[port] == machine.address]
@@ -199,14 +215,19 @@ def progress(turn, turns, what):
 # Losses.
 
 
-def come_back(cluster, machine, is_new):
-    """A lost machine is there again, or a new one in its place."""
-    machine.link('up')
-    if is_new:
+def come_back(cluster, machine, how):
+    """A lost machine is there again, or a new one in its place, with its address or another one."""
+    if how == 'other':
+        machine = cluster.move(machine)
+    else:
+        machine.link('up')
+    if how == 'new':
         shutil.rmtree(machine.store)
+    if how != 'same':
         machine.pinkctl('make', *cluster.words)
     machine.pinkctl('start')
     until('the cluster is whole', cluster.is_whole, 150)
+    return machine
 
 
 def try_losses(cluster, turns):
@@ -224,7 +245,7 @@ def try_losses(cluster, turns):
             cluster.wait_for_take_over(machine, replicas)
             times.append(time.monotonic() - began)
             time.sleep(1)
-            come_back(cluster, machine, is_new=turn % 2 == 0)
+            machine = come_back(cluster, machine, ('new', 'same', 'other')[turn // len(cluster.machines) % 3])
             told = machine.pinkctl('check')
             check('all pairs are equal, and compared over the network', told.count(', 0 differ') == cluster.count, told)
             check('the loss of another machine would leave no majority, and check says so', 'no majority' in told and 'CLUSTER FAILOVER at' in told, told)
@@ -233,7 +254,7 @@ def try_losses(cluster, turns):
 
     answered, keys = with_writers(cluster, 8, 1, act)
     cluster.check()
-    told = f'{turns} machines lost, every second one replaced from nothing; their primaries replaced in {min(times):.1f} to {max(times):.1f} s'
+    told = f'{turns} machines lost, a third of them replaced at the same address and some at another; their primaries replaced in {min(times):.1f} to {max(times):.1f} s'
     return f'{told}: {answered} changes answered with WAIT 1, {keys} keys looked at, none lost'
 
 
@@ -336,7 +357,7 @@ def lose_both_ways(cluster):
             cluster.wait_for_take_over(machine, replicas)
             told = other.pinkctl('check', wanted=14)
             check('check says what does not answer', f'{machine.address}:' in told and 'does not answer' in told, told)
-            come_back(cluster, machine, is_new=True)
+            come_back(cluster, machine, 'new')
             cluster.go_home()
 
     answered, keys = with_writers(cluster, 4, 1, act)
