@@ -372,7 +372,8 @@ class Writer(threading.Thread):
 
     def lost(self):
         """The keys that do not hold what was answered, or a later change in doubt; all others are known now."""
-        found = {key: self.it.do(key, 'GET', key) for key in {*self.held, *self.doubt}}
+        it = Router(self.it.cluster)  # the links of the writer may be to servers that were lost
+        found = {key: it.do(key, 'GET', key) for key in {*self.held, *self.doubt}}
         lost = [(key, value, self.held.get(key)) for key, value in found.items() if value not in [self.held.get(key), *self.doubt.get(key, [])]]
         self.held, self.doubt = dict(found), {}
         return lost

@@ -215,6 +215,9 @@ def progress(turn, turns, what):
 # Losses.
 
 
+COMEBACKS = ('new', 'same', 'other')
+
+
 def come_back(cluster, machine, how):
     """A lost machine is there again, or a new one in its place, with its address or another one."""
     if how == 'other':
@@ -245,7 +248,7 @@ def try_losses(cluster, turns):
             cluster.wait_for_take_over(machine, replicas)
             times.append(time.monotonic() - began)
             time.sleep(1)
-            machine = come_back(cluster, machine, ('new', 'same', 'other')[turn // len(cluster.machines) % 3])
+            machine = come_back(cluster, machine, COMEBACKS[turn // len(cluster.machines) % 3])
             told = machine.pinkctl('check')
             check('all pairs are equal, and compared over the network', told.count(', 0 differ') == cluster.count, told)
             check('the loss of another machine would leave no majority, and check says so', 'no majority' in told and 'CLUSTER FAILOVER at' in told, told)
@@ -254,7 +257,9 @@ def try_losses(cluster, turns):
 
     answered, keys = with_writers(cluster, 8, 1, act)
     cluster.check()
-    told = f'{turns} machines lost, a third of them replaced at the same address and some at another; their primaries replaced in {min(times):.1f} to {max(times):.1f} s'
+    count = [COMEBACKS[turn // len(cluster.machines) % 3] for turn in range(turns)].count
+    told = f'{turns} machines lost; {count("same")} came back, {count("new")} and {count("other")} were replaced at the same and at another address'
+    told += f'; replicas took over in {min(times):.1f} to {max(times):.1f} s'
     return f'{told}: {answered} changes answered with WAIT 1, {keys} keys looked at, none lost'
 
 

@@ -916,8 +916,8 @@ class OfACluster:
 
     host = "127.0.0.2"
 
-    def __init__(self, port, asked, seen):
-        self.port, self.asked, self.lines = port, asked, seen
+    def __init__(self, port, asked, seen, others=()):
+        self.port, self.asked, self.lines, self.others = port, asked, seen, [self, *others]
         self.place = f"{self.host}:{port}"
 
     def id(self):
@@ -929,9 +929,16 @@ class OfACluster:
     def do(self, *words):
         self.asked.append((self.port, *words))
         if words[1] == "MEET":
-            self.lines.append(Seen(f"id{words[3]}", words[3], ["master"], None, True, []))
+            for it in self.others:
+                it.lines.append(Seen(f"id{words[3]}", words[3], ["master"], None, True, []))
         if words[1] == "FORGET":
             self.lines = [it for it in self.lines if it.id != words[2]]
+
+
+def wait_once(fault, holds, seconds=0):
+    """In the place of a wait: nothing changes by itself."""
+    if not holds():
+        raise ToolError(fault, Exit.PROGRAM)
 
 
 class Cluster(OnImage):
@@ -1085,25 +1092,39 @@ class Cluster(OnImage):
         self.assertEqual(told.status, Exit.REFUSED)
         self.assertIn("password.conf has to be the same on each machine", str(told))
 
-    def lost(self, slots):
-        return Seen("lost", 7402, ["master", "fail"], None, False, slots, "127.0.0.4")
+    LOST = Seen("lost", 7402, ["master", "fail"], None, True, [], "127.0.0.4")
+    """A link that is only being made is connected, too."""
+
+    def enter(self, *seen):
+        """What is asked when a new server comes to port 7402, which another was at, as two servers see it."""
+        asked = []
+        second = OfACluster(7401, asked, list(seen))
+        with mock.patch.object(join, "wait_until", wait_once):
+            join.enter(OfACluster(7402, asked, []), [OfACluster(7400, asked, list(seen), [second]), second])
+        return asked
 
     def test_a_new_machine_is_let_in_once_another_has_taken_over(self):
-        asked = []
-        others = [OfACluster(7400, asked, [self.lost([])]), OfACluster(7401, asked, [self.lost([])._replace(port=0, flags=["fail", "noaddr"])])]
-        new = OfACluster(7402, asked, [])
-        with mock.patch.object(join, "wait_until"):
-            join.enter(new, others)
-        forgotten = [(7400, "CLUSTER", "FORGET", "lost"), (7401, "CLUSTER", "FORGET", "lost")]
-        self.assertEqual(asked, [*forgotten, (7400, "CLUSTER", "MEET", "127.0.0.2", 7402)])
+        asked = [(7400, "CLUSTER", "FORGET", "lost"), (7401, "CLUSTER", "FORGET", "lost"), (7400, "CLUSTER", "MEET", "127.0.0.2", 7402)]
+        self.assertEqual(self.enter(self.LOST), asked)
+        self.assertEqual(self.enter(self.LOST._replace(port=0, flags=["slave", "fail", "noaddr"])), asked)
+        self.assertEqual(self.enter(self.LOST._replace(id="id7402")), asked[2:])
 
     def test_a_new_machine_is_refused_before_that(self):
+        lost = self.LOST._replace(slots=[(0, 5)])
         replica = Seen("its", 7405, ["slave"], "lost", True, [], "127.0.0.2")
-        for seen, text in (([replica], "CLUSTER FAILOVER TAKEOVER at 127.0.0.2:7405 first"), ([], "its keys are lost unless its old folder is found")):
-            asked = []
-            with self.assertRaisesRegex(ToolError, text) as caught:
-                join.enter(OfACluster(7402, asked, []), [OfACluster(7400, asked, [self.lost([(0, 5)]), *seen])])
-            self.assertEqual((asked, caught.exception.status), ([], Exit.REFUSED))
+        with self.assertRaisesRegex(ToolError, "CLUSTER FAILOVER TAKEOVER at 127.0.0.2:7405 first") as caught:
+            self.enter(lost, replica)
+        self.assertEqual(caught.exception.status, Exit.REFUSED)
+        with self.assertRaisesRegex(ToolError, "its keys are lost unless its old folder is found"):
+            self.enter(lost)
+        with self.assertRaisesRegex(ToolError, "is still there"):
+            self.enter(self.LOST._replace(flags=["slave"]))
+
+    def test_where_servers_are_now(self):
+        self.make("store")
+        it = members.Cluster(self.path("store"))
+        it.learn([self.LOST, self.LOST._replace(port=7401, flags=["slave"], host="127.0.0.9")])
+        self.assertEqual((it.hosts[7402], it.hosts[7401]), ("127.0.0.1", "127.0.0.9"))
 
 
 class TheWhole(OnImage):

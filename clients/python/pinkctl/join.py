@@ -105,7 +105,12 @@ def need_same_room(nodes: dict[int, Node]) -> None:
 
 def enter(node: Node, others: list[Node]) -> None:
     """A server that knows nobody enters the cluster of the others, which forget the one that it replaces."""
-    id_, old = node.id(), {other.port: replaced(node, other.seen()) for other in others}
+    id_ = node.id()
+    wait_until(
+        f"a server at port {node.port} is still there: a new machine takes the place of one that is lost",
+        lambda: not any(seen.is_there() for other in others for seen in replaced(id_, node.port, other.seen())),
+    )
+    old = {other.port: replaced(id_, node.port, other.seen()) for other in others}
     for other in others:
         for lost in old[other.port]:
             if lost.slots:
@@ -117,10 +122,9 @@ def enter(node: Node, others: list[Node]) -> None:
     wait_until(f"the others do not find {node.place}", lambda: all(any(seen.id == id_ for seen in known(other)) for other in others))
 
 
-def replaced(node: Node, seen: list[Seen]) -> list[Seen]:
+def replaced(id_: str, port: int, seen: list[Seen]) -> list[Seen]:
     """The servers that were at the port of a new one; they lose their address as soon as another sees the new one there."""
-    id_ = node.id()
-    return [it for it in seen if it.id != id_ and not it.is_linked and (it.port == node.port or "noaddr" in it.flags)]
+    return [it for it in seen if it.id != id_ and (it.port == port or "noaddr" in it.flags)]
 
 
 def without_successor(node: Node, lost: Seen, seen: list[Seen]) -> str:

@@ -67,7 +67,7 @@ class Cluster:
 
     def learn(self, seen: list[Seen]) -> None:
         """Where the servers are now: a machine may have been replaced by one with another address."""
-        self.hosts |= {it.port: it.host for it in seen if it.is_linked or "myself" in it.flags}
+        self.hosts |= {it.port: it.host for it in seen if it.is_there()}
 
     def answering(self, members: list[Member]) -> dict[int, Node]:
         """Those of these servers that answer."""

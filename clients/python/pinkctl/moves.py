@@ -90,7 +90,7 @@ def take(target: Node, slot: int, ids: tuple[str, str]) -> None:
 
 def wait_until_known(it: Cluster, target: Node, slots: list[int], id_: str) -> None:
     """All servers that answer know who has the slots. One that does not would give them back once the source has a newer epoch."""
-    for port in [seen.port for seen in target.seen() if seen.is_linked]:
+    for port in [seen.port for seen in target.seen() if seen.is_there()]:
         last = time.monotonic() + KNOWN_SECONDS
         while not knows(it, port, slots, id_):
             if time.monotonic() > last:

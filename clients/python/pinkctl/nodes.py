@@ -37,7 +37,11 @@ class Node:
         self.socket.setsockopt(socket.IPPROTO_TCP, socket.TCP_NODELAY, 1)
         self.file = self.socket.makefile("rb")
         if password is not None:
-            self.do("AUTH", password)
+            try:
+                self.do("AUTH", password)
+            except ToolError:
+                self.close()
+                raise
 
     def close(self) -> None:
         self.file.close()
@@ -138,6 +142,10 @@ class Seen(NamedTuple):
 
     def is_primary(self) -> bool:
         return "master" in self.flags
+
+    def is_there(self) -> bool:
+        """Whether it answers, as the other one knows. A link that is only being made counts as connected."""
+        return "myself" in self.flags or self.is_linked and not {"fail", "fail?", "handshake", "noaddr"} & {*self.flags}
 
     def has(self, slot: int) -> bool:
         return any(first <= slot <= last for first, last in self.slots)
