@@ -17,7 +17,7 @@ import threading
 import time
 
 import cluster as base
-from cluster import CLIENTS, SHORT, TOP, Cluster, Link, Router, a_move, broken_move, check, check_moved, fail_over, pinkctl, slot_of, try_moves, until, with_writers
+from cluster import CLIENTS, LONG, SHORT, TOP, Cluster, Link, Router, a_move, broken_move, check, check_moved, fail_over, pinkctl, slot_of, try_moves, until, with_writers
 from servers import Error, module, skip_without
 
 sys.path.insert(0, CLIENTS)
@@ -25,8 +25,6 @@ from pinkctl.nodes import Node  # noqa: E402
 from pinkctl.status import ToolError  # noqa: E402
 
 PORT, PASSWORD = 7400, 'a-password-of-these-tests'
-REST = 4 * SHORT / 1000 + 1
-"""No server takes over twice within this time: the reason is at `try_planned`."""
 
 
 def ip(*words, wanted=True):
@@ -116,18 +114,19 @@ class Network:
 class Machines(Cluster):
     """A cluster over machines, made and started on each by the same words."""
 
-    def __init__(self, folder, name, machines, count, *words, voter=False):
+    def __init__(self, folder, name, machines, count, *words, voter=False, timeout=SHORT):
         self.network = Network(folder, name)
         self.machines = self.network.machines(machines)
         self.secret = folder + '/secret'
         with open(self.secret, 'w') as file:
             file.write(PASSWORD + '\n')
         hosts = [it.address for it in self.machines]
-        self.words = [count, 4096, 64, 512, '--timeout', SHORT, '--password-file', self.secret, '--hosts', ','.join(hosts[: len(hosts) - voter])]
+        self.words = [count, 4096, 64, 512, '--timeout', timeout, '--password-file', self.secret, '--hosts', ','.join(hosts[: len(hosts) - voter])]
         self.words += [*(['--voter', hosts[-1]] if voter else []), *words]
         self.count = count + voter
         self.ports = range(PORT, PORT + 2 * self.count)
         self.folder, self.since = self.machines[0].store, {}
+        self.rest = 4 * timeout / 1000 + 1  # no server takes over twice within this time: the reason is at `try_planned`
         said = [it.pinkctl('make', *self.words) for it in self.machines]
         self.homes = {int(word.split()[0]): line.split(':')[0] for line in said[0].splitlines()[1:] if line[:3] == '10.' for word in line.split(': ')[1].split(', ')}
         self.primary_homes = {int(word): line.split(':')[0] for line in said[0].splitlines() if line[:3] == '10.' for word in line.split(': ')[1].split(', ') if word.isdigit()}
@@ -180,7 +179,7 @@ class Machines(Cluster):
 
     def wait_for_rest(self, ports):
         """None of these servers took over a short time ago."""
-        time.sleep(max([0, *(self.since.get(port, -REST) + REST - time.monotonic() for port in ports)]))
+        time.sleep(max([0, *(self.since.get(port, -self.rest) + self.rest - time.monotonic() for port in ports)]))
 
     def successors(self, machine):
         """The replicas of the primaries of a machine."""
@@ -273,25 +272,25 @@ class Careless(threading.Thread):
         super().__init__(daemon=True)
         slots = cluster.primaries()[port].slots
         tag = next(f'c{i}' for i in range(10**6) if any(first <= slot_of(f'c{i}') <= last for first, last in slots))
-        self.cluster, self.port, self.name_of_key = cluster, port, f'{{{tag}}}{name}'
-        self.answered, self.until, self.refusal, self.stop = [], 0.0, '', False
+        self.cluster, self.port, self.front = cluster, port, f'{{{tag}}}{name}'
+        self.answered, self.refusal, self.stop = {}, '', False
 
     def run(self):
         link = self.cluster.link(self.port)
         try:
             while not self.stop:
-                key = f'{self.name_of_key}{len(self.answered)}'
+                key = f'{self.front}{len(self.answered)}'
                 link.sure('SET', key, 'x')
-                self.answered.append(key)
-                self.until = time.monotonic()
-                time.sleep(0.002)
+                self.answered[key] = time.monotonic()
+                time.sleep(0.005)
         except (OSError, Error) as fault:
             self.refusal = str(fault)
 
-    def lost(self):
-        """How many of its answered changes are gone."""
+    def lost(self, began):
+        """How many changes were answered after the cut, how many of all are gone, and how long it took changes."""
         router = Router(self.cluster)
-        return sum(router.do(key, 'GET', key) is None for key in self.answered)
+        after = [it for it in self.answered.values() if it > began]
+        return len(after), sum(router.do(key, 'GET', key) is None for key in self.answered), max([0, *(it - began for it in after)])
 
 
 def cut_off(cluster, machine, turn):
@@ -305,7 +304,7 @@ def cut_off(cluster, machine, turn):
 
 
 def try_partitions(cluster, turns):
-    told = {'answered': 0, 'lost': 0, 'seconds': [0.0], 'refusals': set()}
+    told, refusals = {'answered': [], 'lost': [], 'seconds': []}, set()
 
     def act():
         for turn in range(turns):
@@ -315,7 +314,7 @@ def try_partitions(cluster, turns):
             replicas = cluster.successors(machine)
             cluster.wait_for_rest(replicas)
             port = next(port for port in cluster.primaries() if cluster.homes[port] == machine.address)
-            careless = Careless(cluster, port, f'careless{turn}:')
+            careless = Careless(cluster, port, f'{turn}:')
             careless.start()
             time.sleep(0.5)
             began = time.monotonic()
@@ -326,19 +325,19 @@ def try_partitions(cluster, turns):
             careless.stop = True
             careless.join(60)
             until('the cluster is whole', cluster.is_whole, 150)
-            told['answered'] += len(careless.answered)
-            told['lost'] += careless.lost()
+            for name, it in zip(told, careless.lost(began)):
+                told[name].append(it)
             if turn % 2 == 0:
-                told['seconds'].append(careless.until - began)
-                told['refusals'].add(careless.refusal.split()[0] if careless.refusal else 'none')
+                refusals.add(careless.refusal.split()[0])
             cluster.go_home()
             progress(turn, turns, 'partitions')
 
     answered, keys = with_writers(cluster, 8, 1, act)
     cluster.check()
-    without = f'of {told["answered"]} without WAIT at a machine that was cut off {told["lost"]} are gone, which it took for at most {max(told["seconds"]):.1f} s'
-    refusals = ', '.join(sorted(told['refusals']))
-    return f'{turns} partitions: {answered} changes answered with WAIT 1, {keys} keys looked at, none lost; {without} (then {refusals})'
+    check('who is cut off refuses changes', refusals and '' not in refusals, refusals)
+    without = f'of {sum(told["answered"])} without WAIT at a primary that was cut off {sum(told["lost"])} are gone'
+    when = f'it took them for {max(told["seconds"]):.1f} s at most (then {", ".join(sorted(refusals))})'
+    return f'{turns} partitions: {answered} changes answered with WAIT 1, {keys} keys looked at, none lost; {without}; {when}'
 
 
 # Two machines.
@@ -356,6 +355,8 @@ def lose_both_ways(cluster):
             time.sleep(4 * SHORT / 1000)
             check('no replica takes over by itself', not cluster.taken_over(machine))
             other = cluster.machines[1 - cluster.machines.index(machine)]
+            told = other.pinkctl('check', wanted=14)
+            check('check says where', all(f'{other.address}:{port} is a replica of one that does not answer' in told for port in replicas), told)
             for port in replicas:
                 with cluster.node(port) as node:
                     check('a take-over by hand', node.do('CLUSTER', 'FAILOVER', 'TAKEOVER') == 'OK')
@@ -443,8 +444,9 @@ def partitions(folder, name, turns):
 
 
 def least(folder, name, turns):
-    """With --min-replicas 1."""
-    run(Machines(folder, name, 3, 3, '--min-replicas', 1), lambda it: '--min-replicas 1: ' + try_partitions(it, turns))
+    """With --min-replicas 1, which refuses changes before the timeout of 15 s does."""
+    cluster = Machines(folder, name, 3, 3, '--min-replicas', 1, timeout=LONG)
+    run(cluster, lambda it: '--min-replicas 1: ' + try_partitions(it, max(2, turns // 3)))
 
 
 def two(folder, name, turns):

@@ -1124,7 +1124,9 @@ class Cluster(OnImage):
         self.make("store")
         it = members.Cluster(self.path("store"))
         it.learn([self.LOST, self.LOST._replace(port=7401, flags=["slave"], host="127.0.0.9")])
-        self.assertEqual((it.hosts[7402], it.hosts[7401]), ("127.0.0.1", "127.0.0.9"))
+        self.assertEqual((it.hosts[7402], it.hosts[7401]), ("127.0.0.4", "127.0.0.9"))
+        it.learn([self.LOST, self.LOST._replace(flags=["slave"], host="127.0.0.8"), self.LOST._replace(flags=["fail"], host="127.0.0.7")])
+        self.assertEqual(it.hosts[7402], "127.0.0.8")
 
 
 class TheWhole(OnImage):

@@ -288,6 +288,8 @@ def check(args: argparse.Namespace) -> int:
             other = next((seen.port for seen in node.seen() if seen.id == primary.primary), None)
             if other in nodes:
                 faults += compare(nodes[other], node)
+            elif it.here is not None:
+                faults.append(f"{node.place} is a replica of one that does not answer: unless it takes over, CLUSTER FAILOVER TAKEOVER there once that one is off")
     faults += unowned_slots(it, nodes)
     for fault in faults:
         print(fault)

@@ -9,10 +9,12 @@ import json
 import os
 import re
 import socket
+from concurrent.futures import ThreadPoolExecutor
 from typing import Any, NamedTuple, Optional
 
-from .nodes import HOST, SLOTS, Node, Seen, place
+from .nodes import HOST, SLOTS, Node, Refused, Seen, place
 from .status import Exit, ToolError
+from .waiting import wait_until
 
 SECRET = "password.conf"
 """The file in the folder that each server reads its password from."""
@@ -67,20 +69,27 @@ class Cluster:
 
     def learn(self, seen: list[Seen]) -> None:
         """Where the servers are now: a machine may have been replaced by one with another address."""
-        self.hosts |= {it.port: it.host for it in seen if it.is_there()}
+        for found in ([it for it in seen if "noaddr" not in it.flags], [it for it in seen if it.is_there()]):
+            self.hosts |= {it.port: it.host for it in found}
 
     def answering(self, members: list[Member]) -> dict[int, Node]:
-        """Those of these servers that answer."""
-        found = {}
-        for it in members:
-            try:
-                node = self.node(it.port)
+        """Those of these servers that answer, all asked at once: each one that does not takes its time."""
+        with ThreadPoolExecutor(len(members) or 1) as pool:
+            nodes = list(pool.map(self.answer_of, members))
+        for node in nodes:
+            if node is not None:
                 self.learn(node.seen())
-                found[it.port] = node
-            except ToolError as fault:
-                if fault.status == Exit.REFUSED:
-                    raise refused_password(fault) from None
-        return found
+        return {it.port: node for it, node in zip(members, nodes) if node is not None}
+
+    def answer_of(self, member: Member) -> Optional[Node]:
+        try:
+            node = self.node(member.port)
+            wait_until(f"{node.place} loads a copy of its primary's drive: try it later", lambda: not node.is_loading())
+            return node
+        except Refused as fault:
+            raise refused_password(fault) from None
+        except ToolError:
+            return None
 
     def write(self, **facts: Any) -> None:
         self.facts |= facts

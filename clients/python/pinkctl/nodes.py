@@ -105,7 +105,11 @@ class Node:
         return self.do("CLUSTER", "MYID").decode()
 
     def is_ok(self) -> bool:
-        return b"cluster_state:ok" in self.do("CLUSTER", "INFO")
+        return not self.is_loading() and b"cluster_state:ok" in self.do("CLUSTER", "INFO")
+
+    def is_loading(self) -> bool:
+        """Whether a copy of its primary's drive comes in; then nothing else is answered."""
+        return self.info("persistence").get("loading") == "1"
 
     def seen(self) -> "list[Seen]":
         """The servers that it knows, and their slots."""
