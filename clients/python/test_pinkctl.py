@@ -1120,6 +1120,14 @@ class Cluster(OnImage):
         with self.assertRaisesRegex(ToolError, "is still there"):
             self.enter(self.LOST._replace(flags=["slave"]))
 
+    def test_the_first_start_waits_for_the_others(self):
+        self.make("127.0.0.2", *self.on_hosts("--here", "127.0.0.2"))
+        it, asked = members.Cluster(self.path("127.0.0.2")), []
+        own = [Seen("id7400", 7400, ["myself", "master"], None, True, [])]
+        for ports in ([7400], [7400, 7405]):
+            self.assertFalse(join.join_machines(it, {port: OfACluster(port, asked, own) for port in ports}))
+        self.assertEqual(asked, [])
+
     def test_where_servers_are_now(self):
         self.make("store")
         it = members.Cluster(self.path("store"))
@@ -1149,8 +1157,8 @@ class TheWhole(OnImage):
             page = re.sub(r"[ \n]+", " ", file.read().replace("\\-", "-"))
         for status in Exit:
             self.assertIn(f".B {status.value} ", page)
-        for part in ("check", "export", "import", "backup", "mv", "salvage", "shell", "shapes", "serve"):
-            for option in re.findall(r"--[a-z-]+", self.ctl(part, "--help").decode()):
+        for part in ("check", "export", "import", "backup", "mv", "salvage", "shell", "shapes", "serve", "cluster make"):
+            for option in re.findall(r"--[a-z-]+", self.ctl(*part.split(), "--help").decode()):
                 if option != "--help":
                     self.assertIn(option, page, part)
 

@@ -164,7 +164,8 @@ def print_made(args: argparse.Namespace, plan: Plan, folder: str) -> None:
             print("with fewer than 3 primaries no replica takes over by itself: CLUSTER FAILOVER TAKEOVER at the replica does it")
         return
     hosts = list(dict.fromkeys(it.host for it in plan.members))
-    print(f"{len(plan.own())} of {len(plan.members)} drives in {folder}, those of {plan.here}: make the others by the same words on the other machines")
+    others = ": make the others by the same words on the other machines" if len(hosts) > 1 else ""
+    print(f"{len(plan.own())} of {len(plan.members)} drives in {folder}, those of {plan.here}{others}")
     for host in hosts:
         print(f"{host}: " + ", ".join(f"{it.port}" + (f" (replica of {it.of})" if it.of else "") for it in plan.members if it.host == host))
     print_weak({it.port: it.host for it in plan.members if it.of is None})

@@ -83,7 +83,7 @@ def primary_of(it: Cluster, member: Member, nodes: dict[int, Node]) -> "Node | N
 def join_machines(it: Cluster, nodes: dict[int, Node]) -> bool:
     """Joins what answers, of all machines; False if there is no cluster yet and servers are missing."""
     alone = [node for node in nodes.values() if is_alone(node)]
-    if len(alone) == len(nodes) > 1:
+    if len(alone) == len(nodes):
         if len(nodes) < len(it.members):
             return False
         need_same_room(nodes)
