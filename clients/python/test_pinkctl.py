@@ -1112,7 +1112,7 @@ class Cluster(OnImage):
     def test_a_new_machine_is_refused_before_that(self):
         lost = self.LOST._replace(slots=[(0, 5)])
         replica = Seen("its", 7405, ["slave"], "lost", True, [], "127.0.0.2")
-        with self.assertRaisesRegex(ToolError, "CLUSTER FAILOVER TAKEOVER at 127.0.0.2:7405 first") as caught:
+        with self.assertRaisesRegex(ToolError, "CLUSTER FAILOVER TAKEOVER at 127.0.0.2:7405 once") as caught:
             self.enter(lost, replica)
         self.assertEqual(caught.exception.status, Exit.REFUSED)
         with self.assertRaisesRegex(ToolError, "its keys are lost unless its old folder is found"):

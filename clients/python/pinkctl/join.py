@@ -3,6 +3,8 @@
 Each step is done only where it is not done yet, so all of this may be run again, and on several machines at once.
 """
 
+from typing import Any, Callable, Optional
+
 from .members import Cluster, Member, shares
 from .nodes import Node, Refused, Seen
 from .status import Exit, ToolError
@@ -30,7 +32,7 @@ def give_slots(it: Cluster, nodes: dict[int, Node]) -> None:
             do_once(node, lambda node=node: has_epoch(node), "CLUSTER", "SET-CONFIG-EPOCH", number + 1)  # type: ignore[misc]
 
 
-def do_once(node, is_done, *words) -> None:  # type: ignore[no-untyped-def]
+def do_once(node: Node, is_done: Callable[[], bool], *words: Any) -> None:
     """A request that may be refused if another start has just done it."""
     try:
         node.do(*words)
@@ -68,7 +70,7 @@ def follow_families(it: Cluster, nodes: dict[int, Node]) -> None:
             node.do("CLUSTER", "REPLICATE", id_)
 
 
-def primary_of(it: Cluster, member: Member, nodes: dict[int, Node]) -> "Node | None":
+def primary_of(it: Cluster, member: Member, nodes: dict[int, Node]) -> Optional[Node]:
     """Another server of its family that is a primary with slots."""
     for other in it.members:
         node = nodes.get(other.port)
@@ -133,4 +135,5 @@ def without_successor(node: Node, lost: Seen, seen: list[Seen]) -> str:
     front = f"the server that was at {node.place} still has its slots, and the new drive is empty"
     if not replicas:
         return f"{front}; no replica of it is there: its keys are lost unless its old folder is found"
-    return f"{front}: CLUSTER FAILOVER TAKEOVER at {replicas[0].host}:{replicas[0].port} first, once the old machine is off for good, then start again"
+    where = f"{replicas[0].host}:{replicas[0].port}"
+    return f"{front}: wait until its replica takes over, or, with no majority, CLUSTER FAILOVER TAKEOVER at {where} once the old machine is off; then start again"
