@@ -218,14 +218,19 @@ def try_killed_children(primary, replica):
 # The cluster.
 
 
-def pinkctl(*words, wanted=0):
-    run = subprocess.run([TOP + '/pinkctl', 'cluster', *map(str, words)], capture_output=True, text=True, timeout=300, env={**os.environ, 'PINK_PROGRAM': PROGRAM})
+def pinkctl(*words, wanted=0, on=()):
+    """What `pinkctl cluster` prints; `on` are the words before it, for another machine."""
+    line = [*on, TOP + '/pinkctl', 'cluster', *map(str, words)]
+    run = subprocess.run(line, capture_output=True, text=True, timeout=300, env={**os.environ, 'PINK_PROGRAM': PROGRAM})
     check(f'pinkctl cluster {" ".join(map(str, words[:1]))} ends with {wanted}', run.returncode == wanted, run.returncode, run.stdout[-1500:], run.stderr[-500:])
-    return run.stdout
+    return run.stdout + run.stderr
 
 
 class Cluster:
     """Three primaries and their replicas; a server that is silent for `timeout` ms counts as failed."""
+
+    on = ()
+    count = 3
 
     def __init__(self, folder, port, timeout):
         self.folder = folder + '/cluster'
@@ -233,18 +238,30 @@ class Cluster:
         self.ports = range(port, port + 6)
         pinkctl('start', self.folder)
 
-    def seen(self):
+    def node(self, port, seconds=60):
+        return Node(port, seconds)
+
+    def link(self, port, seconds=8):
+        return Link(port, seconds)
+
+    def start(self):
+        pinkctl('start', self.folder)
+
+    def stop(self):
+        pinkctl('stop', self.folder)
+
+    def seen(self, ports=None):
         """What a server that runs says of all."""
-        for port in self.ports:
+        for port in ports or self.ports:
             try:
-                with Node(port, 5) as node:
+                with self.node(port, 5) as node:
                     return node.seen()
             except (ToolError, OSError, StopIteration):
                 pass
         return []
 
-    def primaries(self):
-        return {it.port: it for it in self.seen() if it.is_primary() and it.slots and 'fail' not in it.flags}
+    def primaries(self, ports=None):
+        return {it.port: it for it in self.seen(ports) if it.is_primary() and it.slots and 'fail' not in it.flags}
 
     def replicas(self):
         """The primary of each replica."""
@@ -259,30 +276,36 @@ class Cluster:
     def is_whole(self):
         try:
             for port in self.ports:
-                with Node(port, 5) as node:
+                with self.node(port, 5) as node:
                     told = node.info('replication')
                     if not node.is_ok() or told['role'] == 'slave' and told['master_link_status'] != 'up':
                         return False
-            return len(self.replicas()) == 3
+            return len(self.replicas()) == self.count
         except (ToolError, OSError):
             return False
 
     def check(self):
         until('the cluster is whole', self.is_whole)
-        told = pinkctl('check', self.folder)
-        check('three pairs were compared', told.count(', 0 differ') == 3, told)
+        told = pinkctl('check', self.folder, on=self.on)
+        check('all pairs were compared', told.count(', 0 differ') == self.count, told)
+        return told
 
 
 class Router:
     """A client that follows MOVED."""
 
-    def __init__(self, ports):
-        self.ports, self.links, self.at = ports, {}, {}
+    def __init__(self, cluster):
+        self.cluster, self.ports, self.links, self.at = cluster, list(cluster.ports), {}, {}
 
     def link(self, port):
         if port not in self.links:
-            self.links[port] = Link(port, 8)
+            self.links[port] = self.cluster.link(port)
         return self.links[port]
+
+    def leave(self, port):
+        it = self.links.pop(port, None)
+        if it:
+            it.abort()
 
     def do(self, key, *words, wait=0):
         """The reply of who has the key; with `wait` also how many replicas have it."""
@@ -294,8 +317,9 @@ class Router:
                 if wait:
                     it.send('WAIT', wait, 3000)
                 reply, copies = it.reply(), it.reply() if wait else 0
+                copies = 0 if isinstance(copies, Error) else copies  # the server has become a replica meanwhile
             except OSError:
-                self.links.pop(port, None)
+                self.leave(port)
                 self.at[key] = random.choice(self.ports)
                 raise
             if not isinstance(reply, Error):
@@ -312,9 +336,9 @@ class Writer(threading.Thread):
 
     acts = 0  # so that no act has the keys of another
 
-    def __init__(self, ports, number, wait):
+    def __init__(self, cluster, number, wait):
         super().__init__(daemon=True)
-        self.it, self.draw, self.wait = Router(list(ports)), random.Random(number), wait
+        self.it, self.draw, self.wait = Router(cluster), random.Random(number), wait
         self.front = f'{Writer.acts}:{number}'
         self.held, self.doubt, self.answered, self.failed, self.wrong, self.stop = {}, {}, 0, 0, 0, False
 
@@ -348,7 +372,8 @@ class Writer(threading.Thread):
 
     def lost(self):
         """The keys that do not hold what was answered, or a later change in doubt; all others are known now."""
-        found = {key: self.it.do(key, 'GET', key) for key in {*self.held, *self.doubt}}
+        it = Router(self.it.cluster)  # the links of the writer may be to servers that were lost
+        found = {key: it.do(key, 'GET', key) for key in {*self.held, *self.doubt}}
         lost = [(key, value, self.held.get(key)) for key, value in found.items() if value not in [self.held.get(key), *self.doubt.get(key, [])]]
         self.held, self.doubt = dict(found), {}
         return lost
@@ -357,7 +382,7 @@ class Writer(threading.Thread):
 def with_writers(cluster, count, wait, act):
     """Runs `act` under writers; then every answered change is looked for."""
     Writer.acts += 1
-    writers = [Writer(cluster.ports, number, wait) for number in range(count)]
+    writers = [Writer(cluster, number, wait) for number in range(count)]
     for it in writers:
         it.start()
     act()
@@ -381,13 +406,13 @@ def try_failures(cluster, kills):
             until('the cluster is whole', cluster.is_whole)
             time.sleep(0.5)
             victim = random.choice(sorted(cluster.primaries()))
-            with Node(victim) as node:
+            with cluster.node(victim) as node:
                 drive = int(node.info('pink_drive')['pink_program'])
             began = time.monotonic()
             os.kill((cluster.process(victim), drive)[turn % 2], signal.SIGKILL)
             until('another server takes over', lambda: victim not in cluster.primaries() and len(cluster.primaries()) == 3)
             times.append(time.monotonic() - began)
-            pinkctl('start', cluster.folder)
+            cluster.start()
             print(f'\r{turn + 1} of {kills} primaries killed', end='', file=sys.stderr)
         print(file=sys.stderr)
 
@@ -396,9 +421,9 @@ def try_failures(cluster, kills):
     return f'{kills} primaries killed, replaced in {min(times):.1f} to {max(times):.1f} s: {answered} changes answered with WAIT 1, {keys} keys looked at, none lost'
 
 
-def fail_over(port):
+def fail_over(cluster, port):
     """CLUSTER FAILOVER at a replica."""
-    with Node(port) as node:
+    with cluster.node(port) as node:
         for _ in range(20):  # a busy machine may be too slow for the votes: then Redis gives up
             node.do('CLUSTER', 'FAILOVER')
             last = time.monotonic() + 8
@@ -426,7 +451,7 @@ def try_planned(cluster, turns):
                 rested = [port for port in sorted(cluster.replicas()) if time.monotonic() - since.get(port, -pause) >= pause]
                 time.sleep(0.1)
             replica = random.choice(rested)
-            fail_over(replica)
+            fail_over(cluster, replica)
             since[replica] = time.monotonic()
             print(f'\r{turn + 1} of {turns} planned failovers', end='', file=sys.stderr)
             time.sleep(0.5)
@@ -447,7 +472,7 @@ def a_move(cluster):
 def check_moved(cluster, source, first, last):
     """Another server than the source has the slots, and the source keeps no key of them."""
     until('the others see who has the slot', lambda: getattr(owner(cluster.seen(), first), 'port', source) != source)
-    with Node(source) as node:
+    with cluster.node(source) as node:
         left = sum(node.do('CLUSTER', 'COUNTKEYSINSLOT', slot) for slot in range(first, last + 1))
     check('the source keeps no key', left == 0, left)
 
@@ -459,7 +484,7 @@ def end_move(cluster, kill):
     last = time.monotonic() + 300
     while True:
         until('the cluster is whole', cluster.is_whole)
-        run = subprocess.run([TOP + '/pinkctl', 'cluster', 'move-slots', cluster.folder], capture_output=True, text=True)
+        run = subprocess.run([*cluster.on, TOP + '/pinkctl', 'cluster', 'move-slots', cluster.folder], capture_output=True, text=True)
         if run.returncode == 0:
             return True
         is_slow = ('took more than' in run.stderr or 'CLUSTERDOWN' in run.stderr) and time.monotonic() < last
@@ -472,7 +497,7 @@ def try_moves(cluster, kills):
 
     def act():
         nonlocal killed, moved
-        words = [TOP + '/pinkctl', 'cluster', 'move-slots', cluster.folder]
+        words = [*cluster.on, TOP + '/pinkctl', 'cluster', 'move-slots', cluster.folder]
         for turn in range(kills):
             first, source, target = a_move(cluster)
             last = min(first + 3, max(end for start, end in cluster.primaries()[source].slots if start <= first <= end))
@@ -498,7 +523,7 @@ def try_moves(cluster, kills):
 def broken_move(cluster, step, victim, *words):
     """Its last line, if it came to its end; `victim` is the tool itself (0) or the port of a server."""
     process = cluster.process(victim) if victim else 0
-    tool = [sys.executable, os.path.join(TOP, 'bench', 'broken_move.py'), step, process, cluster.folder, *words]
+    tool = [*cluster.on, sys.executable, os.path.join(TOP, 'bench', 'broken_move.py'), step, process, cluster.folder, *words]
     run = subprocess.run([str(it) for it in tool], capture_output=True, text=True, timeout=120)
     check('the tool ends by itself or is killed', run.returncode >= 0 or run.returncode == -signal.SIGKILL, run.returncode, run.stderr)
     return run.stdout.splitlines()[-1] if run.returncode == 0 else ''
@@ -516,7 +541,7 @@ def try_move_steps(cluster, kinds, stride):
                 slot, source, target = a_move(cluster)
                 said = broken_move(cluster, step, {'tool': 0, 'source': source, 'target': target}[kind], source, target, slot)
                 if kind != 'tool':
-                    pinkctl('start', cluster.folder)
+                    cluster.start()
                 if end_move(cluster, f'of its {kind} before step {step}'):
                     check_moved(cluster, source, slot, slot)
                 ends += said.endswith(' steps')
@@ -538,10 +563,10 @@ def try_changes_of_a_pause(cluster, turns):
     while not cluster.primaries()[port].has(slot):
         slot += 100
     key = next(f'{{p{i}}}' for i in range(10**6) if slot_of(f'p{i}') == slot)
-    with Node(port) as source, Node(target) as other:
+    with cluster.node(port) as source, cluster.node(target) as other:
         ids = source.id(), other.id()
         for turn in range(turns):
-            links = [Link(port) for _ in range(8)]
+            links = [cluster.link(port, 60) for _ in range(8)]
             os.kill(cluster.process(port), signal.SIGSTOP)
             for number, it in enumerate(links):
                 it.send(*(('SET', f'{key}{number}', turn) if number != turn % 8 else ('CLIENT', 'PAUSE', 5000, 'WRITE')))
@@ -577,7 +602,7 @@ def try_cluster(folder, port, timeout, *parts):
         for part in parts:
             print(part(cluster), flush=True)
     finally:
-        pinkctl('stop', cluster.folder)
+        cluster.stop()
     told_of = pinkctl('check', cluster.folder)
     check('each image is whole', told_of.count('whole') == 6, told_of)
 

@@ -8,6 +8,7 @@ import os
 import shutil
 import signal
 import socket
+import struct
 import subprocess
 import sys
 import time
@@ -43,13 +44,13 @@ class Error(Exception):
 
 
 class Link:
-    """A connection to a socket (a path) or a port of this machine."""
+    """A connection to a socket (a path), a port of this machine, or a pair of an address and a port."""
 
     def __init__(self, place, seconds=60):
         unix = isinstance(place, str)
         self.socket = socket.socket(socket.AF_UNIX if unix else socket.AF_INET)
         self.socket.settimeout(seconds)
-        self.socket.connect(place if unix else ('127.0.0.1', place))
+        self.socket.connect(('127.0.0.1', place) if isinstance(place, int) else place)
         if not unix:
             self.socket.setsockopt(socket.IPPROTO_TCP, socket.TCP_NODELAY, 1)
         self.file = self.socket.makefile('rb')
@@ -57,6 +58,11 @@ class Link:
     def close(self):
         self.file.close()
         self.socket.close()
+
+    def abort(self):
+        """Leaves nothing that could still be sent: what was not answered may be done, but not later than what is asked next."""
+        self.socket.setsockopt(socket.SOL_SOCKET, socket.SO_LINGER, struct.pack('ii', 1, 0))
+        self.close()
 
     def send(self, *words):
         self.socket.sendall(request(*words))

@@ -21,7 +21,7 @@ _pinkctl() {
                 COMPREPLY=($(compgen -W "make start stop check move-slots --help" -- "$word"))
                 return
             fi
-            [ "${COMP_WORDS[2]}" != make ] || options+=" --replicas --port --frames --names --sync --min-replicas --timeout"
+            [ "${COMP_WORDS[2]}" != make ] || options+=" --replicas --port --frames --names --sync --min-replicas --timeout --hosts --password-file --voter --here"
             ;;
     esac
     case ${COMP_WORDS[COMP_CWORD - 1]} in

@@ -14,10 +14,12 @@ import re
 import select
 import shutil
 import signal
+import socketserver
 import struct
 import subprocess
 import sys
 import tempfile
+import threading
 import time
 import unittest
 from contextlib import redirect_stderr, redirect_stdout
@@ -27,8 +29,9 @@ HERE = os.path.dirname(os.path.abspath(__file__))
 sys.path.insert(0, HERE)
 
 import pinkdrive
-from pinkctl import image, keys, layout, rescue
+from pinkctl import image, join, keys, layout, members, rescue
 from pinkctl.__main__ import main as pinkctl
+from pinkctl.nodes import Node, Refused, Seen, seen_of
 from pinkctl.status import MEANINGS, Exit, ToolError
 from pinkdrive import Drive, make
 
@@ -908,6 +911,232 @@ class Shapes(OnImage):
         self.ctl("shapes", "--shape", "500", "16", "64", status=2)
 
 
+class OfACluster:
+    """A server that a test makes up: what it says of the others, and what it was asked."""
+
+    host = "127.0.0.2"
+
+    def __init__(self, port, asked, seen, others=()):
+        self.port, self.asked, self.lines, self.others = port, asked, seen, [self, *others]
+        self.place = f"{self.host}:{port}"
+
+    def id(self):
+        return f"id{self.port}"
+
+    def seen(self):
+        return self.lines
+
+    def do(self, *words):
+        self.asked.append((self.port, *words))
+        if words[1] == "MEET":
+            for it in self.others:
+                it.lines.append(Seen(f"id{words[3]}", words[3], ["master"], None, True, []))
+        if words[1] == "FORGET":
+            self.lines = [it for it in self.lines if it.id != words[2]]
+
+
+def wait_once(fault, holds, seconds=0):
+    """In the place of a wait: nothing changes by itself."""
+    if not holds():
+        raise ToolError(fault, Exit.PROGRAM)
+
+
+class Cluster(OnImage):
+    """What a cluster is made of; bench/cluster.sh and bench/machines.sh run some."""
+
+    HOSTS = ("127.0.0.2", "127.0.0.3", "127.0.0.4")
+
+    def setUp(self):
+        super().setUp()
+        self.module, self.secret = self.path("pink.so"), self.path("secret")
+        for path, text in ((self.module, ""), (self.secret, "0123456789abcdef+/=\n")):
+            with open(path, "w") as file:
+                file.write(text)
+
+    def make(self, folder, *words, status=0):
+        told = self.ctl("cluster", "make", self.path(folder), "3", "512", "16", "64", *words, status=status, env={"PINK_MODULE": self.module})
+        return told.decode()
+
+    def read(self, *names):
+        with open(self.path(os.path.join(*names))) as file:
+            return file.read()
+
+    def on_hosts(self, *words):
+        return ["--hosts", ",".join(self.HOSTS), "--password-file", self.secret, *words]
+
+    def test_one_machine(self):
+        told = self.make("store")
+        self.assertEqual(told, f"6 drives in {os.path.realpath(self.path('store'))}: 3 primaries from port 7400 on, 1 replicas of each\n")
+        self.assertEqual(sorted(os.listdir(self.path("store"))), ["7400", "7401", "7402", "7403", "7404", "7405", "cluster.json"])
+        facts = json.loads(self.read("store", "cluster.json"))
+        self.assertEqual(facts, {"version": 1, "members": [[7400, None], [7401, None], [7402, None], [7403, 7400], [7404, 7401], [7405, 7402]], "joined": False})
+        lines = self.read("store", "7403", "redis.conf").splitlines()
+        self.assertEqual(lines[1:3], ["port 7403", "bind 127.0.0.1"])
+        self.assertEqual(lines[-1], "cluster-allow-replica-migration no")
+        self.assertEqual(members.Cluster(self.path("store")).own[3], (7403, 7400, "127.0.0.1"))
+
+    def test_each_machine_has_its_part(self):
+        for host in self.HOSTS:
+            self.make(host, *self.on_hosts("--here", host))
+        parts = {host: sorted(it for it in os.listdir(self.path(host)) if it.isdigit()) for host in self.HOSTS}
+        self.assertEqual(parts, {"127.0.0.2": ["7400", "7405"], "127.0.0.3": ["7401", "7403"], "127.0.0.4": ["7402", "7404"]})
+        plans = [{**json.loads(self.read(host, "cluster.json")), "here": ""} for host in self.HOSTS]
+        self.assertEqual(plans, plans[:1] * 3)
+        conf = self.read("127.0.0.4", "7404", "redis.conf")
+        for line in ("bind 127.0.0.4 127.0.0.1", "cluster-announce-ip 127.0.0.4", f'include "{os.path.realpath(self.path("127.0.0.4"))}/password.conf"'):
+            self.assertIn(line + "\n", conf)
+        self.assertNotIn("0123456789", conf)
+        secret = self.path("127.0.0.4/password.conf")
+        self.assertEqual(self.read(secret), 'requirepass "0123456789abcdef+/="\nmasterauth "0123456789abcdef+/="\n')
+        self.assertEqual(os.stat(secret).st_mode & 0o777, 0o600)
+        it = members.Cluster(self.path("127.0.0.3"))
+        self.assertEqual((it.password, [own.port for own in it.own], it.hosts[7405]), ("0123456789abcdef+/=", [7401, 7403], "127.0.0.2"))
+
+    def test_a_password_on_one_machine(self):
+        self.make("store", "--password-file", self.secret)
+        self.assertIn("include ", self.read("store", "7400", "redis.conf"))
+        self.assertEqual(members.Cluster(self.path("store")).password, "0123456789abcdef+/=")
+
+    def test_no_pair_shares_a_machine(self):
+        for count in range(1, 13):
+            for machines in range(2, 6):
+                hosts = [f"10.0.0.{number}" for number in range(machines)]
+                for replicas in range(machines):
+                    made = members.spread(members.members_of(count, replicas, 7400), hosts)
+                    for port in range(7400, 7400 + count):
+                        own = [it.host for it in made if it.family() == port]
+                        self.assertEqual(len(set(own)), 1 + replicas)
+                    for kind in (True, False):
+                        loads = [sum(it.host == host and (it.of is None) == kind for it in made) for host in hosts]
+                        self.assertLessEqual(max(loads) - min(loads), 1 if kind else replicas + 1, (count, machines, replicas))
+
+    def test_which_loss_leaves_no_majority(self):
+        def weak(*hosts):
+            return members.weak_machines(dict(enumerate(hosts)))
+
+        self.assertEqual(weak("a", "b", "c"), {})
+        self.assertEqual(weak("a", "b"), {"a": 1, "b": 1})
+        self.assertEqual(weak("a", "b", "a"), {"a": 1})
+        self.assertEqual(weak("a", "b", "c", "a"), {"a": 2})
+        self.assertEqual(weak("a", "a", "a"), {"a": 0})
+        told = self.make("two", "--hosts", "127.0.0.2,127.0.0.3", "--password-file", self.secret, "--here", "127.0.0.3")
+        self.assertIn("the loss of 127.0.0.2 leaves 1 of 3 primaries, no majority", told)
+        self.assertNotIn("no majority", self.make("three", *self.on_hosts("--here", "127.0.0.3")))
+
+    def test_a_voter(self):
+        words = ["--hosts", "127.0.0.2,127.0.0.3", "--voter", "127.0.0.4", "--password-file", self.secret, "--here", "127.0.0.4"]
+        self.ctl("cluster", "make", self.path("voter"), "2", "512", "16", "64", *words, env={"PINK_MODULE": self.module})
+        it = members.Cluster(self.path("voter"))
+        self.assertEqual([own.port for own in it.own], [7404])
+        self.assertEqual(it.members[5], (7405, 7404, "127.0.0.2"))
+        self.assertEqual(members.shares(it.members, it.facts["voter"]), {7400: (0, 8190), 7401: (8191, 16382), 7404: (16383, 16383)})
+        self.assertEqual(members.weak_machines({own.port: own.host for own in it.members if own.of is None}), {})
+
+    def test_what_make_refuses(self):
+        short = self.path("short")
+        with open(short, "w") as file:
+            file.write("secret\n")
+        rows = [
+            (["--hosts", "127.0.0.2,127.0.0.3"], 2, "--password-file"),
+            (["--hosts", "127.0.0.2,127.0.0.3", "--password-file", short], 2, "16 or more visible characters"),
+            (["--hosts", "127.0.0.2,127.0.0.3", "--password-file", self.path("none")], 11, "No such file"),
+            (self.on_hosts("--here", "127.0.0.9"), 2, "127.0.0.9 is none of 127.0.0.2, 127.0.0.3, 127.0.0.4"),
+            (self.on_hosts(), 2, "--here ADDRESS"),
+            (self.on_hosts("--replicas", "3"), 2, "3 machines have room for 2 replicas"),
+            (["--hosts", "203.0.113.7,203.0.113.8", "--password-file", self.secret], 2, "this machine has none of the addresses"),
+            (["--hosts", "db1,db2", "--password-file", self.secret], 2, "db1 is no address"),
+            (["--hosts", "0.0.0.0,127.0.0.2", "--password-file", self.secret], 2, "not the address of one machine"),
+            (["--hosts", "127.0.0.2,127.0.0.2", "--password-file", self.secret], 2, "there twice"),
+            (["--hosts", "127.0.0.2,127.0.0.3", "--voter", "127.0.0.3", "--password-file", self.secret], 2, "there twice"),
+            (["--voter", "127.0.0.3"], 2, "--hosts names them"),
+            (["--port", "55600"], 2, "below 65,536"),
+        ]
+        for words, status, text in rows:
+            with self.subTest(words=words):
+                self.make("refused", *words, status=status)
+                self.assertIn(text, self.said)
+                self.assertFalse(os.path.exists(self.path("refused")))
+        self.make("store")
+        self.make("store", status=9)
+        self.ctl("cluster", "start", self.path("nowhere"), status=1)
+
+    def test_lines_of_the_servers(self):
+        line = "07c3 10.0.0.2:7401@17401 slave,fail 67ed 1 2 3 disconnected"
+        self.assertEqual(seen_of(line), Seen("07c3", 7401, ["slave", "fail"], "67ed", False, [], "10.0.0.2"))
+        self.assertEqual(seen_of("07c3 :7401@17401 myself,master - 0 0 1 connected 0-5 7 [8->-x]").slots, [(0, 5), (7, 7)])
+        self.assertEqual(seen_of("07c3 :7401@17401 myself,master - 0 0 1 connected").host, "127.0.0.1")
+        self.assertEqual(seen_of("07c3 fd00::2:7401@17401 master - 0 0 1 connected").host, "fd00::2")
+
+    def test_a_password_is_sent_first(self):
+        asked = []
+
+        class Answers(socketserver.StreamRequestHandler):
+            def handle(it):
+                while it.rfile.readline():
+                    words = []
+                    for _ in range(2 if not asked else 1):
+                        words.append(it.rfile.read(int(it.rfile.readline()[1:]) + 2)[:-2])
+                    asked.append(words)
+                    it.wfile.write(b"+OK\r\n" if words == [b"AUTH", b"right"] else b"-WRONGPASS invalid\r\n" if words[0] == b"AUTH" else b"+PONG\r\n")
+
+        with socketserver.ThreadingTCPServer(("127.0.0.1", 0), Answers) as server:
+            threading.Thread(target=server.serve_forever, daemon=True).start()
+            with Node(server.server_address[1], 5, password="right") as node:
+                self.assertEqual(node.do("PING"), "PONG")
+            self.assertEqual(asked, [[b"AUTH", b"right"], [b"PING"]])
+            asked.clear()
+            with self.assertRaisesRegex(Refused, "WRONGPASS") as caught:
+                Node(server.server_address[1], 5, password="wrong")
+            server.shutdown()
+        told = members.refused_password(caught.exception)
+        self.assertEqual(told.status, Exit.REFUSED)
+        self.assertIn("password.conf has to be the same on each machine", str(told))
+
+    LOST = Seen("lost", 7402, ["master", "fail"], None, True, [], "127.0.0.4")
+    """A link that is only being made is connected, too."""
+
+    def enter(self, *seen):
+        """What is asked when a new server comes to port 7402, which another was at, as two servers see it."""
+        asked = []
+        second = OfACluster(7401, asked, list(seen))
+        with mock.patch.object(join, "wait_until", wait_once):
+            join.enter(OfACluster(7402, asked, []), [OfACluster(7400, asked, list(seen), [second]), second])
+        return asked
+
+    def test_a_new_machine_is_let_in_once_another_has_taken_over(self):
+        asked = [(7400, "CLUSTER", "FORGET", "lost"), (7401, "CLUSTER", "FORGET", "lost"), (7400, "CLUSTER", "MEET", "127.0.0.2", 7402)]
+        self.assertEqual(self.enter(self.LOST), asked)
+        self.assertEqual(self.enter(self.LOST._replace(port=0, flags=["slave", "fail", "noaddr"])), asked)
+        self.assertEqual(self.enter(self.LOST._replace(id="id7402")), asked[2:])
+
+    def test_a_new_machine_is_refused_before_that(self):
+        lost = self.LOST._replace(slots=[(0, 5)])
+        replica = Seen("its", 7405, ["slave"], "lost", True, [], "127.0.0.2")
+        with self.assertRaisesRegex(ToolError, "CLUSTER FAILOVER TAKEOVER at 127.0.0.2:7405 once") as caught:
+            self.enter(lost, replica)
+        self.assertEqual(caught.exception.status, Exit.REFUSED)
+        with self.assertRaisesRegex(ToolError, "its keys are lost unless its old folder is found"):
+            self.enter(lost)
+        with self.assertRaisesRegex(ToolError, "is still there"):
+            self.enter(self.LOST._replace(flags=["slave"]))
+
+    def test_the_first_start_waits_for_the_others(self):
+        self.make("127.0.0.2", *self.on_hosts("--here", "127.0.0.2"))
+        it, asked = members.Cluster(self.path("127.0.0.2")), []
+        own = [Seen("id7400", 7400, ["myself", "master"], None, True, [])]
+        for ports in ([7400], [7400, 7405]):
+            self.assertFalse(join.join_machines(it, {port: OfACluster(port, asked, own) for port in ports}))
+        self.assertEqual(asked, [])
+
+    def test_where_servers_are_now(self):
+        self.make("store")
+        it = members.Cluster(self.path("store"))
+        it.learn([self.LOST, self.LOST._replace(port=7401, flags=["slave"], host="127.0.0.9")])
+        self.assertEqual((it.hosts[7402], it.hosts[7401]), ("127.0.0.4", "127.0.0.9"))
+        it.learn([self.LOST, self.LOST._replace(flags=["slave"], host="127.0.0.8"), self.LOST._replace(flags=["fail"], host="127.0.0.7")])
+        self.assertEqual(it.hosts[7402], "127.0.0.8")
+
+
 class TheWhole(OnImage):
     def test_the_version(self):
         self.assertRegex(self.ctl("--version").decode(), r"^pinkctl \(Cezhandru\), commit \S+, kit .+\n$")
@@ -928,8 +1157,8 @@ class TheWhole(OnImage):
             page = re.sub(r"[ \n]+", " ", file.read().replace("\\-", "-"))
         for status in Exit:
             self.assertIn(f".B {status.value} ", page)
-        for part in ("check", "export", "import", "backup", "mv", "salvage", "shell", "shapes", "serve"):
-            for option in re.findall(r"--[a-z-]+", self.ctl(part, "--help").decode()):
+        for part in ("check", "export", "import", "backup", "mv", "salvage", "shell", "shapes", "serve", "cluster make"):
+            for option in re.findall(r"--[a-z-]+", self.ctl(*part.split(), "--help").decode()):
                 if option != "--help":
                     self.assertIn(option, page, part)
 

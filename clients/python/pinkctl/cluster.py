@@ -1,34 +1,40 @@
 """cluster: many drives as one store, each behind a redis-server with the module pink.so, in Redis' own cluster.
 
-A cluster has a folder: `cluster.json` says what it is made of, and each server has a folder named by its port with the image, the
-configuration and the log.
+A cluster has a folder on each of its machines: `cluster.json` says what it is made of, and each server of the machine has a folder named
+by its port with the image, the configuration and the log.
 """
 
 import argparse
-import json
 import os
 import shutil
 import signal
 import subprocess
 import sys
 import time
-from typing import Any, Callable, NamedTuple, Optional
+from typing import Callable, NamedTuple, Optional
 
+from .join import join, join_machines, own_line
+from .members import SECRET, Cluster, Member, addresses, is_here, members_of, new_password, own_address, shares, spread, weak_machines, with_voter, write_facts, write_password
 from .moves import add_move_parser
 from .nodes import HOST, SLOTS, Node, Seen
 from .program import TOP, make_image, pink
 from .status import Exit, ToolError
+from .waiting import START_SECONDS, follows, wait_until
 
 DESCRIPTION = """\
-Makes, runs and checks a cluster of drives on this machine: for each drive a redis-server (7.0) with the
-module pink.so, for each primary so many replicas. Clients in cluster mode use it as one store. A primary that
-ends is replaced by its replica within about 20 seconds if there are three primaries or more.
+Makes, runs and checks a cluster of drives on this machine, or on several: for each drive a redis-server (7.0)
+with the module pink.so, for each primary so many replicas. Clients in cluster mode use it as one store. A primary
+that ends is replaced by its replica within about 20 seconds if a majority of three primaries or more is left.
 
   pinkctl cluster make DIR COUNT P N M    the images and the configurations of COUNT primaries and their replicas
   pinkctl cluster start DIR               starts the servers that do not run, and joins them the first time
   pinkctl cluster check DIR               each drive, and each replica compared with its primary
   pinkctl cluster move-slots DIR FROM TO SLOT..   gives slots with their keys to another primary
-  pinkctl cluster stop DIR                ends the servers"""
+  pinkctl cluster stop DIR                ends the servers
+
+On several machines, with make .. --hosts 10.0.0.1,10.0.0.2,10.0.0.3 --password-file PATH: make and start are
+called on each with the same words, and act on its own servers, as stop does; check and move-slots reach all.
+docs/LIVING.md says how a lost machine is replaced."""
 
 CONFIGURATION = """\
 # Made by pinkctl cluster make. What is said to matter has to stay.
@@ -60,40 +66,16 @@ cluster-node-timeout {timeout}
 cluster-require-full-coverage no
 cluster-allow-replica-migration no
 """
-START_SECONDS = 60
-
-
-class Member(NamedTuple):
-    """A server: the primary that it is a replica of at first has its port in `of`."""
-
-    port: int
-    of: Optional[int]
-
-
-class Cluster:
-    """The folder of a cluster."""
-
-    def __init__(self, folder: str) -> None:
-        self.folder = os.path.realpath(folder)
-        try:
-            with open(os.path.join(self.folder, "cluster.json")) as file:
-                self.facts = json.load(file)
-        except FileNotFoundError:
-            raise ToolError(f"{folder} is no cluster: pinkctl cluster make {folder} COUNT P N M makes one", Exit.MISSING) from None
-        self.members = [Member(*it) for it in self.facts["members"]]
-
-    def path(self, port: int, name: str) -> str:
-        return os.path.join(self.folder, str(port), name)
-
-    def process(self, port: int) -> Optional[int]:
-        """The process of a server that runs."""
-        try:
-            with open(self.path(port, "pid")) as file:
-                process = int(file.read())
-            with open(f"/proc/{process}/cmdline") as file:
-                return process if "redis-server" in file.read() else None
-        except (OSError, ValueError):
-            return None
+ON_A_NETWORK = """\
+# The servers of other machines find this one here (matters).
+cluster-announce-ip {host}
+"""
+WITH_PASSWORD = """\
+# The password that servers and clients need.
+include "{secret}"
+"""
+PAUSE_SECONDS, TRIES = 10, 3
+"""How long writes are paused for a comparison, and how often."""
 
 
 # make
@@ -108,44 +90,90 @@ def pink_module() -> str:
     raise ToolError("there is no module pink.so: make -C redis builds it", Exit.MISSING)
 
 
-def members_of(count: int, replicas: int, port: int) -> list[Member]:
-    """Primaries first, then the first replica of each, and so on."""
-    primaries = [Member(port + i, None) for i in range(count)]
-    return primaries + [Member(port + count * (1 + turn) + i, port + i) for turn in range(replicas) for i in range(count)]
+class Plan(NamedTuple):
+    """What is made: all servers of all machines, and which machine this is, if there are several."""
+
+    members: list[Member]
+    here: Optional[str]
+    voter: Optional[int]
+    password: Optional[str]
+
+    def own(self) -> list[Member]:
+        return [it for it in self.members if self.here in (None, it.host)]
+
+    def facts(self) -> dict[str, object]:
+        if self.here is None:
+            return {"version": 1, "members": [(it.port, it.of) for it in self.members], "joined": False}
+        return {"version": 2, "members": self.members, "joined": False, "here": self.here, "voter": self.voter}
+
+
+def plan_of(args: argparse.Namespace) -> Plan:
+    if not 1 <= args.count <= 200 or not 0 <= args.replicas <= 5:
+        raise ToolError("a cluster has 1 to 200 primaries, and 0 to 5 replicas of each", Exit.USAGE)
+    password = None if args.password_file is None else new_password(args.password_file)
+    members, here, voter = members_of(args.count, args.replicas, args.port), None, None
+    if args.hosts is None and (args.voter or args.here):
+        raise ToolError("--voter and --here are for a cluster on several machines: --hosts names them", Exit.USAGE)
+    if args.hosts is not None:
+        hosts = addresses(args.hosts)
+        if password is None:
+            raise ToolError("servers on a network have a password: head -c 24 /dev/urandom | base64 >PATH, and --password-file PATH, the same file on each machine", Exit.USAGE)
+        if not args.replicas < len(hosts):
+            raise ToolError(f"{len(hosts)} machines have room for {len(hosts) - 1} replicas of a primary: each is on another machine", Exit.USAGE)
+        members = spread(members, hosts)
+        if args.voter:
+            hosts = addresses(f"{args.hosts},{args.voter}")
+            members = with_voter(members, hosts[-1])
+            voter = members[-2].port
+        here = own_address(hosts, args.here)
+    if members[-1].port + 10000 > 65535:
+        raise ToolError("the port of the cluster's bus is 10,000 above a server's: it has to be below 65,536", Exit.USAGE)
+    return Plan(members, here, voter, password)
 
 
 def make(args: argparse.Namespace) -> int:
-    if not 1 <= args.count <= 200 or not 0 <= args.replicas <= 5:
-        raise ToolError("a cluster has 1 to 200 primaries, and 0 to 5 replicas of each", Exit.USAGE)
+    plan = plan_of(args)
     folder, module = os.path.realpath(args.folder), pink_module()
-    members = members_of(args.count, args.replicas, args.port)
-    if members[-1].port + 10000 > 65535:
-        raise ToolError("the port of the cluster's bus is 10,000 above a server's: it has to be below 65,536", Exit.USAGE)
     if os.path.exists(folder) and os.listdir(folder):
         raise ToolError(f"{folder} is not empty", Exit.EXISTS)
     least = args.min_replicas if args.min_replicas is not None else int(args.replicas > 1)
-    for it in members:
+    for it in plan.own():
         place = os.path.join(folder, str(it.port))
         os.makedirs(place)
         make_image(os.path.join(place, "drive.img"), (args.page_bytes, args.block_pages, args.blocks))
         words = {"folder": place, "module": module, "program": os.path.realpath(shutil.which(pink()) or pink()), "least": least}
         words |= {"frames": args.frames, "names": args.names, "sync": "yes" if args.sync else "no", "timeout": args.timeout}
         with open(os.path.join(place, "redis.conf"), "w") as file:
-            file.write(CONFIGURATION.format(port=it.port, host=HOST, **words))
-    write_facts(folder, {"version": 1, "members": members, "joined": False})
-    print(f"{len(members)} drives in {folder}: {args.count} primaries from port {args.port} on, {args.replicas} replicas of each")
-    if args.count < 3 and args.replicas:
-        print("with fewer than 3 primaries no replica takes over by itself: CLUSTER FAILOVER TAKEOVER at the replica does it")
+            file.write(configuration(plan, it).format(port=it.port, host=it.host, secret=os.path.join(folder, SECRET), **words))
+    if plan.password is not None:
+        write_password(folder, plan.password)
+    write_facts(folder, plan.facts())
+    print_made(args, plan, folder)
     return Exit.OK
 
 
-def write_facts(folder: str, facts: dict[str, Any]) -> None:
-    path = os.path.join(folder, "cluster.json")
-    with open(path + ".new", "w") as file:
-        json.dump(facts, file, indent=1)
-        file.flush()
-        os.fsync(file.fileno())
-    os.replace(path + ".new", path)
+def configuration(plan: Plan, member: Member) -> str:
+    text = CONFIGURATION if member.host == HOST else CONFIGURATION.replace("{host}", "{host} " + HOST) + ON_A_NETWORK
+    return text if plan.password is None else text + WITH_PASSWORD
+
+
+def print_made(args: argparse.Namespace, plan: Plan, folder: str) -> None:
+    if plan.here is None:
+        print(f"{len(plan.members)} drives in {folder}: {args.count} primaries from port {args.port} on, {args.replicas} replicas of each")
+        if args.count < 3 and args.replicas:
+            print("with fewer than 3 primaries no replica takes over by itself: CLUSTER FAILOVER TAKEOVER at the replica does it")
+        return
+    hosts = list(dict.fromkeys(it.host for it in plan.members))
+    others = ": make the others by the same words on the other machines" if len(hosts) > 1 else ""
+    print(f"{len(plan.own())} of {len(plan.members)} drives in {folder}, those of {plan.here}{others}")
+    for host in hosts:
+        print(f"{host}: " + ", ".join(f"{it.port}" + (f" (replica of {it.of})" if it.of else "") for it in plan.members if it.host == host))
+    print_weak({it.port: it.host for it in plan.members if it.of is None})
+
+
+def print_weak(primaries: dict[int, str]) -> None:
+    for host, count in sorted(weak_machines(primaries).items()):
+        print(f"the loss of {host} leaves {count} of {len(primaries)} primaries, no majority: then no replica takes over by itself")
 
 
 # start
@@ -155,15 +183,34 @@ def start(args: argparse.Namespace) -> int:
     it = Cluster(args.folder)
     if not shutil.which("redis-server"):
         raise ToolError("there is no redis-server (Debian: apt-get install redis-server)", Exit.PROGRAM)
-    begun = {member.port: begin(it, member.port) for member in it.members if it.process(member.port) is None}
-    nodes = [wait_up(it, member.port, begun.get(member.port)) for member in it.members]
-    if not it.facts["joined"]:
+    if it.here is not None and not is_here(it.here):
+        raise ToolError(f"this machine does not have the address {it.here}, for which {args.folder} was made", Exit.USAGE)
+    begun = {member.port: begin(it, member.port) for member in it.own if it.process(member.port) is None}
+    nodes = {member.port: wait_up(it, member.port, begun.get(member.port)) for member in it.own}
+    if it.here is not None:
+        nodes |= others_joined(it, nodes)
+    elif not it.facts["joined"]:
         join(it, nodes)
-        write_facts(it.folder, {**it.facts, "joined": True})
-    wait_until("the cluster is not whole", lambda: all(node.is_ok() for node in nodes))
-    wait_until("a replica does not follow its primary", lambda: all(follows(node) for node in nodes))
-    print(f"{len(begun)} servers started, {len(it.members) - len(begun)} ran; the cluster answers at " + ", ".join(f"{HOST}:{m.port}" for m in it.members))
+        it.write(joined=True)
+    missing = [f"{it.hosts[member.port]}:{member.port}" for member in it.members if member.port not in nodes]
+    if not missing:
+        wait_until("the cluster is not whole", lambda: all(node.is_ok() for node in nodes.values()))
+        wait_until("a replica does not follow its primary", lambda: all(follows(node) for node in nodes.values()))
+    told = f"{len(begun)} servers started, {len(it.own) - len(begun)} ran; "
+    if missing:
+        print(told + "no answer yet from " + ", ".join(missing))
+    else:
+        print(told + "the cluster answers at " + ", ".join(f"{it.hosts[m.port]}:{m.port}" for m in it.members))
     return Exit.OK
+
+
+def others_joined(it: Cluster, own: dict[int, Node]) -> dict[int, Node]:
+    """The servers of other machines that answer, with which those of this one are joined."""
+    others = answering_elsewhere(it, own)
+    nodes = {member.port: (own.get(member.port) or others[member.port]) for member in it.members if member.port in own or member.port in others}
+    if not join_machines(it, nodes):
+        print("the start on the last machine joins all")
+    return others
 
 
 def begin(it: Cluster, port: int) -> "subprocess.Popen[bytes]":
@@ -176,7 +223,7 @@ def wait_up(it: Cluster, port: int, process: "Optional[subprocess.Popen[bytes]]"
     last = time.monotonic() + START_SECONDS
     while True:
         try:
-            node = Node(port)
+            node = it.node(port)
             if node.do("PING") == "PONG" and int(node.info("server")["process_id"]) == it.process(port):
                 return node
             node.close()
@@ -198,49 +245,13 @@ def last_warning(it: Cluster, port: int) -> str:
         return "it has no log"
 
 
-def wait_until(fault: str, holds: Callable[[], bool], seconds: float = START_SECONDS) -> None:
-    last = time.monotonic() + seconds
-    while not holds():
-        if time.monotonic() > last:
-            raise ToolError(fault, Exit.PROGRAM)
-        time.sleep(0.1)
-
-
-def follows(node: Node) -> bool:
-    told = node.info("replication")
-    return told["role"] == "master" or told.get("master_link_status") == "up"
-
-
-def join(it: Cluster, nodes: list[Node]) -> None:
-    """Makes one cluster of servers that know only themselves. Each step is done if it is not done yet, so it may be run again."""
-    primaries = [node for node, member in zip(nodes, it.members) if member.of is None]
-    for number, node in enumerate(nodes):
-        own = next(seen for seen in node.seen() if "myself" in seen.flags)
-        if number < len(primaries) and not own.slots:
-            first, last = SLOTS * number // len(primaries), SLOTS * (number + 1) // len(primaries) - 1
-            node.do("CLUSTER", "ADDSLOTSRANGE", first, last)
-        if len(node.seen()) == 1 and b"cluster_my_epoch:0\r" in node.do("CLUSTER", "INFO"):
-            node.do("CLUSTER", "SET-CONFIG-EPOCH", number + 1)
-    for node in nodes[1:]:
-        nodes[0].do("CLUSTER", "MEET", HOST, node.port)
-    wait_until("the servers do not find each other", lambda: all(len(known(node)) == len(nodes) for node in nodes))
-    ids = {node.port: node.id() for node in nodes}
-    for node, member in zip(nodes, it.members):
-        if member.of is not None:
-            node.do("CLUSTER", "REPLICATE", ids[member.of])
-
-
-def known(node: Node) -> list[Seen]:
-    return [it for it in node.seen() if "handshake" not in it.flags and ("myself" in it.flags or it.is_linked)]
-
-
 # stop
 
 
 def stop(args: argparse.Namespace) -> int:
     """Replicas first, so that none of them takes over."""
     it, ended = Cluster(args.folder), 0
-    roles = {member.port: role_of(member.port) for member in it.members}
+    roles = {member.port: role_of(it, member.port) for member in it.own}
     for port in sorted(roles, key=lambda port: roles[port] == "master"):
         process = it.process(port)
         if process is None:
@@ -252,9 +263,9 @@ def stop(args: argparse.Namespace) -> int:
     return Exit.OK
 
 
-def role_of(port: int) -> str:
+def role_of(it: Cluster, port: int) -> str:
     try:
-        with Node(port, 5) as node:
+        with it.node(port, 5) as node:
             return node.info("replication")["role"]
     except (ToolError, KeyError, OSError):
         return "none"
@@ -265,56 +276,106 @@ def role_of(port: int) -> str:
 
 def check(args: argparse.Namespace) -> int:
     it = Cluster(args.folder)
-    running = [member.port for member in it.members if it.process(member.port) is not None]
+    running = [member.port for member in it.own if it.process(member.port) is not None]
     if not running:
         return check_images(it)
-    faults = [f"the server at port {member.port} does not run" for member in it.members if member.port not in running]
-    nodes = {port: Node(port) for port in running}
+    faults = [f"the server at port {member.port} does not run" for member in it.own if member.port not in running]
+    nodes = {port: it.node(port) for port in running}
+    nodes |= answering_elsewhere(it, nodes)
+    faults += [f"{it.hosts[member.port]}:{member.port} does not answer" for member in it.members if member not in it.own and member.port not in nodes]
     faults += [fault for node in nodes.values() for fault in faults_of(node)]
     for node in nodes.values():
         for primary in (seen for seen in node.seen() if "myself" in seen.flags and seen.primary):
             other = next((seen.port for seen in node.seen() if seen.id == primary.primary), None)
             if other in nodes:
                 faults += compare(nodes[other], node)
-    missing = slots_without([seen for node in nodes.values() for seen in node.seen() if "myself" in seen.flags])
-    if missing:
-        faults.append(f"{missing} slots have no server: pinkctl cluster move-slots ends a move that was broken off")
+            elif it.here is not None:
+                faults.append(f"{node.place} is a replica of one that does not answer: unless it takes over, CLUSTER FAILOVER TAKEOVER there once that one is off")
+    faults += unowned_slots(it, nodes)
     for fault in faults:
         print(fault)
-    print(f"{len(running)} of {len(it.members)} servers run; " + (f"{len(faults)} faults" if faults else "all drives answer, and each replica equals its primary"))
+    if it.here is not None:
+        print_votes(it, nodes)
+    print(f"{len(nodes)} of {len(it.members)} servers run; " + (f"{len(faults)} faults" if faults else "all drives answer, and each replica equals its primary"))
     print("the images themselves are checked when the cluster is stopped")
     return Exit.DISAGREES if faults else Exit.OK
+
+
+def answering_elsewhere(it: Cluster, nodes: dict[int, Node]) -> dict[int, Node]:
+    """The servers of the other machines."""
+    for node in nodes.values():
+        it.learn(node.seen())
+    return it.answering([member for member in it.members if member not in it.own])
+
+
+def unowned_slots(it: Cluster, nodes: dict[int, Node]) -> list[str]:
+    missing = slots_without([own_line(node) for node in nodes.values()])
+    if not missing:
+        return []
+    if len(nodes) < len(it.members):
+        return [f"{missing} slots have no server that answers"]
+    return [f"{missing} slots have no server: pinkctl cluster move-slots ends a move that was broken off"]
+
+
+def print_votes(it: Cluster, nodes: dict[int, Node]) -> None:
+    """Whether a majority of primaries survives the loss of any machine, and which failover helps."""
+    primaries = {port: node.host for port, node in nodes.items() if own_line(node).slots}
+    print_weak(primaries)
+    moved = [member.port for member in it.members if member.of is None and member.port in nodes and own_line(nodes[member.port]).primary]
+    if moved and weak_machines(primaries):
+        print("primaries were on more machines at first: CLUSTER FAILOVER at " + ", ".join(nodes[port].place for port in moved))
 
 
 def faults_of(node: Node) -> list[str]:
     told = node.info("pink_drive")
     faults = []
     if told.get("pink_partial") != "0":
-        faults.append(f"port {node.port}: the drive is no whole copy of its primary's")
+        faults.append(f"{node.place}: the drive is no whole copy of its primary's")
     if not follows(node):
-        faults.append(f"port {node.port}: the replica has no link to its primary")
-    print(f"port {node.port}: {node.info('replication')['role']}, {told['pink_report_keys']} keys, {told['pink_report_live']} of {told['pink_report_limit']} pages")
+        faults.append(f"{node.place}: the replica has no link to its primary")
+    print(f"{node.place}: {node.info('replication')['role']}, {told['pink_report_keys']} keys, {told['pink_report_live']} of {told['pink_report_limit']} pages")
     return faults
 
 
 def compare(primary: Node, replica: Node) -> list[str]:
-    """The keys whose values differ, while the primary's clients that write are paused."""
+    """The keys whose values differ: those that differ while clients write are looked at again, while they are paused."""
+    pair = f"ports {primary.port} and {replica.port}" if primary.host == replica.host == HOST else f"{primary.place} and {replica.place}"
     replica.do("READONLY")
-    primary.do("CLIENT", "PAUSE", 10000, "WRITE")
+    try:
+        own, its = (node.digests(list(node.keys())) for node in (primary, replica))
+        differ = differing(own, its)
+        for _ in range(TRIES):
+            if differ:
+                differ, is_over = differing_paused(primary, replica, differ)
+                if not is_over:
+                    break
+    except ToolError as fault:
+        return [f"{pair} are not compared: {fault}"]
+    print(f"{pair}: {len(own)} and {len(its)} keys, {len(differ)} differ")
+    return [f"{pair} differ in {len(differ)} keys, first {differ[0]!r}"] if differ else []
+
+
+Digests = dict[bytes, Optional[bytes]]
+
+
+def differing(own: Digests, its: Digests) -> list[bytes]:
+    return sorted(key for key in {*own, *its} if own.get(key) != its.get(key))
+
+
+def differing_paused(primary: Node, replica: Node, keys: list[bytes]) -> tuple[list[bytes], bool]:
+    """Which of these keys differ while the primary's clients that write are paused, and whether the pause ended too early."""
+    began = time.monotonic()
+    primary.do("CLIENT", "PAUSE", 1000 * PAUSE_SECONDS, "WRITE")
     try:
         wait_until(
-            f"port {replica.port}: the replica does not catch up",
+            f"{replica.place}: the replica does not catch up",
             lambda: int(replica.info("replication")["slave_repl_offset"]) >= int(primary.info("replication")["master_repl_offset"]),
             5,
         )
-        own, its = primary.contents(), replica.contents()
-    except ToolError as fault:
-        return [str(fault)]
+        differ = differing(primary.digests(keys), replica.digests(keys))
     finally:
         primary.do("CLIENT", "UNPAUSE")
-    differ = sorted(key for key in {*own, *its} if own.get(key) != its.get(key))
-    print(f"ports {primary.port} and {replica.port}: {len(own)} and {len(its)} keys, {len(differ)} differ")
-    return [f"ports {primary.port} and {replica.port} differ in {len(differ)} keys, first {differ[0]!r}"] if differ else []
+    return differ, bool(differ) and time.monotonic() - began > PAUSE_SECONDS
 
 
 def slots_without(own: list[Seen]) -> int:
@@ -325,7 +386,7 @@ def slots_without(own: list[Seen]) -> int:
 def check_images(it: Cluster) -> int:
     """pinkctl check of each image of a cluster that is stopped."""
     worst = 0
-    for member in it.members:
+    for member in it.own:
         words = [sys.executable, "-m", "pinkctl", "check", it.path(member.port, "drive.img")]
         done = subprocess.run(words, capture_output=True, text=True, cwd=os.path.dirname(os.path.dirname(os.path.realpath(__file__))))
         mark = it.path(member.port, "drive.img.partial")
@@ -357,6 +418,10 @@ def add_parser(subparsers: "argparse._SubParsersAction[argparse.ArgumentParser]"
     making.add_argument("--sync", action="store_true", help="each change is on the disk when it is answered (PINK_SYNC=1)")
     making.add_argument("--min-replicas", type=int, metavar="N", help="refuse changes with fewer replicas (1 if there are two or more, else 0)")
     making.add_argument("--timeout", type=int, default=15000, metavar="MS", help="when a silent server counts as failed (%(default)s)")
+    making.add_argument("--hosts", metavar="ADDRESS,..", help="the machines, by address: primaries in turn, each replica on another machine than its primary")
+    making.add_argument("--password-file", metavar="PATH", help="clients and servers need the password in its first line (--hosts needs it)")
+    making.add_argument("--voter", metavar="ADDRESS", help="a further machine, with the vote of a primary that has one slot")
+    making.add_argument("--here", metavar="ADDRESS", help="which of the machines this is, if its addresses do not say it")
     making.set_defaults(run=make)
     for name, run, text in (("start", start, "start the servers"), ("stop", stop, "end the servers"), ("check", check, "check the drives, and compare replicas")):
         word = words.add_parser(name, help=text)

@@ -14,6 +14,7 @@ import os
 import time
 from typing import Any
 
+from .members import Cluster, cluster_of
 from .nodes import SLOTS, Node, owner
 from .status import Exit, ToolError
 
@@ -68,7 +69,7 @@ def wait_for_replicas(node: Node) -> None:
     """All replicas that follow have what was done."""
     follow = int(node.info("replication")["connected_slaves"])
     if follow and node.do("WAIT", follow, 5000) < follow:
-        raise ToolError(f"the replicas of port {node.port} do not follow", Exit.PROGRAM)
+        raise ToolError(f"the replicas of {node.place} do not follow", Exit.PROGRAM)
 
 
 def copy_keys(source: Node, target: Node, slot: int) -> int:
@@ -87,21 +88,21 @@ def take(target: Node, slot: int, ids: tuple[str, str]) -> None:
         target.do("PINK.TAKE", slot, *ids)
 
 
-def wait_until_known(target: Node, slots: list[int], id_: str) -> None:
+def wait_until_known(it: Cluster, target: Node, slots: list[int], id_: str) -> None:
     """All servers that answer know who has the slots. One that does not would give them back once the source has a newer epoch."""
-    for port in [it.port for it in target.seen() if it.is_linked]:
+    for port in [seen.port for seen in target.seen() if seen.is_there()]:
         last = time.monotonic() + KNOWN_SECONDS
-        while not knows(port, slots, id_):
+        while not knows(it, port, slots, id_):
             if time.monotonic() > last:
                 raise ToolError(f"the server at port {port} does not hear who has the slots: run it again", Exit.PROGRAM)
             time.sleep(0.05)
 
 
-def knows(port: int, slots: list[int], id_: str) -> bool:
+def knows(it: Cluster, port: int, slots: list[int], id_: str) -> bool:
     """Whether the server at a port knows who has the slots; one that does not answer hears of it when it is back."""
     try:
-        with Node(port, 5) as node:
-            return any(it.id == id_ and all(it.has(slot) for slot in slots) for it in node.seen())
+        with it.node(port, 5) as node:
+            return any(seen.id == id_ and all(seen.has(slot) for slot in slots) for seen in node.seen())
     except ToolError:
         return True
 
@@ -142,7 +143,7 @@ def slots_of(words: list[str]) -> list[int]:
 
 
 def move_slots(args: argparse.Namespace) -> int:
-    move = Move(os.path.realpath(args.folder))
+    it, move = cluster_of(args.folder), Move(os.path.realpath(args.folder))
     if args.words and move.facts:
         raise ToolError(f"a move was broken off: pinkctl cluster move-slots {args.folder} without further words ends it", Exit.EXISTS)
     if not args.words and not move.facts:
@@ -150,43 +151,60 @@ def move_slots(args: argparse.Namespace) -> int:
     if args.words:
         if len(args.words) < 3 or not all(it.isdigit() for it in args.words[:2]):
             raise ToolError("name the port of the source, that of the target, and slots", Exit.USAGE)
-        begin(move, int(args.words[0]), int(args.words[1]), slots_of(args.words[2:]))
-    return go_on(move)
+        begin(it, move, int(args.words[0]), int(args.words[1]), slots_of(args.words[2:]))
+    return go_on(it, move)
 
 
-def begin(move: Move, source_port: int, target_port: int, slots: list[int]) -> None:
-    with Node(source_port) as source, Node(target_port) as target:
+def learn(it: Cluster, port: int) -> None:
+    """Where the servers are now, as the first that answers says, of those of this machine at first."""
+    for known in dict.fromkeys([*(member.port for member in it.own), port]):
+        try:
+            with it.node(known, 5) as node:
+                return it.learn(node.seen())
+        except ToolError:
+            continue
+
+
+def begin(it: Cluster, move: Move, source_port: int, target_port: int, slots: list[int]) -> None:
+    learn(it, source_port)
+    with it.node(source_port) as source, it.node(target_port) as target:
         for node in (source, target):
             if node.info("replication")["role"] != "master":
-                raise ToolError(f"the server at port {node.port} is no primary", Exit.USAGE)
-        id_ = source.id()
-        missing = [slot for slot in slots if not has_slot(source, slot, id_)]
+                raise ToolError(f"the server at {node.place} is no primary", Exit.USAGE)
+        missing = [slot for slot in slots if not may_move(source, slot, (source.id(), target.id()))]
     if missing:
-        raise ToolError(f"the server at port {source_port} does not have slot {missing[0]}", Exit.USAGE)
+        raise ToolError(f"the server at {source.place} does not have slot {missing[0]}", Exit.USAGE)
     if source_port == target_port:
         raise ToolError("the source and the target are one server", Exit.USAGE)
     move.write(source_port, target_port, slots)
 
 
-def primary_at(port: int) -> Node:
+def may_move(source: Node, slot: int, ids: tuple[str, str]) -> bool:
+    """Whether the source has the slot, or gave it to this target in a move whose machine was lost."""
+    return has_slot(source, slot, ids[0]) or has_slot(source, slot, ids[1])
+
+
+def primary_at(it: Cluster, port: int) -> Node:
     """The server at a port, or, if it has become a replica, its primary."""
-    node = Node(port)
+    node = it.node(port)
     seen = node.seen()
-    own = next(it for it in seen if "myself" in it.flags)
+    it.learn(seen)
+    own = next(line for line in seen if "myself" in line.flags)
     if own.primary is None:
         return node
     node.close()
-    return Node(next(it.port for it in seen if it.id == own.primary))
+    return it.node(next(line.port for line in seen if line.id == own.primary))
 
 
-def go_on(move: Move) -> int:
+def go_on(it: Cluster, move: Move) -> int:
     moved, longest = 0, 0.0
-    with primary_at(move.facts["source"]) as source, primary_at(move.facts["target"]) as target:
+    learn(it, move.facts["source"])
+    with primary_at(it, move.facts["source"]) as source, primary_at(it, move.facts["target"]) as target:
         ids = source.id(), target.id()
         for slot in move.facts["slots"]:
             keys, paused = move_slot(source, target, slot, ids)
             moved, longest = moved + keys, max(longest, paused)
-        wait_until_known(target, move.facts["slots"], ids[1])
+        wait_until_known(it, target, move.facts["slots"], ids[1])
     move.end()
     print(f"{len(move.facts['slots'])} slots moved, {moved} keys; writes were paused for at most {1000 * longest:.0f} ms")
     return Exit.OK

@@ -1,12 +1,15 @@
 """Servers of a cluster: a client of Redis' protocol, and what a server says of itself and of the others."""
 
 import socket
+from hashlib import blake2b
 from typing import Any, Iterator, NamedTuple, Optional
 
 from .status import Exit, ToolError
 
 SLOTS = 16384
 HOST = "127.0.0.1"
+CONNECT_SECONDS = 5.0
+"""A machine that is not there answers nothing."""
 
 
 class Refused(ToolError):
@@ -16,17 +19,29 @@ class Refused(ToolError):
         super().__init__(text, Exit.REFUSED)
 
 
-class Node:
-    """A connection to the server at a port of this machine."""
+def place(port: int, host: str) -> str:
+    """Where a server is, for people."""
+    return f"port {port}" if host == HOST else f"{host}:{port}"
 
-    def __init__(self, port: int, seconds: float = 60) -> None:
-        self.port = port
+
+class Node:
+    """A connection to the server at a port, of this machine if no address is named."""
+
+    def __init__(self, port: int, seconds: float = 60, host: str = HOST, password: Optional[str] = None) -> None:
+        self.port, self.host, self.place = port, host, place(port, host)
         try:
-            self.socket = socket.create_connection((HOST, port), seconds)
+            self.socket = socket.create_connection((host, port), min(seconds, CONNECT_SECONDS))
         except OSError as fault:
-            raise ToolError(f"the server at port {port} does not answer: {fault.strerror or fault}", Exit.PROGRAM) from None
+            raise ToolError(f"the server at {self.place} does not answer: {fault.strerror or fault}", Exit.PROGRAM) from None
+        self.socket.settimeout(seconds)
         self.socket.setsockopt(socket.IPPROTO_TCP, socket.TCP_NODELAY, 1)
         self.file = self.socket.makefile("rb")
+        if password is not None:
+            try:
+                self.do("AUTH", password)
+            except ToolError:
+                self.close()
+                raise
 
     def close(self) -> None:
         self.file.close()
@@ -49,10 +64,10 @@ class Node:
         except OSError:
             line = b""
         if not line.endswith(b"\r\n"):
-            raise ToolError(f"the server at port {self.port} has ended", Exit.PROGRAM)
+            raise ToolError(f"the server at {self.place} has ended", Exit.PROGRAM)
         kind, rest = line[:1], line[1:-2]
         if kind == b"-":
-            raise Refused(f"port {self.port}: {rest.decode('utf-8', 'replace')}")
+            raise Refused(f"{self.place}: {rest.decode('utf-8', 'replace')}")
         if kind == b"+":
             return rest.decode()
         if kind == b":":
@@ -67,7 +82,7 @@ class Node:
         try:
             self.send(*words)
         except OSError:
-            raise ToolError(f"the server at port {self.port} has ended", Exit.PROGRAM) from None
+            raise ToolError(f"the server at {self.place} has ended", Exit.PROGRAM) from None
         return self.reply()
 
     def many(self, requests: list[tuple[Any, ...]]) -> list[Any]:
@@ -90,7 +105,11 @@ class Node:
         return self.do("CLUSTER", "MYID").decode()
 
     def is_ok(self) -> bool:
-        return b"cluster_state:ok" in self.do("CLUSTER", "INFO")
+        return not self.is_loading() and b"cluster_state:ok" in self.do("CLUSTER", "INFO")
+
+    def is_loading(self) -> bool:
+        """Whether a copy of its primary's drive comes in; then nothing else is answered."""
+        return self.info("persistence").get("loading") == "1"
 
     def seen(self) -> "list[Seen]":
         """The servers that it knows, and their slots."""
@@ -104,10 +123,14 @@ class Node:
             if cursor == b"0":
                 return
 
-    def contents(self) -> dict[bytes, Optional[bytes]]:
-        """All keys and values."""
-        names = list(self.keys())
-        return dict(zip(names, self.many([("PINK.VALUE", it) for it in names])))
+    def digests(self, names: list[bytes]) -> dict[bytes, Optional[bytes]]:
+        """A digest of the value of each of these keys; None for one that is not there."""
+        found: dict[bytes, Optional[bytes]] = {}
+        for at in range(0, len(names), 100):
+            part = names[at : at + 100]
+            values = self.many([("PINK.VALUE", it) for it in part])
+            found |= {key: None if value is None else blake2b(value, digest_size=16).digest() for key, value in zip(part, values)}
+        return found
 
 
 class Seen(NamedTuple):
@@ -119,9 +142,14 @@ class Seen(NamedTuple):
     primary: Optional[str]
     is_linked: bool
     slots: list[tuple[int, int]]
+    host: str = HOST
 
     def is_primary(self) -> bool:
         return "master" in self.flags
+
+    def is_there(self) -> bool:
+        """Whether it answers, as the other one knows. A link that is only being made counts as connected."""
+        return "myself" in self.flags or self.is_linked and not {"fail", "fail?", "handshake", "noaddr"} & {*self.flags}
 
     def has(self, slot: int) -> bool:
         return any(first <= slot <= last for first, last in self.slots)
@@ -130,10 +158,11 @@ class Seen(NamedTuple):
 def seen_of(line: str) -> Seen:
     """A line of CLUSTER NODES."""
     words = line.split()
-    port = int(words[1].split("@")[0].rpartition(":")[2])
+    host, _, port = words[1].split("@")[0].rpartition(":")
     ranges = [it.split("-") for it in words[8:] if not it.startswith("[")]
     slots = [(int(it[0]), int(it[-1])) for it in ranges]
-    return Seen(words[0], port, words[2].split(","), None if words[3] == "-" else words[3], words[7] == "connected", slots)
+    primary = None if words[3] == "-" else words[3]
+    return Seen(words[0], int(port), words[2].split(","), primary, words[7] == "connected", slots, host or HOST)
 
 
 def owner(nodes: list[Seen], slot: int) -> Optional[Seen]:
