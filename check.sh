@@ -53,6 +53,7 @@ logs() { check test_log python_tests test_log.py; }
 
 clients() {
     for test in test_pinkdrive test_pinkctl test_pinkmirror test_serve; do check "$test" python_tests "$test.py"; done
+    check "the generated workload" quiet sh bench/gen.sh
     if [ -d clients/c ]; then
         if command -v cc >/dev/null; then check "client in C" c_tests; else echo "client in C: skipped, there is no cc"; fi
     fi

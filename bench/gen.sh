@@ -2,7 +2,7 @@
 # Runs the generated workload on fresh images of shape (4096, 64, 512), twice, with the built program: both runs have to end with 0 and to
 # print the same summary, and the keys and live pages that `stat` prints have to be those of the summary. The program serves the same
 # commands as a script, too (bench/reads.py writes them): `gen` commits in groups as `serve` does, so both images have to be the same, byte
-# for byte. If strace is installed, the script prints the programs and erases of the second run. It is not part of the gate.
+# for byte. If strace is installed, the script prints the programs and erases of the second run. The gate runs it.
 #
 #   bench/gen.sh [SEED [COUNT]]     gen 7 100000 by default
 set -eu
@@ -27,10 +27,7 @@ run() { # the name of the run, and what is put before the program
 run first
 if command -v strace >/dev/null; then
     run second strace -f -o "$folder/trace" -e trace=pwrite64
-    # the last write of a program sets the page's state byte to 1, that of an erase sets those of the block to 0
-    programs=$(grep -c '"\\1", 1, [0-9]*) *= 1$' "$folder/trace" || true)
-    erases=$(grep -c ', 64, [0-9]*) *= 64$' "$folder/trace" || true)
-    echo "programs $programs, erases $erases"
+    python3 "$top/bench/states.py" "$folder/trace" 32768 64
 else
     run second
 fi

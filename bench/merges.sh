@@ -11,8 +11,9 @@ folder=$(mktemp -d)
 trap 'rm -rf "$folder"' EXIT
 
 "$top/pink" "$folder/drive.img" make 4096 64 512
-python3 - "$top/crates/pink/out/pink" "$folder" "${1:-11500}" <<'PY'
-import os, re, shutil, struct, subprocess, sys, time
+PYTHONPATH=$top/bench python3 - "$top/crates/pink/out/pink" "$folder" "${1:-11500}" <<'PY'
+import os, shutil, struct, subprocess, sys, time
+from states import counted
 
 program, folder, keys = sys.argv[1], sys.argv[2], int(sys.argv[3])
 STORE, RETRIEVE, REPORT, SIZE, RECORD = 0x01, 0x02, 0xc2, 1000, 24
@@ -62,10 +63,7 @@ if shutil.which('strace'):
     shutil.move(image, done)
     shutil.copy(image + '.made', image)
     serve(stores, 36, ['strace', '-f', '-o', trace, '-e', 'trace=pwrite64'])
-    calls = open(trace).read()
-    # the last write of a program sets the page's state byte to 1, that of an erase sets those of the block to 0
-    programs = len(re.findall(r'"\\1", 1, \d+\)', calls))
-    erases = len(re.findall(r'pwrite64\(\d+, .*?, 64, \d+\)', calls))
+    programs, erases = (sum(it) for it in zip(*(counted(line, 64 * 512, 64) for line in open(trace, errors='replace'))))
     print('  programs of a Store: %.3f; erases: %.3f; flash operations: %.2f' % (programs / keys, erases / keys, (programs + erases + sum(reads)) / keys))
     shutil.move(done, image)
 for frames in (36, 0):

@@ -58,6 +58,10 @@ planted "a script that does not parse" 'launch/why.sh' ./check.sh
 mkdir -p crates/pink/out
 ln -s /bin/false crates/pink/out/pink
 planted "a program that fails its clients' tests" 'test_pinkdrive: see above' ./check.sh --gate
+rm crates/pink/out/pink
+printf '#!/bin/sh\n[ "$2" = make ] && : >"$1"\necho "most $$"\n' >crates/pink/out/pink
+chmod +x crates/pink/out/pink
+planted "a workload whose second run differs" 'differ' sh bench/gen.sh
 rm -rf crates/pink/out
 planted "a gate without the program" 'the program: see above' ./check.sh --gate
 echo "$count faults planted, and found"

@@ -12,8 +12,9 @@ folder=$(mktemp -d)
 trap 'rm -rf "$folder"' EXIT
 
 "$top/pink" "$folder/made.img" make 4096 64 512
-python3 - "$top/crates/pink/out/pink" "$folder" "${1:-20000}" <<'PY'
+PYTHONPATH=$top/bench python3 - "$top/crates/pink/out/pink" "$folder" "${1:-20000}" <<'PY'
 import os, random, re, shutil, struct, subprocess, sys, time
+from states import counted
 
 program, folder, stores = sys.argv[1], sys.argv[2], int(sys.argv[3])
 STORE, FLUSH, TICK, REPORT, SIZE, RECORD, PAGE = 0x01, 0x00, 0xc0, 0xc2, 1000, 24, 4096
@@ -54,11 +55,8 @@ def calls_between_posts():
     for line in open(trace, errors='replace'):
         if re.search(r'\bwrite\(1,', line):
             longest, now = max(longest, now), 0
-        # the last write of a program sets the page's state byte to 1, that of an erase sets those of the block to 0
-        if re.search(r'"\\1", 1, \d+\)', line):
-            programs, now = programs + 1, now + 1
-        elif re.search(r'pwrite64\(\d+, .*, 64, \d+\)', line):
-            erases, now = erases + 1, now + 1
+        made, cleared = counted(line, 64 * 512, 64)
+        programs, erases, now = programs + made, erases + cleared, now + made + cleared
     return programs, erases, longest
 
 shutil.copy(os.path.join(folder, 'made.img'), image)
