@@ -17,12 +17,11 @@ import threading
 import time
 
 import cluster as base
-from cluster import CLIENTS, LONG, SHORT, TOP, Cluster, Link, Router, a_move, broken_move, check, check_moved, fail_over, pinkctl, slot_of, try_moves, until, with_writers
+from cluster import CLIENTS, LONG, SHORT, Cluster, Link, Router, a_move, broken_move, check, check_moved, fail_over, pinkctl, slot_of, try_moves, until, with_writers
 from servers import Error, module, skip_without
 
 sys.path.insert(0, CLIENTS)
 from pinkctl.nodes import Node  # noqa: E402
-from pinkctl.status import ToolError  # noqa: E402
 
 PORT, PASSWORD = 7400, 'a-password-of-these-tests'
 

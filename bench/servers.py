@@ -28,7 +28,7 @@ def skip_without(*tools):
     signal.signal(signal.SIGTERM, lambda *_: sys.exit(143))
     for tool in tools:
         if not shutil.which(tool):
-            print(f'skipped: there is no {tool} (apt-get install redis-server redis-tools gcc make)')
+            print(f'skipped: there is no {tool} (apt-get install redis-server redis-tools gcc make iproute2)')
             sys.exit(0)
 
 

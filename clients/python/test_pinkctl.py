@@ -1129,12 +1129,13 @@ class Cluster(OnImage):
         self.assertEqual(asked, [])
 
     def test_where_servers_are_now(self):
-        self.make("store")
-        it = members.Cluster(self.path("store"))
-        it.learn([self.LOST, self.LOST._replace(port=7401, flags=["slave"], host="127.0.0.9")])
-        self.assertEqual((it.hosts[7402], it.hosts[7401]), ("127.0.0.4", "127.0.0.9"))
-        it.learn([self.LOST, self.LOST._replace(flags=["slave"], host="127.0.0.8"), self.LOST._replace(flags=["fail"], host="127.0.0.7")])
-        self.assertEqual(it.hosts[7402], "127.0.0.8")
+        self.make("127.0.0.2", *self.on_hosts("--here", "127.0.0.2"))
+        it = members.Cluster(self.path("127.0.0.2"))
+        elsewhere = self.LOST._replace(flags=["slave"])
+        it.learn([self.LOST._replace(host="127.0.0.5"), elsewhere._replace(port=7401, host="127.0.0.9")])
+        self.assertEqual((it.hosts[7402], it.hosts[7401]), ("127.0.0.5", "127.0.0.9"))
+        it.learn([self.LOST, elsewhere._replace(host="127.0.0.8"), self.LOST._replace(host="127.0.0.7"), self.LOST._replace(port=7405)])
+        self.assertEqual((it.hosts[7402], it.hosts[7405]), ("127.0.0.8", "127.0.0.2"))
 
 
 class TheWhole(OnImage):

@@ -11,10 +11,11 @@ import signal
 import subprocess
 import sys
 import time
-from typing import Callable, NamedTuple, Optional
+from typing import NamedTuple, Optional
 
 from .join import join, join_machines, own_line
-from .members import SECRET, Cluster, Member, addresses, is_here, members_of, new_password, own_address, shares, spread, weak_machines, with_voter, write_facts, write_password
+from .members import SECRET, Cluster, Member, addresses, is_here, members_of, new_password, own_address, spread
+from .members import weak_machines, with_voter, write_facts, write_password
 from .moves import add_move_parser
 from .nodes import HOST, SLOTS, Node, Seen
 from .program import TOP, make_image, pink

@@ -69,7 +69,7 @@ class Cluster:
 
     def learn(self, seen: list[Seen]) -> None:
         """Where the servers are now: a machine may have been replaced by one with another address."""
-        for found in ([it for it in seen if "noaddr" not in it.flags], [it for it in seen if it.is_there()]):
+        for found in ([it for it in seen if "noaddr" not in it.flags], [it for it in seen if it.is_there()], self.own):
             self.hosts |= {it.port: it.host for it in found}
 
     def answering(self, members: list[Member]) -> dict[int, Node]:
