@@ -13,10 +13,10 @@ counts for an edit only if the prover names a goal of the function that this edi
   --minutes N         begins no check after so many minutes
   --libraries FOLDER  takes the libraries of another checkout, if the crates below have the same sources there
 
-It prints a table (crate, edit, whether it was refused, the kind of its first goal, this goal) and how many were tried, refused and
-accepted, and ends with 0 only if each was refused. The kinds: `clause`, what the function promises; `condition`, what a call in it asks
-for; `invariant`, of a loop or a type; `safety`, a range, a bound or an end; `names`, only names of its proof are gone; `limit`, the prover
-gave up.
+It prints a table (crate, edit, whether it was refused, a goal that stays open, its kind) and how many were tried, refused and accepted, and
+ends with 0 only if each was refused. Of several goals it names the first that is a clause, or else the first. The kinds: `clause`, what the
+function promises; `condition`, what a call in it asks for; `invariant`, of a loop or a type; `safety`, a range, a bound or an end; `names`,
+only names of its proof are gone; `limit`, the prover gave up.
 """
 from __future__ import annotations
 
@@ -185,7 +185,7 @@ def lines_of(edit: Edit, told: list[str], starts: dict[str, list[int]]) -> list[
             first = max((it for it in starts.get(at[1], [1]) if it <= int(at[2])), default=1)
             if (at[1], first) in edit.places:
                 found.append(line)
-        elif at[1].startswith("proofs/") and set(at[1].split("/")[:-1]) & edit.functions:
+        elif at[1].startswith("proofs/") and at[1].split("/")[-2] in edit.functions:
             found.append(line)
     return found
 
@@ -202,9 +202,10 @@ def judged(edit: Edit, status: int, lines: list[str], starts: dict[str, list[int
         return Verdict(edit, "ACCEPTED", "-", "the crate is proved with it")
     if not alone and said and all(it.endswith(": proved") for it in said):
         return None
-    goals = [it for it in own if not NAMES.match(it)]
+    goals = [goal_of(it) for it in own if not NAMES.match(it) and "which was rejected" not in it]
     if goals:
-        return Verdict(edit, "refused", kind_of(goal_of(goals[0])), goal_of(goals[0]))
+        first = next((it for it in goals if kind_of(it) == "clause"), goals[0])
+        return Verdict(edit, "refused", kind_of(first), first)
     if not alone:
         return None
     if status == 1 and own:
@@ -323,7 +324,7 @@ def main() -> int:
         jobs = [pool.submit(tried, checker, it, left[it], lambda: time.monotonic() > end, tell) for it in largest]
         for job in jobs:
             job.result()
-    print("| crate | edit | answer | kind | first goal |\n|---|---|---|---|---|")
+    print("| crate | edit | answer | kind | goal |\n|---|---|---|---|---|")
     told = [rows[crate, it.name].split("\t") for crate, edits in all_edits.items() for it in edits if (crate, it.name) in rows]
     for row in told:
         print(f"| `{row[0]}` | `{row[1]}` | {row[2]} | {row[3]} | `{row[4]}` |")
