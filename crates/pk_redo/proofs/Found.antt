@@ -1,6 +1,6 @@
 -- A log as it is found beside an image.
 use Rattle.std.proofs.Common.{◌≡◌, ◌≢◌, ℕ, ◌+◌, ◌-◌, ◌<◌, ◌≤◌, List, [], ◌∷◌, length, take}
-use Rattle.std.proofs.Common.{drop, slice_index, slice_range, sym, ◌∙◌, ap, inl, inr, arith, zero-add, ext_get_or, get_or-take, get_or-drop}
+use Rattle.std.proofs.Common.{drop, slice_index, slice_range, subst, sym, ◌∙◌, ap, inl, inr, arith, zero-add, ext_get_or, get_or-take, get_or-drop}
 use Rattle.std.proofs.lemmas.List.{length-take-le}
 use Rattle.sqlite_disk.specs.Disk.{Holds}
 use Rattle.pk_image.specs.Image.{state_place}
@@ -9,8 +9,9 @@ use Rattle.pk_redo.specs.declared.batch.TheConstants.{OPEN, FIRST_BATCH}
 use Rattle.pk_redo.specs.Bytes.{bytes_at}
 use Rattle.pk_redo.specs.Log.{IsBatch, Walks, LogHolds, body_at}
 use Rattle.pk_redo.specs.Record.{RecordFits, RecordedAs, said}
-use Rattle.pk_redo.specs.Image.{BelongTo}
+use Rattle.pk_redo.specs.Image.{BelongTo, BatchesSay}
 use Rattle.pk_redo.proofs.Tables.{said_page}
+use Rattle.pk_redo.proofs.Stepping.{steps_read_once}
 
 -- the head of an image is its header and the states of its pages
 module _ (image head : List ℕ) (n : ℕ) (holds : Holds image 0 head) (sized : length head ≡ 32 + n) where
@@ -38,6 +39,21 @@ recorded_belongs shape (first ∷ later) marks image header states same is own =
       same_header = own.same_header ∙ same;
       same_states = λ k low not. own.same_states k low not ∙ ap said (is k low) ∙ sym (said_page (slice_index image (state_place k)) _);
     }
+
+pub belongs_recorded : (shape : Shape) (batches : List (List ℕ)) (marks : List Mark) (image header states : List ℕ) → header ≡ take 32 image
+    → ((k : ℕ) → k < page_count shape → slice_index states k ≡ slice_index image (state_place k)) → BelongTo shape batches marks image → RecordedAs shape batches header states marks
+belongs_recorded shape [] marks image header states same is own = tt
+belongs_recorded shape (first ∷ later) marks image header states same is own =
+    record {
+      size = own.size;
+      same_header = own.same_header ∙ sym same;
+      same_states = λ k low not. own.same_states k low not ∙ said_page (slice_index image (state_place k)) _ ∙ sym (ap said (is k low));
+    }
+
+-- batches say one list of steps
+pub says_once : (shape : Shape) (batches : List (List ℕ)) (one other : List Mark) → BatchesSay shape batches one → BatchesSay shape batches other → one ≡ other
+says_once shape [] one other this that = this ∙ sym that
+says_once shape (first ∷ later) one other this that = steps_read_once shape later one other this that
 
 -- ---- the first batch of a log
 
@@ -68,3 +84,13 @@ module _ (shape : Shape) (log header states : List ℕ) (marks : List Mark) wher
   pub first_there : (batches : List (List ℕ)) → IsBatch log FIRST_BATCH → RecordFits shape (body_at log FIRST_BATCH) header (λ k. said (slice_index states k)) marks
       → LogHolds log batches → RecordedAs shape batches header states marks
   first_there batches some own holds = elim holds [ inl o ↦ own_first batches FIRST_BATCH o.end some own o.walks o.last | inr s ↦ rw s.1 tt ]
+
+  record_first : (batches : List (List ℕ)) (at end : ℕ) → IsBatch log at → Walks log at batches end → ¬ IsBatch log end → RecordedAs shape batches header states marks
+      → RecordFits shape (body_at log at) header (λ k. said (slice_index states k)) marks
+  record_first [] at end some walks last own = absurd (last (subst (IsBatch log) walks some))
+  record_first (b ∷ bs) at end some walks last own = subst (λ (bytes : List ℕ). RecordFits shape bytes header (λ k. said (slice_index states k)) marks) walks.1 own
+
+  -- an open log that has one begins with it
+  pub first_recorded : (batches : List (List ℕ)) → slice_index log 0 ≡ OPEN → IsBatch log FIRST_BATCH → LogHolds log batches → RecordedAs shape batches header states marks
+      → RecordFits shape (body_at log FIRST_BATCH) header (λ k. said (slice_index states k)) marks
+  first_recorded batches opened some holds own = elim holds [ inl o ↦ record_first batches FIRST_BATCH o.end some o.walks o.last own | inr s ↦ absurd (s.0 opened) ]

@@ -120,6 +120,13 @@ sets_either shape (x ∷ xs) mark k sets =
 pub set_apart : (set : List Bool) (k page : ℕ) → get_or set k false ≡ false → get_or set page false ≡ true → k ≢ page
 set_apart set k page not is same = let both : false ≡ true = sym not ∙ ap (λ (n : ℕ). get_or set n false) same ∙ is in cc
 
+-- a page is set, or it is not
+pub lacks_or_not : (set : List Bool) (k : ℕ) → (get_or set k false ≡ true) ⊎ (get_or set k false ≡ false)
+lacks_or_not [] k = inr refl
+lacks_or_not (true ∷ set) zero = inl refl
+lacks_or_not (false ∷ set) zero = inr refl
+lacks_or_not (x ∷ set) (suc k) = lacks_or_not set k
+
 -- a page that is set is one of them
 pub set_within : (set : List Bool) (k : ℕ) → get_or set k false ≡ true → k < length set
 set_within [] k is = absurd (let clash : false ≡ true = is in cc)

@@ -49,6 +49,14 @@ zeros_later b at n (suc k) =
     let here : n + suc k ≡ suc (n + k) = omega arith in
     rw here (omega (arith, zeros-suc b at (n + k), zeros_later b at n k, bit_le (slice_index b (at + (n + k)))))
 
+-- the zeros of n bytes, and of k after them
+pub zeros_split : (b : List ℕ) (at n k : ℕ) → zeros_in b at (n + k) ≡ zeros_in b at n + zeros_in b (at + n) k
+zeros_split b at n zero = let none : n + 0 ≡ n = omega arith in omega (arith, ap (zeros_in b at) none, zeros-none b (at + n))
+zeros_split b at n (suc k) =
+    let here : n + suc k ≡ suc (n + k) = omega arith in
+    let place : at + (n + k) ≡ at + n + k = omega arith in
+    rw here (omega (arith, zeros-suc b at (n + k), zeros_split b at n k, zeros-suc b (at + n) k, ap (λ (p : ℕ). bit (slice_index b p)) place))
+
 -- the same bytes have the same zeros
 pub same_zeros : (x y : List ℕ) (a b n : ℕ) → ((i : ℕ) → i < n → slice_index x (a + i) ≡ slice_index y (b + i)) → zeros_in x a n ≡ zeros_in y b n
 same_zeros x y a b zero h = zeros-none x a ∙ sym (zeros-none y b)

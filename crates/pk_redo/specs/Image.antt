@@ -23,6 +23,11 @@ pub record SameButSet (shape : Shape) (marks : List Mark) (base file : List ℕ)
 abbrev pub AllSameBut : {D : Type 0} → Ghosts D → D → Shape → List Mark → List ℕ → Type 0
 AllSameBut g image shape marks base = AtEachCrash g image (λ c. SameButSet shape marks base c)
 
+-- Each extent says of a page how many bytes at its place may differ from zero: zeros follow them.
+abbrev pub ZerosAfterExtents : Shape → List ℕ → List ℕ → Type 0
+ZerosAfterExtents shape extents file =
+    (k i : ℕ) → k < page_count shape → slice_index extents k ≤ i → i < shape.page_bytes → slice_index file (page_place shape k + i) ≡ 0
+
 -- the state of a page of an image
 abbrev pub state_of_page : Shape → List ℕ → ℕ → ℕ
 state_of_page shape image k = state_byte (page_in_file shape image k)

@@ -12,7 +12,7 @@ use Rattle.pk_redo.specs.declared.redo_log.RedoLog.{RedoLog}
 use Rattle.pk_redo.specs.Log.{LogHolds, AtEachCrash}
 use Rattle.pk_redo.specs.declared.replay.Replay.{Replay}
 use Rattle.pk_redo.specs.Steps.{AreSteps, Sets, step_marks}
-use Rattle.pk_redo.specs.Image.{AllSameBut, LogSays, LogStands, ReadAs, BatchesSay, BelongTo, flash_after}
+use Rattle.pk_redo.specs.Image.{AllSameBut, LogSays, LogStands, ReadAs, BatchesSay, BelongTo, ZerosAfterExtents, flash_after}
 
 -- the steps that were read of a log
 abbrev pub replay_marks : Shape → Replay → List Mark
@@ -47,6 +47,7 @@ pub record KeepsPages {D : Type 0} (g : Ghosts D) (redo : RedoLog D g) (kept now
   pub is_now : after_all redo.shape later kept ≡ now
   pub lacking : (k : ℕ) → is_lacking redo k ≡ true → Sets redo.shape (marks ++ later) k
   pub others : (k : ℕ) → k < page_count redo.shape → is_lacking redo k ≡ false → page_in_file redo.shape (g.seen redo.image) k ≡ page_at now k
+  pub zeros : ZerosAfterExtents redo.shape redo.extents.items (g.seen redo.image)
 
 -- whatever a crash leaves of both files, it is read as one of these two
 abbrev pub EitherRead : {D : Type 0} → (g : Ghosts D) → RedoLog D g → Flash → Flash → Type 0

@@ -39,6 +39,25 @@ pub(crate) fn put_number(bytes: &mut [u8], at: usize, number: u32)
     put_u32(bytes, at, number);
 }
 
+/// Bytes whose zeros are counted in a byte, so that the machine takes many bytes at a time.
+const COUNTED_BYTES: usize = 240;
+
+/// How many of a few bytes from a place on are 0.
+fn count_few(bytes: &[u8], at: usize, len: usize) -> u8
+    requires within { at + len ≤ length bytes.now }
+    requires few { len ≤ COUNTED_BYTES }
+    ensures value { result ≡ zeros_in bytes.now at len }
+    ensures few { result ≤ len }
+{
+    let mut count = 0u8;
+    for i in 0..len {
+        if bytes[at + i] == 0 {
+            count += 1;
+        }
+    }
+    count
+}
+
 /// How many of `len` bytes from a place on are 0.
 fn count_zeros(bytes: &[u8], at: usize, len: usize) -> usize
     requires { at + len ≤ length bytes.now }
@@ -46,10 +65,11 @@ fn count_zeros(bytes: &[u8], at: usize, len: usize) -> usize
     ensures few { result ≤ len }
 {
     let mut count = 0;
-    for i in 0..len {
-        if bytes[at + i] == 0 {
-            count += 1;
-        }
+    let mut done = 0;
+    while done < len {
+        let more = COUNTED_BYTES.min(len - done);
+        count += count_few(bytes, at + done, more) as usize;
+        done += more;
     }
     count
 }

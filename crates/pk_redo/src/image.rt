@@ -1,4 +1,4 @@
-//! The image beside its log: what a barrier promises of both, what a checkpoint writes, and its end.
+//! The image beside its log: what a barrier promises of both, writes to the image, and the end of a checkpoint.
 ghost use Rattle.std.specs.Prelude.{◌≡◌, ◌⊎◌, ◌+◌, ◌^◌, ◌<◌, ◌≤◌, ℕ, List, [], ◌∷◌, ◌++◌, length, slice_index, get_or, drop, true, false, OnOk, IsTrue};
 ghost use Rattle.sqlite_disk.specs.Disk.{Holds, Torn, Only};
 ghost use Rattle.pk_base.specs.Shape as spec;
@@ -13,8 +13,7 @@ ghost use Rattle.pk_redo.specs.Image.{SameButSet, AllSameBut, BelongTo, LogSays,
 
 use crate::batch::{BATCH_HEAD, FIRST_BATCH};
 use crate::log::{commit, reset, shut};
-use crate::record::is_set;
-use pk_base::{Shape, put_text, put_zeros};
+use pk_base::Shape;
 use pk_image::{PageTag, page_at, state_at};
 use sqlite_disk::Disk;
 use std::io;
@@ -99,59 +98,11 @@ pub fn put_page<D: Disk>(image: &mut D, shape: &Shape, page: u32, front: &[u8]) 
         → SameButSet shape.now marks base (D.Disk.seen image.new) }
     ensures written { OnOk result (0 < length front.now
         → Holds (D.Disk.seen image.new) (page_place shape.now page) front.now) }
+    ensures torn { Torn (page_place shape.now page) (length front.now)
+        (D.Disk.seen image.old) (D.Disk.seen image.new) }
     ensures usable { IsTrue (D.Disk.is_usable image.new) }
 {
     image.write_at(page_at(shape, page) as usize, front)
-}
-
-/// Writes a Whole page. It counts as Torn until all its bytes are written, for a reader of the
-/// image without its log.
-fn put_whole<D: Disk>(image: &mut D, shape: &Shape, page: u32, bytes: &[u8]) -> io::Result<()>
-    requires usable { IsTrue (D.Disk.is_usable image.old) }
-    requires exists { page < spec.page_count shape.now }
-    requires full { length bytes.now ≡ shape.now.page_bytes }
-    ensures crash { (marks : List Mark) (base : List ℕ) → Sets shape.now marks page
-        → AllSameBut D.Disk image.old shape.now marks base
-        → AllSameBut D.Disk image.new shape.now marks base }
-    ensures seen { (marks : List Mark) (base : List ℕ) → Sets shape.now marks page
-        → SameButSet shape.now marks base (D.Disk.seen image.old)
-        → SameButSet shape.now marks base (D.Disk.seen image.new) }
-    ensures own { OnOk result (page_in_file shape.now (D.Disk.seen image.new) page
-        ≡ page_by (byte_of PageTag.Whole) bytes.now) }
-    ensures usable { IsTrue (D.Disk.is_usable image.new) }
-{
-    shape.known();
-    put_states(image, shape, page, &[PageTag::Torn.byte()])?;
-    put_page(image, shape, page, bytes)?;
-    put_states(image, shape, page, &[PageTag::Whole.byte()])
-}
-
-/// Writes a page of this state. The bytes matter if it is Whole, and otherwise the file's stay.
-fn put_cell<D: Disk>(
-    image: &mut D,
-    shape: &Shape,
-    page: u32,
-    tag: PageTag,
-    bytes: &[u8],
-) -> io::Result<()>
-    requires usable { IsTrue (D.Disk.is_usable image.old) }
-    requires exists { page < spec.page_count shape.now }
-    requires full { length bytes.now ≡ shape.now.page_bytes }
-    ensures crash { (marks : List Mark) (base : List ℕ) → Sets shape.now marks page
-        → AllSameBut D.Disk image.old shape.now marks base
-        → AllSameBut D.Disk image.new shape.now marks base }
-    ensures seen { (marks : List Mark) (base : List ℕ) → Sets shape.now marks page
-        → SameButSet shape.now marks base (D.Disk.seen image.old)
-        → SameButSet shape.now marks base (D.Disk.seen image.new) }
-    ensures own { OnOk result (page_in_file shape.now (D.Disk.seen image.new) page
-        ≡ page_by (byte_of tag) bytes.now) }
-    ensures usable { IsTrue (D.Disk.is_usable image.new) }
-{
-    match tag {
-        PageTag::Whole => put_whole(image, shape, page, bytes),
-        PageTag::Erased => put_states(image, shape, page, &[PageTag::Erased.byte()]),
-        PageTag::Torn => put_states(image, shape, page, &[PageTag::Torn.byte()]),
-    }
 }
 
 /// The pages in memory.
@@ -171,56 +122,6 @@ pub trait Pages {
         ensures short { length result.now ≤ (shape_of self.now).page_bytes }
         ensures page { (own : List ℕ) → page_at (flash_of self.now) page ≡ whole own
             → own ≡ padded (shape_of self.now).page_bytes result.now };
-}
-
-/// Makes a page of its front and zeros.
-fn fill(buffer: &mut [u8], front: &[u8])
-    requires { length front.now ≤ length buffer.old }
-    ensures { buffer.new ≡ padded (length buffer.old) front.now }
-{
-    put_text(buffer, 0, front);
-    put_zeros(buffer, front.len(), buffer.len());
-}
-
-/// Writes the pages that the image may lack.
-pub fn checkpoint<D: Disk, P: Pages>(
-    image: &mut D,
-    shape: &Shape,
-    pages: &P,
-    lacks: &Vec<bool>,
-    buffer: &mut [u8],
-) -> io::Result<()>
-    requires usable { IsTrue (D.Disk.is_usable image.old) }
-    requires shape { P.shape_of pages.now ≡ shape.now }
-    requires buffer { length buffer.old ≡ shape.now.page_bytes }
-    requires lacks { length lacks.now.items ≡ spec.page_count shape.now }
-    // If steps set these pages, the image differs as before at most in pages that steps set.
-    ensures crash { (marks : List Mark) (base : List ℕ)
-        → ((k : ℕ) → get_or lacks.now.items k false ≡ true → Sets shape.now marks k)
-        → AllSameBut D.Disk image.old shape.now marks base
-        → AllSameBut D.Disk image.new shape.now marks base }
-    // The others are as they were.
-    ensures others { (k : ℕ) → file_size shape.now ≤ length (D.Disk.seen image.old)
-        → k < spec.page_count shape.now → get_or lacks.now.items k false ≡ false
-        → page_in_file shape.now (D.Disk.seen image.new) k
-        ≡ page_in_file shape.now (D.Disk.seen image.old) k }
-    // If it had the others, it has all.
-    ensures written { OnOk result (file_size shape.now ≤ length (D.Disk.seen image.old)
-        → ((k : ℕ) → k < spec.page_count shape.now → get_or lacks.now.items k false ≡ false
-        → page_in_file shape.now (D.Disk.seen image.old) k ≡ page_at (P.flash_of pages.now) k)
-        → (k : ℕ) → k < spec.page_count shape.now
-        → page_in_file shape.now (D.Disk.seen image.new) k ≡ page_at (P.flash_of pages.now) k) }
-    ensures usable { IsTrue (D.Disk.is_usable image.new) }
-    ensures buffer { length buffer.new ≡ length buffer.old }
-{
-    for page in 0..shape.page_count() {
-        if is_set(lacks, page) {
-            let tag = pages.state(page);
-            fill(buffer, pages.front(page));
-            put_cell(image, shape, page, tag, buffer)?;
-        }
-    }
-    Ok(())
 }
 
 /// Ends a checkpoint: once the image is synced, the log is emptied, and begins with the record of

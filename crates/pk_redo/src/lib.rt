@@ -5,6 +5,7 @@
 #![tactic(auto)]
 
 mod batch;
+mod checkpoints;
 mod image;
 mod laws;
 mod log;
@@ -17,7 +18,8 @@ mod replay;
 mod step;
 
 pub use batch::{BATCH_HEAD, FIRST_BATCH, MOST_BATCH, batch_at, is_open, seal};
-pub use image::{Pages, barrier, checkpoint, close, finish, put_page, put_states};
+pub use checkpoints::checkpoint;
+pub use image::{Pages, barrier, close, finish, put_page, put_states};
 pub use laws::{
     each_prefix_is_a_cut, kept_is_read, reads_once, replay_is_absolute, steps_read_once,
 };

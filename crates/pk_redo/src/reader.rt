@@ -1,5 +1,5 @@
 //! What a log holds when it is opened.
-ghost use Rattle.std.specs.Prelude.{◌≡◌, ◌+◌, ◌^◌, ◌<◌, ◌≤◌, ◌++◌, ℕ, List, Err, length, IfOk, OnOk, IsTrue};
+ghost use Rattle.std.specs.Prelude.{◌≡◌, ◌≢◌, ◌+◌, ◌^◌, ◌<◌, ◌≤◌, ◌++◌, ℕ, List, Err, length, IfOk, OnOk, IsTrue};
 ghost use Rattle.pk_base.specs.Mark.{Mark};
 ghost use Rattle.pk_base.specs.Shape as spec;
 ghost use Rattle.pk_redo.specs.Log.{LogHolds, bodies};
@@ -78,6 +78,7 @@ fn read_body(
     // They are refused only if they are no steps.
     ensures bad { (at : ℕ) → result ≡ Err (LogFault.BadStep at)
         → (marks : List Mark) → ¬ AreSteps shape.now log.now from marks to }
+    ensures other { result ≢ Err (LogFault.OtherImage) }
 {
     let mut at = from;
     while at < to {
@@ -106,6 +107,7 @@ pub fn read_steps(alloc: Global, shape: &Shape, log: &[u8]) -> Result<Vec<Step>,
     ensures bad { (at : ℕ) → result ≡ Err (LogFault.BadStep at)
         → (batches : List (List ℕ)) (marks : List Mark) → LogHolds log.now batches
         → ¬ BatchesSay shape.now batches marks }
+    ensures other { result ≢ Err (LogFault.OtherImage) }
 {
     let mut steps = Vec::new(alloc);
     if !is_open(log) {

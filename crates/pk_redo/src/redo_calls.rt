@@ -14,7 +14,8 @@ ghost use Rattle.pk_redo.specs.Image.{AllSameBut, LogSays, ReadAs, flash_after};
 ghost use Rattle.pk_redo.specs.Kept.{KeepsPages, StillKeeps, ImageAlone, HasRoomForStep, ReplayedTo};
 
 use crate::batch::{BATCH_HEAD, FIRST_BATCH};
-use crate::image::{Pages, barrier, checkpoint, close, finish};
+use crate::checkpoints::{checkpoint, note_states};
+use crate::image::{Pages, barrier, close, finish};
 use crate::log::extend;
 use crate::pending::Pending;
 use crate::record::{clear_pages, note_row, put_record, record_len, set_pages};
@@ -26,22 +27,33 @@ use sqlite_disk::Disk;
 use std::alloc::{AllocError, Global};
 use std::io;
 
+/// All bytes at the places of pages of this size may differ from zero.
+fn set_extents(extents: &mut Vec<usize>, size: usize)
+    ensures extents { (k : ℕ) → k < length extents.old.items
+        → slice_index extents.new.items k ≡ size }
+    ensures len { length extents.new.items ≡ length extents.old.items }
+{
+    extents.as_mut_slice().fill(size);
+}
+
+/// Zeros that follow the record of a log that begins: many runs need no more.
+const FIRST_BLANK: usize = 1 << 18;
+
+/// The first of these zeros, with at least this many.
+fn first_zeros(blank: &Vec<u8>, least: usize) -> &[u8]
+    requires { least ≤ length blank.now.items }
+    ensures same { (i : ℕ) → i < length result.now
+        → slice_index result.now i ≡ slice_index blank.now.items i }
+    ensures least { least ≤ length result.now }
+    ensures most { length result.now ≤ length blank.now.items }
+{
+    let len = blank.len().min(FIRST_BLANK.max(least));
+    &blank.as_slice()[..len]
+}
+
 /// A call of a log to which nothing more is written.
 fn ended() -> io::Error {
     io::Error::other("the log has ended")
-}
-
-/// Writes the states of all pages.
-fn note_states<P: Pages>(states: &mut [u8], shape: &Shape, pages: &P)
-    requires shape { P.shape_of pages.now ≡ shape.now }
-    requires len { length states.old ≡ spec.page_count shape.now }
-    ensures states { (k : ℕ) → k < length states.old
-        → slice_index states.new k ≡ state_byte (page_at (P.flash_of pages.now) k) }
-    ensures len { length states.new ≡ length states.old }
-{
-    for page in 0..shape.page_count() {
-        states[page as usize] = pages.state(page).byte();
-    }
 }
 
 /// Makes the record of an image that has these pages.
@@ -101,15 +113,15 @@ fn commit_pending<D: Disk>(
 
 impl<D: Disk + Drop> RedoLog<D> {
     /// Takes an image and its log, as both were read, and the memory for all later calls. Nothing
-    /// is asked of the disks. The extents say of each page how many bytes at its place in the image
-    /// may differ from zero.
+    /// is asked of the disks. The extents are memory too: what is at the place of a page is known
+    /// once this run wrote it.
     pub fn new(
         alloc: Global,
         log: D,
         image: D,
         shape: Shape,
         replay: &Replay,
-        extents: Vec<usize>,
+        mut extents: Vec<usize>,
         sizes: LogSizes,
     ) -> Result<RedoLog<D>, AllocError>
         requires extents { length extents.items ≡ spec.page_count shape }
@@ -125,6 +137,7 @@ impl<D: Disk + Drop> RedoLog<D> {
         ensures shape { IfOk result (λ redo. redo.shape ≡ shape) }
     {
         let count = shape.page_count() as usize;
+        set_extents(&mut extents, shape.page_bytes() as usize);
         Ok(RedoLog {
             log,
             image,
@@ -227,7 +240,8 @@ impl<D: Disk> RedoLog<D> {
             → StillKeeps D.Disk self.new kept kept }
         ensures done { OnOk result ((self.new.state ≡ LogState.Ready)
             × (self.new.batch.filled ≡ BATCH_HEAD)
-            × (self.new.end + length self.new.blank.items ≡ self.new.room)) }
+            × (self.new.end + BATCH_HEAD + STEP_BYTES + self.new.shape.page_bytes
+            < self.new.room)) }
         ensures clean { IsTrue (D.Disk.is_clean self.new.log)
             → IsTrue (D.Disk.is_clean self.old.log) }
         ensures shape { self.new.shape ≡ self.old.shape }
@@ -241,21 +255,25 @@ impl<D: Disk> RedoLog<D> {
             &self.shape,
             pages,
             &self.lacks,
+            &mut self.extents,
+            self.states.as_mut_slice(),
             self.page.as_mut_slice(),
         ) {
             Ok(()) => {}
             Err(error) => return Err(error),
         }
+        let step = BATCH_HEAD + STEP_BYTES + self.shape.page_bytes() as usize;
+        let blank = first_zeros(&self.blank, step + 1);
         match finish(
             &mut self.log,
             &mut self.image,
             &self.shape,
             &self.record,
-            &self.blank,
+            blank,
         ) {
             Ok(()) => {
                 self.end = FIRST_BATCH + self.record.len();
-                self.room = self.end + self.blank.len();
+                self.room = self.end + blank.len();
                 clear_pages(&mut self.lacks);
                 self.state = LogState::Ready;
                 Ok(())
@@ -449,6 +467,8 @@ impl<D: Disk> RedoLog<D> {
             &self.shape,
             pages,
             &self.lacks,
+            &mut self.extents,
+            self.states.as_mut_slice(),
             self.page.as_mut_slice(),
         ) {
             Ok(()) => {}

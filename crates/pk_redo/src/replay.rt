@@ -7,7 +7,7 @@ ghost use Rattle.pk_image.specs.Header.{file_size, header_bytes};
 ghost use Rattle.pk_redo.specs.Log.{LogHolds};
 ghost use Rattle.pk_redo.specs.Steps.{Sets, step_marks};
 ghost use Rattle.pk_redo.specs.Record.{RecordedAs};
-ghost use Rattle.pk_redo.specs.Image.{flash_after};
+ghost use Rattle.pk_redo.specs.Image.{BatchesSay, BelongTo, flash_after};
 ghost use Rattle.pk_redo.specs.Kept.{ReplayedTo, replay_marks};
 ghost use Rattle.pk_redo.specs.declared.reader.LogFault.{LogFault};
 
@@ -93,11 +93,16 @@ fn is_of(shape: &Shape, log: &[u8], set: &[bool], header: &[u8], states: &[u8]) 
     requires header { length header.now ≡ HEADER_BYTES }
     requires states { length states.now ≡ spec.page_count shape.now }
     requires set { length set.now ≡ spec.page_count shape.now }
-    ensures { result ≡ true → (batches : List (List ℕ)) (marks : List Mark)
+    ensures yes { result ≡ true → (batches : List (List ℕ)) (marks : List Mark)
         → LogHolds log.now batches
         → ((k : ℕ) → k < spec.page_count shape.now
         → (get_or set.now k false ≡ true) ↔ Sets shape.now marks k)
         → RecordedAs shape.now batches header.now states.now marks }
+    ensures no { result ≡ false → (batches : List (List ℕ)) (marks : List Mark)
+        → LogHolds log.now batches
+        → ((k : ℕ) → k < spec.page_count shape.now
+        → (get_or set.now k false ≡ true) ↔ Sets shape.now marks k)
+        → ¬ RecordedAs shape.now batches header.now states.now marks }
 {
     if !is_open(log) {
         return true;
@@ -121,6 +126,10 @@ fn belongs(
     ensures header { result ≡ Ok true → take HEADER_BYTES head.now ≡ header_bytes shape.now }
     ensures record { result ≡ Ok true → (batches : List (List ℕ)) → LogHolds log.now batches
         → RecordedAs shape.now batches (take HEADER_BYTES head.now) (drop HEADER_BYTES head.now)
+        (step_marks shape.now log.now steps.now) }
+    ensures refused { result ≡ Ok false → (batches : List (List ℕ)) → LogHolds log.now batches
+        → take HEADER_BYTES head.now ≡ header_bytes shape.now
+        → ¬ RecordedAs shape.now batches (take HEADER_BYTES head.now) (drop HEADER_BYTES head.now)
         (step_marks shape.now log.now steps.now) }
     ensures other { result ≢ Err (LogFault.OtherImage) }
 {
@@ -150,6 +159,12 @@ impl Replay {
             → IsTrue (D.Disk.is_clean image.new)
             → ReplayedTo shape.now (D.Disk.seen log.old) (D.Disk.seen image.old) replay
             (flash_after shape.now (replay_marks shape.now replay) (D.Disk.seen image.old))) }
+        // It is refused as one of another image only if it does not fit this one.
+        ensures refused { result ≡ Err (LogFault.OtherImage) → IsTrue (D.Disk.is_clean log.new)
+            → IsTrue (D.Disk.is_clean image.new) → (batches : List (List ℕ)) (marks : List Mark)
+            → LogHolds (D.Disk.seen log.old) batches → BatchesSay shape.now batches marks
+            → take HEADER_BYTES (D.Disk.seen image.old) ≡ header_bytes shape.now
+            → ¬ BelongTo shape.now batches marks (D.Disk.seen image.old) }
         ensures log_seen { D.Disk.seen log.new ≡ D.Disk.seen log.old }
         ensures image_seen { D.Disk.seen image.new ≡ D.Disk.seen image.old }
         ensures log_crash { (c : List ℕ) → D.Disk.may_leave log.new c

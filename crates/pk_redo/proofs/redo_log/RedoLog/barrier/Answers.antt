@@ -28,6 +28,7 @@ returns-in-Ok-clause-keeps g c = λ clean kept now k.
       is_now = refl;
       lacking = all_set g.D.Disk self kept now k;
       others = k.others;
+      zeros = k.zeros;
     }))
 
 pub returns-in-Ok-clause-done : goal.returns-in-Ok-clause-done
@@ -52,6 +53,7 @@ returns-in-Ok-clause-done g c = λ clean kept now k.
       is_now = refl;
       lacking = all_set g.D.Disk self kept now k;
       others = k.others;
+      zeros = k.zeros;
     }
 
 pub returns-in-Err-clause-keeps : goal.returns-in-Err-clause-keeps

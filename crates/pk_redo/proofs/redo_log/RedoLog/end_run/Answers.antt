@@ -25,6 +25,7 @@ returns-in-Err-clause-keeps g c = λ clean kept k same.
       is_now = k.is_now;
       lacking = k.lacking;
       others = λ page low lacks. c.checkpoint.ensures.others page long low lacks ∙ k.others page low lacks;
+      zeros = c.checkpoint.ensures.zeros long k.zeros;
     })
 
 pub returns-clause-keeps : goal.returns-clause-keeps
@@ -34,7 +35,7 @@ returns-clause-keeps g c = λ clean kept k same.
     let long = long_image g.D.Disk self kept kept k (g.met.D.Disk.seen_may_stay self.image) in
     let within = c.checkpoint.ensures.crash k.marks k.base (lacks_set g.D.Disk self kept kept k c.requires.empty) k.files.within in
     let shown = λ (page : ℕ). ap (λ (f : Flash). page_at f page) same in
-    let written = λ (page : ℕ) (low : page < page_count self.shape). c.in-Ok.ensures.written long (λ k' low lacks. k.others k' low lacks ∙ sym (shown k')) page low ∙ shown page in
+    let written = λ (page : ℕ) (low : page < page_count self.shape). c.in-Ok.ensures.written long k.zeros (λ k' low lacks. k.others k' low lacks ∙ sym (shown k')) page low ∙ shown page in
     inr (inr (
       refl,
       λ l i may_l may_i. inl (subst (λ (f : Flash). ReadAs self.shape l i f) k.is_kept
@@ -49,7 +50,7 @@ returns-clause-done g c =
     let long = long_image g.D.Disk self kept kept k (g.met.D.Disk.seen_may_stay self.image) in
     let within = c.checkpoint.ensures.crash k.marks k.base (lacks_set g.D.Disk self kept kept k c.requires.empty) k.files.within in
     let shown = λ (page : ℕ). ap (λ (f : Flash). page_at f page) same in
-    let written = λ (page : ℕ) (low : page < page_count self.shape). c.in-Ok.ensures.written long (λ k' low lacks. k.others k' low lacks ∙ sym (shown k')) page low ∙ shown page in
+    let written = λ (page : ℕ) (low : page < page_count self.shape). c.in-Ok.ensures.written long k.zeros (λ k' low lacks. k.others k' low lacks ∙ sym (shown k')) page low ∙ shown page in
     record {
       no_batch = (done clean).0;
       one_image = λ i may. (done clean).1 i may ∙ sym c.close.ensures.seen;

@@ -22,4 +22,5 @@ returns-clause-keeps g c = λ kept now k.
       is_now = now_after g.D.Disk self lacks mark kept now k;
       lacking = λ page is. lacking_after g.D.Disk self lacks mark kept now k page (set page (omega (arith, set_within lacks page is, c.note_row.ensures.len))).0 is;
       others = λ page low not. others_after g.D.Disk self lacks mark kept now k page low (unset_both _ _ _ (set page (omega (arith, low, self.sizes.0))).1 not);
+      zeros = k.zeros;
     }

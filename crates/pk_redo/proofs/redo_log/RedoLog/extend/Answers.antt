@@ -33,6 +33,7 @@ returns-in-Ok-clause-keeps g c = λ kept now k.
       is_now = k.is_now;
       lacking = k.lacking;
       others = k.others;
+      zeros = k.zeros;
     }
 
 pub returns-in-Err-clause-keeps : goal.returns-in-Err-clause-keeps
@@ -61,4 +62,5 @@ returns-in-Err-clause-keeps g c = λ kept now k.
       is_now = k.is_now;
       lacking = k.lacking;
       others = k.others;
+      zeros = k.zeros;
     }

@@ -1,4 +1,4 @@
-use Rattle.std.proofs.Common.{◌≡◌, ◌<◌, ℕ, [], sym, refl}
+use Rattle.std.proofs.Common.{◌≡◌, ◌<◌, ℕ, [], sym, refl, arith}
 use Rattle.pk_base.{specs.Shape.page_count}
 use Rattle.pk_redo.specs.declared.redo_log.LogState.TheVariants.{Found, Ready}
 use Rattle.pk_redo.specs.Kept.{replay_marks}
@@ -27,4 +27,5 @@ returns-clause-keeps g c = λ kept only_log only_image r.
       is_now = refl;
       lacking = found_lacking shape (replay_marks shape replay) image kept _ r.gives c.in_ok-set_pages.ensures.len set;
       others = found_others shape (replay_marks shape replay) image kept _ r.gives c.in_ok-set_pages.ensures.len set;
+      zeros = λ page i low from below. absurd (omega (arith, low, from, below, c.requires.extents, c.set_extents.ensures.extents page (omega (arith, low, c.requires.extents))));
     }

@@ -20,4 +20,5 @@ returns-clause-keeps g c = λ kept now k.
       is_now = now_after g.D.Disk self lacks mark kept now k;
       lacking = λ page is. lacking_after g.D.Disk self lacks mark kept now k page (set page).0 is;
       others = λ page low not. others_after g.D.Disk self lacks mark kept now k page low (unset_both _ _ _ (set page).1 not);
+      zeros = k.zeros;
     }

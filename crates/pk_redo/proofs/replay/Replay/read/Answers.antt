@@ -1,11 +1,12 @@
-use Rattle.std.proofs.Common.{◌≡◌, ◌∙◌, ℕ, List, Ok, true, take, drop, sym, ap, refl, subst}
-use Rattle.pk_base.{specs.Shape.page_count}
+use Rattle.std.proofs.Common.{◌≡◌, ◌∙◌, ℕ, List, Ok, true, false, take, drop, sym, ap, refl, subst}
+use Rattle.pk_base.{specs.Shape.page_count, specs.Mark.Mark}
 use Rattle.pk_image.specs.Header.{header_bytes}
 use Rattle.pk_redo.specs.Log.{LogHolds}
 use Rattle.pk_redo.specs.Steps.{step_marks}
 use Rattle.pk_redo.specs.Record.{RecordedAs}
-use Rattle.pk_redo.specs.Image.{BatchesSay}
-use Rattle.pk_redo.proofs.Found.{head_header, head_states, recorded_belongs}
+use Rattle.pk_redo.specs.Image.{BatchesSay, BelongTo}
+use Rattle.pk_redo.proofs.Batches.{reads_once}
+use Rattle.pk_redo.proofs.Found.{head_header, head_states, recorded_belongs, belongs_recorded, says_once}
 use Rattle.pk_redo.proofs.replay.Replay.read.Goals as goal
 
 pub returns-in-Ok-true-clause-found : goal.returns-in-Ok-true-clause-found
@@ -34,3 +35,26 @@ returns-in-Ok-true-clause-found g c = λ clean_log clean_image.
       fits = fits;
       gives = refl;
     }
+
+pub returns-in-Ok-false-clause-refused : goal.returns-in-Ok-false-clause-refused
+returns-in-Ok-false-clause-refused g c is clean_log clean_image batches marks holds says header own =
+    let shape = c.args.shape.now in
+    let image = g.D.Disk.seen c.args.image.now in
+    let bytes = c.in-Ok.bytes.items in
+    let steps = c.in-Ok-read_steps.steps.items in
+    let head = c.in-Ok-read_head.head.items in
+    let (found, found_holds, found_says) = c.in-Ok-read_steps.ensures.found in
+    let (held, fits) = c.in-Ok-read_head.ensures.found clean_image in
+    let sized = c.in-Ok-read_head.ensures.len in
+    let here : LogHolds bytes batches = subst (λ (log : List ℕ). LogHolds log batches) (sym (c.in-Ok.ensures.found clean_log)) holds in
+    let one : found ≡ batches = reads_once bytes found batches (subst (λ (log : List ℕ). LogHolds log found) c.deref.ensures.value found_holds) here in
+    let told : BatchesSay shape found (step_marks shape bytes steps) = subst (λ (log : List ℕ). BatchesSay shape found (step_marks shape log steps)) c.deref.ensures.value found_says in
+    let all : BatchesSay shape batches (step_marks shape bytes steps) = subst (λ (bs : List (List ℕ)). BatchesSay shape bs (step_marks shape bytes steps)) one told in
+    let same : marks ≡ step_marks shape bytes steps = says_once shape batches marks (step_marks shape bytes steps) says all in
+    let head_is = head_header image head (page_count shape) held sized in
+    let recorded : RecordedAs shape batches (take 32 head) (drop 32 head) (step_marks shape bytes steps) =
+    belongs_recorded shape batches (step_marks shape bytes steps) image (take 32 head) (drop 32 head) head_is (head_states image head (page_count shape) held sized)
+    (subst (λ (ms : List Mark). BelongTo shape batches ms image) same own) in
+    let is_false : c.belongs.result ≡ Ok false = c.in-Ok-false.is ∙ ap Ok c.in-Ok-false.field-0-test in
+    c.belongs.ensures.refused is_false batches (rw c.deref-2.ensures.value here) (rw c.deref-4.ensures.value (head_is ∙ header))
+    (rw (c.deref-2.ensures.value, c.deref-3.ensures.value, c.deref-4.ensures.value) recorded)

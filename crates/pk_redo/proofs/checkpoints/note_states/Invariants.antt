@@ -1,7 +1,7 @@
 use Rattle.std.proofs.Common.{◌≡◌, ℕ, ◌<◌, length, slice_index}
 use Rattle.pk_base.specs.Page.{page_at}
 use Rattle.pk_image.specs.Image.{state_byte}
-use Rattle.pk_redo.proofs.redo_calls.note_states.Given as goal
+use Rattle.pk_redo.proofs.checkpoints.note_states.Given as goal
 
 abbrev pub invariant-loop-page : goal.invariant-loop-page
 invariant-loop-page g l = record {
