@@ -1,4 +1,4 @@
-//! Sessions that chance stops, and what chance leaves of their files; and sessions over what was left.
+//! Sessions that chance stops, and what chance leaves of their files; and sessions over what remains.
 
 use crate::deeds::deeds_of;
 use crate::medium::Fails;
@@ -21,7 +21,7 @@ fn any_stop(random: &mut Random) -> Failing {
     }
 }
 
-// A session over what is left of the files of one, of which these calls fail.
+// A session over what remains of the files of one, of which these calls fail.
 fn try_further(
     alloc: Global,
     done: &Done,
@@ -39,7 +39,7 @@ fn try_further(
     Ok((next, left))
 }
 
-// A session that chance stops, one over what is left that chance stops too, and one that comes to its
+// A session that chance stops, one over what remains that chance stops too, and one that comes to its
 // end.
 fn try_session(alloc: Global, number: u32, seen: &mut Seen) -> Result<(), Fail> {
     let mut random = Random::new(number);

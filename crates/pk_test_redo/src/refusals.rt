@@ -252,7 +252,7 @@ fn steps_that_are_none(rt: HostRuntime) -> Result<(), Fail> {
     let record = record_of(alloc, &image)?;
     let at = 16 + (9 + HEADER + TABLE) + 9;
     for bytes in [
-        // page 272, and a front of 513 bytes
+        // page 272, and 513 bytes of a page
         [16, 1, 0, 0, 0, 0, 0, 0].as_slice(),
         &[3, 0, 0, 0, 1, 2, 0, 0],
         // block 34, and an erase with a byte
