@@ -245,13 +245,27 @@ fn record_that_does_not_fit(rt: HostRuntime) -> Result<(), Fail> {
     Ok(())
 }
 
-// A batch after a step of eight bytes with other bytes than a step: the place where they begin.
+// Where the first step of a log begins.
+const FIRST_STEP: usize = 16 + (9 + HEADER + TABLE) + 9;
+
+// A log with these two batches of steps is refused, as what is at a place is no step.
+fn is_refused_at(
+    alloc: Global,
+    image: &[u8],
+    one: &[u8],
+    other: &[u8],
+    at: usize,
+) -> Result<bool, AllocError> {
+    let record = record_of(alloc, image)?;
+    let log = log_of(alloc, OPENED, &[&record, one, other])?;
+    is_refused(alloc, &log, image, LogFault::BadStep { at })
+}
+
+// In a batch before one with steps, and in one after it.
 #[test]
 fn steps_that_are_none(rt: HostRuntime) -> Result<(), Fail> {
     let alloc = rt.alloc();
     let (image, _) = images(alloc)?;
-    let record = record_of(alloc, &image)?;
-    let at = 16 + (9 + HEADER + TABLE) + 9;
     for bytes in [
         // page 272, and 513 bytes of a page
         [16, 1, 0, 0, 0, 0, 0, 0].as_slice(),
@@ -263,14 +277,8 @@ fn steps_that_are_none(rt: HostRuntime) -> Result<(), Fail> {
         &[3, 0, 0, 0, 0, 0, 0],
         &[3, 0, 0, 0, 2, 0, 0, 0, 7],
     ] {
-        let log = log_of(alloc, OPENED, &[&record, bytes, &STEPS])?;
-        let fault = LogFault::BadStep { at };
-        assert!(rt; is_refused(alloc, &log, &image, fault)?, "{bytes:?}");
-        let log = log_of(alloc, OPENED, &[&record, &STEPS, bytes])?;
-        let fault = LogFault::BadStep {
-            at: at + STEPS.len() + 9,
-        };
-        assert!(rt; is_refused(alloc, &log, &image, fault)?, "{bytes:?}");
+        assert!(rt; is_refused_at(alloc, &image, bytes, &STEPS, FIRST_STEP)?);
+        assert!(rt; is_refused_at(alloc, &image, &STEPS, bytes, FIRST_STEP + 21 + 9)?);
     }
     Ok(())
 }
