@@ -66,6 +66,8 @@ fn last_batch_cut(rt: HostRuntime) -> Result<(), Fail> {
     let (done, files) = stopped(alloc, true)?;
     let (log, image) = (files.log.bytes(), files.image.synced());
     assert!(rt; log.len() > END);
+    assert!(rt; opens_as(alloc, &log[..END], image, &done.end)?);
+    assert!(rt; opens_as(alloc, log, image, &done.end)?);
     assert_eq!(rt; done.steps.len(), BEFORE + 3);
     let without = pages_after(alloc, &done, BEFORE)?;
     assert!(rt; !without.is_same(&done.end));
@@ -77,8 +79,6 @@ fn last_batch_cut(rt: HostRuntime) -> Result<(), Fail> {
         let lost = lost_from(alloc, log, at)?;
         assert!(rt; opens_as(alloc, &lost, image, &without)?, "lost from {at}");
     }
-    assert!(rt; opens_as(alloc, &log[..END], image, &done.end)?);
-    assert!(rt; opens_as(alloc, log, image, &done.end)?);
     Ok(())
 }
 
