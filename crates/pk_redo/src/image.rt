@@ -82,6 +82,7 @@ pub fn put_states<D: Disk>(
     ensures torn { Torn (state_place first) (length states.now)
         (D.Disk.seen image.old) (D.Disk.seen image.new) }
     ensures usable { IsTrue (D.Disk.is_usable image.new) }
+    ensures clean { IsTrue (D.Disk.is_clean image.new) → IsTrue (D.Disk.is_clean image.old) }
 {
     image.write_at(state_at(shape, first) as usize, states)
 }
@@ -100,6 +101,7 @@ pub fn put_page<D: Disk>(image: &mut D, shape: &Shape, page: u32, front: &[u8]) 
     ensures written { OnOk result (0 < length front.now
         → Holds (D.Disk.seen image.new) (page_place shape.now page) front.now) }
     ensures usable { IsTrue (D.Disk.is_usable image.new) }
+    ensures clean { IsTrue (D.Disk.is_clean image.new) → IsTrue (D.Disk.is_clean image.old) }
 {
     image.write_at(page_at(shape, page) as usize, front)
 }
@@ -119,6 +121,7 @@ fn put_whole<D: Disk>(image: &mut D, shape: &Shape, page: u32, bytes: &[u8]) -> 
     ensures own { OnOk result (page_in_file shape.now (D.Disk.seen image.new) page
         ≡ page_by (byte_of PageTag.Whole) bytes.now) }
     ensures usable { IsTrue (D.Disk.is_usable image.new) }
+    ensures clean { IsTrue (D.Disk.is_clean image.new) → IsTrue (D.Disk.is_clean image.old) }
 {
     shape.known();
     put_states(image, shape, page, &[PageTag::Torn.byte()])?;
@@ -146,6 +149,7 @@ fn put_cell<D: Disk>(
     ensures own { OnOk result (page_in_file shape.now (D.Disk.seen image.new) page
         ≡ page_by (byte_of tag) bytes.now) }
     ensures usable { IsTrue (D.Disk.is_usable image.new) }
+    ensures clean { IsTrue (D.Disk.is_clean image.new) → IsTrue (D.Disk.is_clean image.old) }
 {
     match tag {
         PageTag::Whole => put_whole(image, shape, page, bytes),
@@ -211,6 +215,7 @@ pub fn checkpoint<D: Disk, P: Pages>(
         → (k : ℕ) → k < spec.page_count shape.now
         → page_in_file shape.now (D.Disk.seen image.new) k ≡ page_at (P.flash_of pages.now) k) }
     ensures usable { IsTrue (D.Disk.is_usable image.new) }
+    ensures clean { IsTrue (D.Disk.is_clean image.new) → IsTrue (D.Disk.is_clean image.old) }
     ensures buffer { length buffer.new ≡ length buffer.old }
 {
     for page in 0..shape.page_count() {
@@ -258,6 +263,8 @@ pub fn finish<D: Disk>(
     ensures usable { OnOk result
         (IsTrue (D.Disk.is_usable log.new) × IsTrue (D.Disk.is_usable image.new)) }
     ensures clean { IsTrue (D.Disk.is_clean log.new) → IsTrue (D.Disk.is_clean log.old) }
+    ensures image_clean { IsTrue (D.Disk.is_clean image.new)
+        → IsTrue (D.Disk.is_clean image.old) }
 {
     let _ = shape;
     image.sync()?; // before the log has no batch any more
@@ -280,6 +287,8 @@ pub fn close<D: Disk>(log: &mut D, image: &mut D, shape: &Shape) -> io::Result<(
         → AllStand D.Disk log.new [] × Only (D.Disk.seen image.old) (D.Disk.may_leave image.new)) }
     ensures seen { D.Disk.seen image.new ≡ D.Disk.seen image.old }
     ensures clean { IsTrue (D.Disk.is_clean log.new) → IsTrue (D.Disk.is_clean log.old) }
+    ensures image_clean { IsTrue (D.Disk.is_clean image.new)
+        → IsTrue (D.Disk.is_clean image.old) }
 {
     let _ = shape;
     image.sync()?;

@@ -123,6 +123,7 @@ impl<D: Disk + Drop> RedoLog<D> {
             → ReplayedTo shape (D.Disk.seen log) (D.Disk.seen image) replay.now kept
             → KeepsPages D.Disk redo kept kept) }
         ensures shape { IfOk result (λ redo. redo.shape ≡ shape) }
+        ensures disks { IfOk result (λ redo. (redo.log ≡ log) × (redo.image ≡ image)) }
     {
         let count = shape.page_count() as usize;
         Ok(RedoLog {
@@ -189,6 +190,8 @@ impl<D: Disk> RedoLog<D> {
             × (self.new.state ≡ self.old.state)) }
         ensures clean { IsTrue (D.Disk.is_clean self.new.log)
             → IsTrue (D.Disk.is_clean self.old.log) }
+        ensures image_clean { IsTrue (D.Disk.is_clean self.new.image)
+            → IsTrue (D.Disk.is_clean self.old.image) }
         ensures shape { self.new.shape ≡ self.old.shape }
     {
         if self.is_lost() {
@@ -230,6 +233,8 @@ impl<D: Disk> RedoLog<D> {
             × (self.new.end + length self.new.blank.items ≡ self.new.room)) }
         ensures clean { IsTrue (D.Disk.is_clean self.new.log)
             → IsTrue (D.Disk.is_clean self.old.log) }
+        ensures image_clean { IsTrue (D.Disk.is_clean self.new.image)
+            → IsTrue (D.Disk.is_clean self.old.image) }
         ensures shape { self.new.shape ≡ self.old.shape }
     {
         if self.is_lost() {
@@ -277,6 +282,8 @@ impl<D: Disk> RedoLog<D> {
         ensures state { OnOk result (self.new.state ≡ self.old.state) }
         ensures clean { IsTrue (D.Disk.is_clean self.new.log)
             → IsTrue (D.Disk.is_clean self.old.log) }
+        ensures image_clean { IsTrue (D.Disk.is_clean self.new.image)
+            → IsTrue (D.Disk.is_clean self.old.image) }
         ensures shape { self.new.shape ≡ self.old.shape }
     {
         if self.batch.has_room(STEP_BYTES + len) {
@@ -296,6 +303,8 @@ impl<D: Disk> RedoLog<D> {
         ensures state { self.new.state ≡ self.old.state }
         ensures clean { IsTrue (D.Disk.is_clean self.new.log)
             → IsTrue (D.Disk.is_clean self.old.log) }
+        ensures image_clean { IsTrue (D.Disk.is_clean self.new.image)
+            → IsTrue (D.Disk.is_clean self.old.image) }
         ensures shape { self.new.shape ≡ self.old.shape }
     {
         if self.is_lost() {
@@ -323,6 +332,8 @@ impl<D: Disk> RedoLog<D> {
         ensures room { OnOk result (HasRoomForStep self.new len) }
         ensures clean { IsTrue (D.Disk.is_clean self.new.log)
             → IsTrue (D.Disk.is_clean self.old.log) }
+        ensures image_clean { IsTrue (D.Disk.is_clean self.new.image)
+            → IsTrue (D.Disk.is_clean self.old.image) }
         ensures shape { self.new.shape ≡ self.old.shape }
     {
         if self.has_room(len) {
@@ -349,6 +360,8 @@ impl<D: Disk> RedoLog<D> {
         ensures room { OnOk result (HasRoomForStep self.new len) }
         ensures clean { IsTrue (D.Disk.is_clean self.new.log)
             → IsTrue (D.Disk.is_clean self.old.log) }
+        ensures image_clean { IsTrue (D.Disk.is_clean self.new.image)
+            → IsTrue (D.Disk.is_clean self.old.image) }
         ensures shape { self.new.shape ≡ self.old.shape }
     {
         match self.begin(pages) {
@@ -370,6 +383,8 @@ impl<D: Disk> RedoLog<D> {
         ensures ready { OnOk result (self.new.state ≡ LogState.Ready) }
         ensures clean { IsTrue (D.Disk.is_clean self.new.log)
             → IsTrue (D.Disk.is_clean self.old.log) }
+        ensures image_clean { IsTrue (D.Disk.is_clean self.new.image)
+            → IsTrue (D.Disk.is_clean self.old.image) }
         ensures shape { self.new.shape ≡ self.old.shape }
     {
         match self.state {
@@ -418,6 +433,10 @@ impl<D: Disk> RedoLog<D> {
             → KeepsPages D.Disk self.old kept now → P.flash_of pages.now ≡ now
             → ImageAlone D.Disk self.new now) }
         ensures ended { OnOk result (self.new.state ≡ LogState.Ended) }
+        ensures clean { IsTrue (D.Disk.is_clean self.new.log)
+            → IsTrue (D.Disk.is_clean self.old.log) }
+        ensures image_clean { IsTrue (D.Disk.is_clean self.new.image)
+            → IsTrue (D.Disk.is_clean self.old.image) }
         ensures shape { self.new.shape ≡ self.old.shape }
     {
         match self.barrier() {
@@ -439,6 +458,8 @@ impl<D: Disk> RedoLog<D> {
         ensures ended { OnOk result (self.new.state ≡ LogState.Ended) }
         ensures clean { IsTrue (D.Disk.is_clean self.new.log)
             → IsTrue (D.Disk.is_clean self.old.log) }
+        ensures image_clean { IsTrue (D.Disk.is_clean self.new.image)
+            → IsTrue (D.Disk.is_clean self.old.image) }
         ensures shape { self.new.shape ≡ self.old.shape }
     {
         if self.is_lost() {

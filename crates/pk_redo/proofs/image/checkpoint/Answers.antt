@@ -34,6 +34,7 @@ loop-page-preserved g c =
           ∙ ap (λ (n : ℕ). padded n w.front.result.now) (sym (before.buffer ∙ c.requires.buffer)) ∙ sym w.fill.ensures in
           rw (w.image-is, w.buffer-is) (record {
             usable = w.put_cell.ensures.usable;
+            clean = λ is. before.clean (w.put_cell.ensures.clean is);
             buffer = w.fill.auto.buffer ∙ before.buffer;
             crash = λ marks base all within. w.put_cell.ensures.crash marks base (all page (sym w.if-is_set.ensures)) (before.crash marks base all within);
             long = λ long. omega (arith, before.long long, (same long).same_size);
@@ -47,6 +48,7 @@ loop-page-preserved g c =
           })
       | else-is_set w ↦ rw (w.image-is, w.buffer-is) (record {
         usable = before.usable;
+        clean = before.clean;
         buffer = before.buffer;
         crash = before.crash;
         long = before.long;
