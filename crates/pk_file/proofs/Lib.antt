@@ -1,5 +1,6 @@
 pub mod Gathering
 pub mod Logging
+pub mod Replayed
 pub mod RowLaw
 pub mod Rows
 pub mod Sectoring

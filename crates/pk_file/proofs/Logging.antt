@@ -10,7 +10,7 @@ use Rattle.pk_base.specs.Mark.{Mark, after, after_all}
 use Rattle.pk_nand.proofs.CutLemmas.{after_all-append}
 use Rattle.pk_redo.{specs.Image.ReadAs, specs.Kept.KeepsPages, specs.Kept.StillKeeps, proofs.Keeping.still_read}
 use Rattle.pk_redo.{specs.declared.redo_log.RedoLog.RedoLog, specs.declared.redo_log.LogState.TheVariants.Ready, specs.declared.redo_log.LogState.TheVariants.Ended}
-use Rattle.pk_file.specs.Logged.{AfterPrefix, ReadsPrefix, KeepsTrail}
+use Rattle.pk_file.specs.Logged.{AfterPrefix, ReadsPrefix, KeepsTrail, StillKeepsTrail}
 
 -- ---- a page by its front
 
@@ -109,6 +109,10 @@ module _ {D : Type 0} (g : Ghosts D) (shape : Shape) (start : Flash) (trail : Li
     same_shape = same;
   }
 
+  -- what is read in either case
+  pub reads_still : (redo : RedoLog D g) (pages : Flash) → StillKeepsTrail g redo shape start trail least pages → ReadsPrefix g redo shape start trail least
+  reads_still redo pages still = elim still [ inl k ↦ reads_kept redo pages k | inr ended ↦ ended.1 ]
+
   -- ---- calls
 
   module _ (old new : RedoLog D g) (pages : Flash) (same : new.shape ≡ old.shape) (k : KeepsTrail g old shape start trail least pages)
@@ -117,13 +121,13 @@ module _ {D : Type 0} (g : Ghosts D) (shape : Shape) (start : Flash) (trail : Li
     pub call_reads : ReadsPrefix g new shape start trail least
     call_reads = reads_prefix new k.kept pages (same ∙ k.same_shape) k.is_prefix k.are_after (still k.kept k.keeps)
 
-    pub call_keeps : KeepsTrail g new shape start trail least pages ⊎ (new.state ≡ Ended)
+    pub call_keeps : StillKeepsTrail g new shape start trail least pages
     call_keeps = elim (still k.kept k.keeps) [
       | inl kept ↦ inl (record { kept = k.kept; is_prefix = k.is_prefix; keeps = kept; are_after = k.are_after; same_shape = same ∙ k.same_shape })
       | inr (inl all) ↦
           let some = prefix_short shape start trail least k.kept k.is_prefix in
           inl (record { kept = pages; is_prefix = all_of shape start trail least pages k.are_after some; keeps = all; are_after = k.are_after; same_shape = same ∙ k.same_shape })
-      | inr (inr ended) ↦ inr ended.0
+      | inr (inr ended) ↦ inr (ended.0, call_reads)
     ]
 
     -- it was answered with Ok

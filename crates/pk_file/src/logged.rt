@@ -1,14 +1,16 @@
 //! Changes of pages in memory that go to the log of their image.
 ghost use Rattle.std.specs.Prelude.{◌≡◌, ◌⊎◌, ◌≤◌, ◌<◌, ◌+◌, ℕ, List, [], ◌∷◌, ◌++◌, length, true, OnOk, OnErr, IfOk, IsTrue, slice_set};
+ghost use Rattle.pk_base.specs.Fields.{padded};
 ghost use Rattle.pk_base.specs.Shape as spec;
 ghost use Rattle.pk_base.specs.Page.{Flash, IsPage, whole};
-ghost use Rattle.pk_base.specs.Mark.{Mark, program, erase, after};
-ghost use Rattle.pk_redo.specs.Kept.{ImageAlone};
+ghost use Rattle.pk_base.specs.Mark.{Mark, program, erase, after, after_all};
+ghost use Rattle.pk_redo.specs.Bytes.{bytes_at};
+ghost use Rattle.pk_redo.specs.Steps.{step_mark};
+ghost use Rattle.pk_redo.specs.Kept.{ImageAlone, replay_marks};
 ghost use Rattle.pk_redo.specs.declared.batch.TheConstants.{BATCH_HEAD};
-ghost use Rattle.pk_redo.specs.declared.redo_log.LogState.{LogState};
-ghost use Rattle.pk_file.specs.Slots.{pages_of, AllFit};
+ghost use Rattle.pk_file.specs.Slots.{pages_of, AllFit, ErasedRow};
 ghost use Rattle.pk_file.specs.Trims.{bytes_in};
-ghost use Rattle.pk_file.specs.Logged.{KeepsTrail, ReadsPrefix};
+ghost use Rattle.pk_file.specs.Logged.{KeepsTrail, StillKeepsTrail, ReadsPrefix};
 
 use crate::page_reader::copied;
 use crate::slot::Slot;
@@ -90,8 +92,11 @@ pub fn program_logged<D: Disk>(
     ensures failed { OnErr result (IsTrue (D.Disk.is_clean redo.new.log)
         → (start : Flash) (trail : List Mark) (least : ℕ)
         → KeepsTrail D.Disk redo.old shape.now start trail least (pages_of slots.old.items)
-        → KeepsTrail D.Disk redo.new shape.now start trail least (pages_of slots.old.items)
-        ⊎ (redo.new.state ≡ LogState.Ended)) }
+        → StillKeepsTrail D.Disk redo.new shape.now start trail least
+        (pages_of slots.old.items)) }
+    ensures clean { IsTrue (D.Disk.is_clean redo.new.log) → IsTrue (D.Disk.is_clean redo.old.log) }
+    ensures image_clean { IsTrue (D.Disk.is_clean redo.new.image)
+        → IsTrue (D.Disk.is_clean redo.old.image) }
 {
     known(bytes);
     let Ok(kept) = Trimmed::of(alloc, bytes) else {
@@ -144,8 +149,11 @@ pub fn erase_logged<D: Disk>(
     ensures failed { OnErr result (IsTrue (D.Disk.is_clean redo.new.log)
         → (start : Flash) (trail : List Mark) (least : ℕ)
         → KeepsTrail D.Disk redo.old shape.now start trail least (pages_of slots.old.items)
-        → KeepsTrail D.Disk redo.new shape.now start trail least (pages_of slots.old.items)
-        ⊎ (redo.new.state ≡ LogState.Ended)) }
+        → StillKeepsTrail D.Disk redo.new shape.now start trail least
+        (pages_of slots.old.items)) }
+    ensures clean { IsTrue (D.Disk.is_clean redo.new.log) → IsTrue (D.Disk.is_clean redo.old.log) }
+    ensures image_clean { IsTrue (D.Disk.is_clean redo.new.image)
+        → IsTrue (D.Disk.is_clean redo.old.image) }
 {
     let pages = SlotPages {
         shape: *shape,
@@ -173,7 +181,14 @@ pub fn commit_steps<D: Disk>(redo: &mut RedoLog<D>) -> bool
         → (start : Flash) (trail : List Mark) (least : ℕ) (pages : Flash)
         → KeepsTrail D.Disk redo.old shape start trail least pages
         → KeepsTrail D.Disk redo.new shape start trail (length trail) pages }
+    ensures failed { IsTrue (D.Disk.is_clean redo.new.log) → (shape : spec.Shape)
+        → (start : Flash) (trail : List Mark) (least : ℕ) (pages : Flash)
+        → KeepsTrail D.Disk redo.old shape start trail least pages
+        → StillKeepsTrail D.Disk redo.new shape start trail least pages }
     ensures none_waits { result ≡ true → redo.new.batch.filled ≡ BATCH_HEAD }
+    ensures clean { IsTrue (D.Disk.is_clean redo.new.log) → IsTrue (D.Disk.is_clean redo.old.log) }
+    ensures image_clean { IsTrue (D.Disk.is_clean redo.new.image)
+        → IsTrue (D.Disk.is_clean redo.old.image) }
     ensures shape { redo.new.shape ≡ redo.old.shape }
 {
     match redo.barrier() {
@@ -206,6 +221,24 @@ pub fn end_logged<D: Disk>(redo: &mut RedoLog<D>, shape: &Shape, slots: &Vec<Slo
     }
 }
 
+/// Makes a page of its front, and zeros after it.
+fn put_front(page: &mut [u8], front: &[u8])
+    requires { length front.now ≤ length page.old }
+    ensures { page.new ≡ padded (length page.old) front.now }
+{
+    put_text(page, 0, front);
+    put_zeros(page, front.len(), page.len());
+}
+
+/// The bytes of a front, from a place of a log on.
+fn front_in_log(log: &[u8], at: usize, len: usize) -> &[u8]
+    requires { at + len ≤ length log.now }
+    ensures value { result.now ≡ bytes_at log.now at len }
+    ensures len { length result.now ≡ len }
+{
+    &log[at..at + len]
+}
+
 /// The page that a step programs, whose front is at a place of the log. Zeros follow it.
 fn page_in_log(
     alloc: Global,
@@ -216,20 +249,21 @@ fn page_in_log(
     page: &mut [u8],
 ) -> Result<Trimmed, LoadFault>
     requires { length page.old ≡ shape.now.page_bytes }
-    ensures { IfOk result (λ kept. IsPage shape.now (bytes_in kept)) }
+    ensures page { IfOk result (λ kept. IsPage shape.now (bytes_in kept)) }
+    ensures bytes { IfOk result
+        (λ kept. bytes_in kept ≡ padded shape.now.page_bytes (bytes_at log.now at len)) }
 {
-    let size = page.len();
-    if log.len() < at || log.len() - at < len || len > size {
+    if log.len() < at || log.len() - at < len || len > page.len() {
         return Err(LoadFault::Fault);
     }
-    put_text(page, 0, &log[at..at + len]);
-    put_zeros(page, len, size);
+    put_front(page, front_in_log(log, at, len));
     copied(alloc, shape, page)
 }
 
 /// Pages from one on become Erased. The image may have any bytes at their places.
 fn clear_slots(slots: &mut Vec<Slot>, first: usize, count: usize, extent: usize)
     requires { first + count ≤ length slots.old.items }
+    ensures pages { ErasedRow first count (pages_of slots.old.items) (pages_of slots.new.items) }
     ensures count { length slots.new.items ≡ length slots.old.items }
     ensures fit { (shape : spec.Shape) → AllFit shape slots.old.items
         → AllFit shape slots.new.items }
@@ -251,6 +285,8 @@ fn replay_step(
     requires count { length slots.old.items ≡ spec.page_count shape.now }
     requires fit { AllFit shape.now slots.old.items }
     requires room { length room.old ≡ shape.now.page_bytes }
+    ensures pages { OnOk result (pages_of slots.new.items
+        ≡ after shape.now (step_mark shape.now log.now step.now) (pages_of slots.old.items)) }
     ensures count { length slots.new.items ≡ length slots.old.items }
     ensures fit { AllFit shape.now slots.new.items }
 {
@@ -288,6 +324,9 @@ pub fn replay_steps(
 ) -> Result<(), LoadFault>
     requires count { length slots.old.items ≡ spec.page_count shape.now }
     requires fit { AllFit shape.now slots.old.items }
+    // The pages in memory are those that the log says then.
+    ensures pages { OnOk result (pages_of slots.new.items
+        ≡ after_all shape.now (replay_marks shape.now replay.now) (pages_of slots.old.items)) }
     ensures count { length slots.new.items ≡ length slots.old.items }
     ensures fit { AllFit shape.now slots.new.items }
 {

@@ -48,6 +48,7 @@ fn run_length(states: &[u8], first: usize) -> usize
 pub fn copied(alloc: Global, shape: &Shape, bytes: &[u8]) -> Result<Trimmed, LoadFault>
     requires { length bytes.now ≡ shape.now.page_bytes }
     ensures page { IfOk result (λ kept. IsPage shape.now (bytes_in kept)) }
+    ensures bytes { IfOk result (λ kept. bytes_in kept ≡ bytes.now) }
     ensures bad { (at : ℕ) → result ≢ Err (LoadFault.BadImage at) }
 {
     known(bytes);

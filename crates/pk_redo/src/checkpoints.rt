@@ -70,6 +70,7 @@ fn put_front<D: Disk>(
         → take shape.now.page_bytes (drop (page_place shape.now page) (D.Disk.seen image.new))
         ≡ padded shape.now.page_bytes front.now) }
     ensures usable { IsTrue (D.Disk.is_usable image.new) }
+    ensures clean { IsTrue (D.Disk.is_clean image.new) → IsTrue (D.Disk.is_clean image.old) }
     ensures len { length extents.new.items ≡ length extents.old.items }
 {
     let need = bytes_to_write(front.len(), extents[page as usize], buffer.len());
@@ -110,6 +111,7 @@ fn put_bytes<D: Disk, P: Pages>(
         → (own : List ℕ) → page_at (P.flash_of pages.now) page ≡ whole own
         → take shape.now.page_bytes (drop (page_place shape.now page) (D.Disk.seen image.new)) ≡ own) }
     ensures usable { IsTrue (D.Disk.is_usable image.new) }
+    ensures clean { IsTrue (D.Disk.is_clean image.new) → IsTrue (D.Disk.is_clean image.old) }
     ensures len { length extents.new.items ≡ length extents.old.items }
 {
     match pages.state(page) {
@@ -150,6 +152,7 @@ fn put_all_bytes<D: Disk, P: Pages>(
         → page_at (P.flash_of pages.now) k ≡ whole own
         → take shape.now.page_bytes (drop (page_place shape.now k) (D.Disk.seen image.new)) ≡ own) }
     ensures usable { IsTrue (D.Disk.is_usable image.new) }
+    ensures clean { IsTrue (D.Disk.is_clean image.new) → IsTrue (D.Disk.is_clean image.old) }
     ensures len { length extents.new.items ≡ length extents.old.items }
     ensures buffer { length buffer.new ≡ length buffer.old }
 {
@@ -217,6 +220,7 @@ fn put_row<D: Disk>(
     ensures written { OnOk result ((k : ℕ) → first ≤ k → k < end
         → slice_index (D.Disk.seen image.new) (state_place k) ≡ slice_index states.now k) }
     ensures usable { IsTrue (D.Disk.is_usable image.new) }
+    ensures clean { IsTrue (D.Disk.is_clean image.new) → IsTrue (D.Disk.is_clean image.old) }
 {
     if first as usize == end {
         return Ok(());
@@ -249,6 +253,7 @@ fn put_all_states<D: Disk>(
         → (k : ℕ) → get_or lacks.now.items k false ≡ true
         → slice_index (D.Disk.seen image.new) (state_place k) ≡ slice_index states.now k) }
     ensures usable { IsTrue (D.Disk.is_usable image.new) }
+    ensures clean { IsTrue (D.Disk.is_clean image.new) → IsTrue (D.Disk.is_clean image.old) }
 {
     let count = shape.page_count() as usize;
     let mut at = 0;
@@ -314,6 +319,7 @@ pub fn checkpoint<D: Disk, P: Pages>(
         → ZerosAfterExtents shape.now extents.old.items (D.Disk.seen image.old)
         → ZerosAfterExtents shape.now extents.new.items (D.Disk.seen image.new) }
     ensures usable { IsTrue (D.Disk.is_usable image.new) }
+    ensures clean { IsTrue (D.Disk.is_clean image.new) → IsTrue (D.Disk.is_clean image.old) }
     ensures extents_len { length extents.new.items ≡ length extents.old.items }
     ensures states_len { length states.new ≡ length states.old }
     ensures buffer { length buffer.new ≡ length buffer.old }

@@ -81,6 +81,7 @@ pub fn put_states<D: Disk>(
     ensures torn { Torn (state_place first) (length states.now)
         (D.Disk.seen image.old) (D.Disk.seen image.new) }
     ensures usable { IsTrue (D.Disk.is_usable image.new) }
+    ensures clean { IsTrue (D.Disk.is_clean image.new) → IsTrue (D.Disk.is_clean image.old) }
 {
     image.write_at(state_at(shape, first) as usize, states)
 }
@@ -101,6 +102,7 @@ pub fn put_page<D: Disk>(image: &mut D, shape: &Shape, page: u32, front: &[u8]) 
     ensures torn { Torn (page_place shape.now page) (length front.now)
         (D.Disk.seen image.old) (D.Disk.seen image.new) }
     ensures usable { IsTrue (D.Disk.is_usable image.new) }
+    ensures clean { IsTrue (D.Disk.is_clean image.new) → IsTrue (D.Disk.is_clean image.old) }
 {
     image.write_at(page_at(shape, page) as usize, front)
 }
@@ -159,6 +161,8 @@ pub fn finish<D: Disk>(
     ensures usable { OnOk result
         (IsTrue (D.Disk.is_usable log.new) × IsTrue (D.Disk.is_usable image.new)) }
     ensures clean { IsTrue (D.Disk.is_clean log.new) → IsTrue (D.Disk.is_clean log.old) }
+    ensures image_clean { IsTrue (D.Disk.is_clean image.new)
+        → IsTrue (D.Disk.is_clean image.old) }
 {
     let _ = shape;
     image.sync()?; // before the log has no batch any more
@@ -181,6 +185,8 @@ pub fn close<D: Disk>(log: &mut D, image: &mut D, shape: &Shape) -> io::Result<(
         → AllStand D.Disk log.new [] × Only (D.Disk.seen image.old) (D.Disk.may_leave image.new)) }
     ensures seen { D.Disk.seen image.new ≡ D.Disk.seen image.old }
     ensures clean { IsTrue (D.Disk.is_clean log.new) → IsTrue (D.Disk.is_clean log.old) }
+    ensures image_clean { IsTrue (D.Disk.is_clean image.new)
+        → IsTrue (D.Disk.is_clean image.old) }
 {
     let _ = shape;
     image.sync()?;

@@ -135,6 +135,7 @@ impl<D: Disk + Drop> RedoLog<D> {
             → ReplayedTo shape (D.Disk.seen log) (D.Disk.seen image) replay.now kept
             → KeepsPages D.Disk redo kept kept) }
         ensures shape { IfOk result (λ redo. redo.shape ≡ shape) }
+        ensures disks { IfOk result (λ redo. (redo.log ≡ log) × (redo.image ≡ image)) }
     {
         let count = shape.page_count() as usize;
         set_extents(&mut extents, shape.page_bytes() as usize);
@@ -202,6 +203,8 @@ impl<D: Disk> RedoLog<D> {
             × (self.new.state ≡ self.old.state)) }
         ensures clean { IsTrue (D.Disk.is_clean self.new.log)
             → IsTrue (D.Disk.is_clean self.old.log) }
+        ensures image_clean { IsTrue (D.Disk.is_clean self.new.image)
+            → IsTrue (D.Disk.is_clean self.old.image) }
         ensures shape { self.new.shape ≡ self.old.shape }
     {
         if self.is_lost() {
@@ -244,6 +247,8 @@ impl<D: Disk> RedoLog<D> {
             < self.new.room)) }
         ensures clean { IsTrue (D.Disk.is_clean self.new.log)
             → IsTrue (D.Disk.is_clean self.old.log) }
+        ensures image_clean { IsTrue (D.Disk.is_clean self.new.image)
+            → IsTrue (D.Disk.is_clean self.old.image) }
         ensures shape { self.new.shape ≡ self.old.shape }
     {
         if self.is_lost() {
@@ -295,6 +300,8 @@ impl<D: Disk> RedoLog<D> {
         ensures state { OnOk result (self.new.state ≡ self.old.state) }
         ensures clean { IsTrue (D.Disk.is_clean self.new.log)
             → IsTrue (D.Disk.is_clean self.old.log) }
+        ensures image_clean { IsTrue (D.Disk.is_clean self.new.image)
+            → IsTrue (D.Disk.is_clean self.old.image) }
         ensures shape { self.new.shape ≡ self.old.shape }
     {
         if self.batch.has_room(STEP_BYTES + len) {
@@ -314,6 +321,8 @@ impl<D: Disk> RedoLog<D> {
         ensures state { self.new.state ≡ self.old.state }
         ensures clean { IsTrue (D.Disk.is_clean self.new.log)
             → IsTrue (D.Disk.is_clean self.old.log) }
+        ensures image_clean { IsTrue (D.Disk.is_clean self.new.image)
+            → IsTrue (D.Disk.is_clean self.old.image) }
         ensures shape { self.new.shape ≡ self.old.shape }
     {
         if self.is_lost() {
@@ -341,6 +350,8 @@ impl<D: Disk> RedoLog<D> {
         ensures room { OnOk result (HasRoomForStep self.new len) }
         ensures clean { IsTrue (D.Disk.is_clean self.new.log)
             → IsTrue (D.Disk.is_clean self.old.log) }
+        ensures image_clean { IsTrue (D.Disk.is_clean self.new.image)
+            → IsTrue (D.Disk.is_clean self.old.image) }
         ensures shape { self.new.shape ≡ self.old.shape }
     {
         if self.has_room(len) {
@@ -367,6 +378,8 @@ impl<D: Disk> RedoLog<D> {
         ensures room { OnOk result (HasRoomForStep self.new len) }
         ensures clean { IsTrue (D.Disk.is_clean self.new.log)
             → IsTrue (D.Disk.is_clean self.old.log) }
+        ensures image_clean { IsTrue (D.Disk.is_clean self.new.image)
+            → IsTrue (D.Disk.is_clean self.old.image) }
         ensures shape { self.new.shape ≡ self.old.shape }
     {
         match self.begin(pages) {
@@ -388,6 +401,8 @@ impl<D: Disk> RedoLog<D> {
         ensures ready { OnOk result (self.new.state ≡ LogState.Ready) }
         ensures clean { IsTrue (D.Disk.is_clean self.new.log)
             → IsTrue (D.Disk.is_clean self.old.log) }
+        ensures image_clean { IsTrue (D.Disk.is_clean self.new.image)
+            → IsTrue (D.Disk.is_clean self.old.image) }
         ensures shape { self.new.shape ≡ self.old.shape }
     {
         match self.state {
@@ -436,6 +451,10 @@ impl<D: Disk> RedoLog<D> {
             → KeepsPages D.Disk self.old kept now → P.flash_of pages.now ≡ now
             → ImageAlone D.Disk self.new now) }
         ensures ended { OnOk result (self.new.state ≡ LogState.Ended) }
+        ensures clean { IsTrue (D.Disk.is_clean self.new.log)
+            → IsTrue (D.Disk.is_clean self.old.log) }
+        ensures image_clean { IsTrue (D.Disk.is_clean self.new.image)
+            → IsTrue (D.Disk.is_clean self.old.image) }
         ensures shape { self.new.shape ≡ self.old.shape }
     {
         match self.barrier() {
@@ -457,6 +476,8 @@ impl<D: Disk> RedoLog<D> {
         ensures ended { OnOk result (self.new.state ≡ LogState.Ended) }
         ensures clean { IsTrue (D.Disk.is_clean self.new.log)
             → IsTrue (D.Disk.is_clean self.old.log) }
+        ensures image_clean { IsTrue (D.Disk.is_clean self.new.image)
+            → IsTrue (D.Disk.is_clean self.old.image) }
         ensures shape { self.new.shape ≡ self.old.shape }
     {
         if self.is_lost() {

@@ -25,6 +25,7 @@ loop-page-preserved g c =
     elim c.if-is_set.branch [
       | then-is_set+in_ok-put_bytes w ↦ rw (w.image-is, w.extents-is, w.buffer-is) (record {
         usable = w.put_bytes.ensures.usable;
+        clean = λ is. before.clean (w.put_bytes.ensures.clean is);
         buffer = w.put_bytes.auto.buffer ∙ before.buffer;
         sized = w.put_bytes.ensures.len ∙ before.sized;
         crash = λ marks base sets within. w.put_bytes.ensures.crash marks base (sets page (sym w.if-is_set.ensures)) (before.crash marks base sets within);
@@ -42,6 +43,7 @@ loop-page-preserved g c =
       })
       | else-is_set w ↦ rw (w.image-is, w.extents-is, w.buffer-is) (record {
         usable = before.usable;
+        clean = before.clean;
         buffer = before.buffer;
         sized = before.sized;
         crash = before.crash;

@@ -8,6 +8,7 @@ use Rattle.pk_redo.proofs.checkpoints.put_all_bytes.Given as goal
 abbrev pub invariant-loop-page : goal.invariant-loop-page
 invariant-loop-page g l = record {
   usable : IsTrue (g.D.Disk.is_usable l.image);
+  clean : IsTrue (g.D.Disk.is_clean l.image) → IsTrue (g.D.Disk.is_clean l.fn.image);
   buffer : length l.buffer ≡ length l.fn.buffer;
   sized : length l.extents.items ≡ length l.fn.extents.items;
   crash : (marks : List Mark) (base : List ℕ) → ((k : ℕ) → get_or l.lacks.items k false ≡ true → Sets l.shape marks k) → AllSameBut g.D.Disk l.fn.image l.shape marks base

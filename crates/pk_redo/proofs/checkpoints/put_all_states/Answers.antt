@@ -10,6 +10,7 @@ use Rattle.pk_redo.proofs.checkpoints.put_all_states.Goals as goal
 pub loop-at-init : goal.loop-at-init
 loop-at-init g c = record {
   usable = c.requires.usable;
+  clean = λ is. is;
   crash = λ marks base sets within. within;
   seen = λ marks base sets same. same;
   torn = torn_none _ _ _;
@@ -36,6 +37,7 @@ loop-at-preserved g c =
     (omega (arith, c.row_end-end.ensures.within, c.row_end-end.ensures.order, c.row_start-first.ensures.order, c.requires.lacks)) c.put_row.ensures.torn in
     record {
       usable = c.put_row.ensures.usable;
+      clean = λ is. before.clean (c.put_row.ensures.clean is);
       crash = λ marks base sets within. c.put_row.ensures.crash marks base (λ k low high. sets k (c.row_end-end.ensures.lacking k low high)) (before.crash marks base sets within);
       seen = λ marks base sets same. c.put_row.ensures.seen marks base (λ k low high. sets k (c.row_end-end.ensures.lacking k low high)) (before.seen marks base sets same);
       torn = torn_then _ _ _ _ _ before.torn now;

@@ -9,6 +9,7 @@ use Rattle.pk_redo.proofs.checkpoints.put_all_states.Given as goal
 abbrev pub invariant-loop-at : goal.invariant-loop-at
 invariant-loop-at g l = record {
   usable : IsTrue (g.D.Disk.is_usable l.image);
+  clean : IsTrue (g.D.Disk.is_clean l.image) → IsTrue (g.D.Disk.is_clean l.fn.image);
   crash : (marks : List Mark) (base : List ℕ) → ((k : ℕ) → get_or l.lacks.items k false ≡ true → Sets l.shape marks k) → AllSameBut g.D.Disk l.fn.image l.shape marks base
       → AllSameBut g.D.Disk l.image l.shape marks base;
   seen : (marks : List Mark) (base : List ℕ) → ((k : ℕ) → get_or l.lacks.items k false ≡ true → Sets l.shape marks k) → SameButSet l.shape marks base (g.D.Disk.seen l.fn.image)

@@ -1,0 +1,4 @@
+pub mod ImagePages
+pub mod Keeping
+pub mod Posts
+pub mod Reading
