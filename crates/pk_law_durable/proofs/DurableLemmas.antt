@@ -1,12 +1,12 @@
 -- Runs over an image and its log, as runs over a board that were cut.
-use Rattle.std.proofs.Common.{◌≡◌, ◌∙◌, ℕ, ◌≤◌, List, [], ◌∷◌, ◌++◌, length, take, drop, refl, sym, ap, subst, arith}
+use Rattle.std.proofs.Common.{◌≡◌, ◌∙◌, ℕ, ◌≤◌, List, [], ◌∷◌, ◌++◌, length, take, drop, refl, sym, ap, subst}
 use Rattle.std.{specs.FinMap.empty, proofs.lemmas.List.take-append-le, proofs.lemmas.List.take-append-drop}
 use Rattle.pk_base.{specs.Shape.Shape, specs.Page.Flash, specs.Mark.Mark, specs.Mark.all_posted, specs.Map.Map}
 use Rattle.pk_nand.{specs.Cut.Cut, proofs.CutLemmas.posted-append}
-use Rattle.pk_model.{specs.Spaces.limits_at, specs.Reading.reading, specs.Reading.Holds}
+use Rattle.pk_model.{specs.Spaces.limits_at, specs.Reading.Holds}
 use Rattle.pk_redo.specs.Image.{ReadAs, EachPrefixIsACut}
 use Rattle.pk_durable.{specs.Durable.opened_marks, proofs.Reading.read_once}
-use Rattle.pk_top.{specs.Makes.IsMade, specs.Words.word_of}
+use Rattle.pk_top.{specs.Words.word_of}
 use Rattle.pk_top.specs.Sessions.{ProgramRun, IsRun, LeavesMap, KeptThrough, RunOn, KeptThroughRuns}
 use Rattle.pk_law_durable.specs.DurableRuns.{DurableRun, IsDurableRun, DurableRunOn, DurableStep, KeptThroughDurable, KeptThroughDurableRuns}
 
