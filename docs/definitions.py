@@ -223,6 +223,8 @@ def claims(definitions: Definitions) -> list[Claim]:
         Claim("a pair over two ports: `pk_mirror::Mirror`", set().union(*(of(f"pk_mirror/src/{file}.rt", name) for file, name in ports))),
         Claim("a run over spare blocks: `pk_top::run_spared`", of("pk_top/src/spared.rt", "run_spared")),
         Claim("a flash with spare blocks: `pk_remap::Remap`", set().union(*(of(f"pk_remap/src/{file}.rt", *names) for file, names in spared))),
+        Claim("sessions over an image and its log: `pk_law_durable`",
+              {("pk_law_durable/specs/DurableRuns", "KeptThroughDurableRuns")} | of("pk_law_durable/src/running.rt", "session") | of("pk_durable/src/flash.rt", "open")),
     ]
 
 

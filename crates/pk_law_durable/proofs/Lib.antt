@@ -1,0 +1,3 @@
+mod DurableLemmas
+mod Growing
+mod Sessions
