@@ -1,0 +1,14 @@
+use Rattle.std.proofs.Common.{arith, refl}
+use Rattle.pk_pin.proofs.Cuts.{piece_end, chunks-put_mid}
+use Rattle.pk_pin.proofs.index.index_frame.Goals as goal
+
+pub overflow_mul-start : goal.overflow_mul-start
+overflow_mul-start c = omega (arith, piece_end c.args.i c.args.n c.args.homes c.requires.inside)
+
+pub returns-clause-tables : goal.returns-clause-tables
+returns-clause-tables c =
+    let a = c.args in (
+      c.index.new.table,
+      chunks-put_mid a.homes a.n a.tables.now c.index.new.table a.i _ _ c.requires.inside (omega arith) ? refl (omega arith),
+      c.index.ensures.indexed,
+    )
