@@ -228,7 +228,7 @@ push_same ss s y h =
     ∙ ap content (get_or_append_left ss (s ∷ []) s y h)
     ∙ sym (get_or-map content ss y s ([], None) h)
 
-push_last : (ss : List Slot) (s : Slot) → numbered (ss ++ s ∷ []) (length ss) ≡ content s
+pub push_last : (ss : List Slot) (s : Slot) → numbered (ss ++ s ∷ []) (length ss) ≡ content s
 push_last [] s = refl
 push_last (t ∷ ss) s = push_last ss s
 

@@ -4,7 +4,7 @@ use Rattle.pk_buf.proofs.Buffer.get.Goals as goal
 
 pub returns-in-Some : goal.returns-in-Some
 returns-in-Some g c =
-    let f = rw (c.as_slice.ensures, c.as_slice-2.ensures) at c.in-Some.ensures in
+    let f = rw c.as_slice.ensures at c.in-Some.ensures in
     let ss = c.self.inside.slots.items in
     let xs = c.self.inside.order.items in
     let s = c.index-as_slice-number.result in

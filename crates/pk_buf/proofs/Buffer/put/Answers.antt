@@ -6,7 +6,7 @@ use Rattle.pk_buf.proofs.Buffer.put.Goals as goal
 
 pub invariant_of-self : goal.invariant_of-self
 invariant_of-self g c =
-    let f = rw (c.as_slice.ensures, c.as_slice-2.ensures, c.key.ensures) at c.in-Some.ensures in
+    let f = rw (c.as_slice.ensures, c.key.ensures) at c.in-Some.ensures in
     let inv = c.self.invariant in
     let ss = c.self.inside.slots.items in
     let xs = c.self.inside.order.items in
@@ -26,7 +26,7 @@ invariant_of-self g c =
 
 pub returns-in-Some : goal.returns-in-Some
 returns-in-Some g c =
-    let f = rw (c.as_slice.ensures, c.as_slice-2.ensures, c.key.ensures) at c.in-Some.ensures in
+    let f = rw (c.as_slice.ensures, c.key.ensures) at c.in-Some.ensures in
     let inv = c.self.invariant in
     let ss = c.self.inside.slots.items in
     let xs = c.self.inside.order.items in
