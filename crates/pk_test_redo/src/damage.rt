@@ -59,6 +59,11 @@ fn changed_at(alloc: Global, log: &[u8], at: usize, byte: u8) -> Result<Vec<u8>,
     Ok(changed)
 }
 
+// The first bytes of a log, all if it has fewer.
+fn front(log: &[u8], len: usize) -> &[u8] {
+    &log[..len.min(log.len())]
+}
+
 // The file ends there, or has zeros from there on. The last batch ends with a byte that is not 0.
 #[test]
 fn last_batch_cut(rt: HostRuntime) -> Result<(), Fail> {
@@ -66,14 +71,14 @@ fn last_batch_cut(rt: HostRuntime) -> Result<(), Fail> {
     let (done, files) = stopped(alloc, true)?;
     let (log, image) = (files.log.bytes(), files.image.synced());
     assert!(rt; log.len() > END);
-    assert!(rt; opens_as(alloc, &log[..END], image, &done.end)?);
+    assert!(rt; opens_as(alloc, front(log, END), image, &done.end)?);
     assert!(rt; opens_as(alloc, log, image, &done.end)?);
     assert_eq!(rt; done.steps.len(), BEFORE + 3);
     let without = pages_after(alloc, &done, BEFORE)?;
     assert!(rt; !without.is_same(&done.end));
     for at in BEGIN..END {
         assert!(rt;
-            opens_as(alloc, &log[..at], image, &without)?,
+            opens_as(alloc, front(log, at), image, &without)?,
             "ends at {at}"
         );
         let lost = lost_from(alloc, log, at)?;
