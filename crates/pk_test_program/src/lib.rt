@@ -1,12 +1,9 @@
 //! The trials run on the program, each a test: whole sessions, cuts, faults, hard cases; drives in
-//! heaps (`stress`); its words on an image file (`image`); over an image and its log on disks in
-//! memory (`durable`); and over the skeleton of a board (`skeleton`). The crate has nothing but tests.
+//! heaps (`stress`); its words on an image file (`image`); and over the skeleton of a board (`skeleton`). The crate has nothing but tests.
 #![tactic(auto)]
 
 #[cfg(test)]
 mod cuts;
-#[cfg(test)]
-mod durable;
 #[cfg(test)]
 mod faults;
 #[cfg(test)]

@@ -1,19 +1,28 @@
 //! The program over an image and its log, both disks in memory, of which a crash leaves what was synced.
 
-use crate::pink::Pink;
 use pk_base::Shape;
 use pk_durable::DurableFlash;
+use pk_flash::Flash;
 use pk_image::{PageTag, header};
 use pk_law_durable::session;
 use pk_nand::PageState;
 use pk_redo::LogSizes;
 use pk_test_scripts::boards::served;
 use pk_test_scripts::script::{Ask, Value, script};
-use pk_test_scripts::{MAKE_WORKED, holds, made, same, worked};
-use pk_top::Status;
+use pk_test_scripts::{MAKE_WORKED, Program, holds, made, same, worked};
+use pk_top::{Status, run};
 use sqlite_disk::{Crash, Disk, Fuse, Memory};
 use std::alloc::{AllocError, Global};
 use std::test::*;
+
+// The program over the board in memory, with which sessions over disks are compared.
+struct InMemory;
+
+impl Program for InMemory {
+    fn run(alloc: Global, words: &[&str], flash: &mut Flash) -> u8 {
+        run(alloc, words, flash).0
+    }
+}
 
 // Keys as words have them, with the bytes of their values as they are printed.
 const STORED: [(&str, &[u8]); 4] = [
@@ -100,7 +109,7 @@ fn disks(
     log_calls: u64,
     image_calls: u64,
 ) -> Result<(Fuse<Memory>, Fuse<Memory>), Fail> {
-    let bytes = image_of(alloc, &worked()?, &made::<Pink>(alloc, &MAKE_WORKED)?)?;
+    let bytes = image_of(alloc, &worked()?, &made::<InMemory>(alloc, &MAKE_WORKED)?)?;
     let mut image = Memory::new(alloc);
     if !image.may_be_used() || image.write_at(0, &bytes).is_err() {
         return Err(Fail::from("an image"));
@@ -129,7 +138,7 @@ fn run_on(
     let sizes = LogSizes::new(&shape, 4096, 8192, 16384);
     match DurableFlash::open(alloc, log, image, shape, sizes, 400) {
         Ok(flash) => {
-            let (status, flash) = session(alloc, words, flash, input);
+            let (status, flash) = session(alloc, words, input, flash);
             Ok((status.0, flash))
         }
         Err(_) => Err(Fail::from("an opening")),
@@ -165,8 +174,8 @@ fn found_after_crash(
 #[test]
 fn as_in_memory(rt: HostRuntime) -> Result<(), Fail> {
     let alloc = rt.alloc();
-    let pages = made::<Pink>(alloc, &MAKE_WORKED)?;
-    let wanted = served::<Pink>(alloc, worked()?, pages, &STORES)?;
+    let pages = made::<InMemory>(alloc, &MAKE_WORKED)?;
+    let wanted = served::<InMemory>(alloc, worked()?, pages, &STORES)?;
     let (log, image) = disks(alloc, u64::MAX, u64::MAX)?;
     let input = script(alloc, &STORES)?;
     let (status, flash) = run_on(alloc, &["serve", "36"], input, log, image)?;
