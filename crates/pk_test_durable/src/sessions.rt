@@ -195,18 +195,29 @@ fn stopped(alloc: Global, log_calls: u64, image_calls: u64) -> Result<usize, Fai
     Ok(count)
 }
 
-/// Wherever the log stops, each Store whose record was sent is there after a crash.
-#[test]
-fn log_stopped(rt: HostRuntime) -> Result<(), Fail> {
-    let alloc = rt.alloc();
+// The least and the most Stores that were sent, over sessions of which the log stops after `first` calls, or more below `end`.
+fn sent_until(alloc: Global, first: u64, end: u64) -> Result<(usize, usize), Fail> {
     let mut least = STORED.len();
     let mut most = 0usize;
-    for calls in 5..60u64 {
+    for calls in first..end {
         let count = stopped(alloc, calls, u64::MAX)?;
         least = least.min(count);
         most = most.max(count);
     }
-    same(least, 0, "a session that sends nothing")?;
+    Ok((least, most))
+}
+
+/// Wherever the log stops, each Store whose record was sent is there after a crash: early calls.
+#[test]
+fn log_stopped_early(rt: HostRuntime) -> Result<(), Fail> {
+    let (least, _) = sent_until(rt.alloc(), 5, 30)?;
+    same(least, 0, "a session that sends nothing")
+}
+
+/// The same of late calls.
+#[test]
+fn log_stopped_late(rt: HostRuntime) -> Result<(), Fail> {
+    let (_, most) = sent_until(rt.alloc(), 30, 60)?;
     same(most, STORED.len(), "a session that sends all")
 }
 
