@@ -15,8 +15,8 @@ counts for an edit only if the prover names a goal of the function that this edi
 
 It prints a table (crate, edit, whether it was refused, a goal that stays open, its kind) and how many were tried, refused and accepted, and
 ends with 0 only if each was refused. Of several goals it names the first that is a clause, or else the first. The kinds: `clause`, what the
-function promises; `condition`, what a call in it asks for; `invariant`, of a loop or a type; `safety`, a range, a bound or an end; `names`,
-only names of its proof are gone; `limit`, the prover gave up.
+function promises; `condition`, what a call in it asks for; `invariant`, of a loop or a type; `safety`, a range, a bound or an end; `lemma`, a
+step of the proof of a clause; `names`, only names of its proof are gone; `limit`, the prover gave up.
 """
 from __future__ import annotations
 
@@ -162,6 +162,8 @@ class Checker:
 
 
 def kind_of(goal: str) -> str:
+    if re.fullmatch("[a-z_]+", goal) and goal != "returns":
+        return "lemma"
     if "-requires" in goal:
         return "condition"
     if "invariant" in goal or re.search(r"-(init|preserved)\b", goal):
