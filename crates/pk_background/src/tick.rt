@@ -124,12 +124,17 @@ fn reclaim_step<B: Nand, A: Region>(parts: &mut Parts<A>, board: &mut B) -> Tick
 
 // The lowest free block that was not erased in this session is erased; idle if there is none.
 fn erase_step<B: Nand, A: Region>(parts: &mut Parts<A>, board: &mut B) -> Ticked
+    // The drive is whole.
     requires may { MayTick parts.old (B.state board.old) }
     requires whole { is_half parts.old ≡ false }
+
+    // No other background work remains.
     requires merged { has_no_merge (index_of parts.old) ≡ true }
     requires frozen { (length (taken_by parts.old.schedule.freeze) == 0) ≡ true }
     requires reclaimed { wants_reclaim parts.old ≡ false }
     requires filled { lacks_frames parts.old ≡ false }
+
+    // What the step does.
     ensures { Advances parts.old parts.new (B.state board.old) (B.state board.new) result }
 {
     match erase_spare(parts, board) {
@@ -142,12 +147,17 @@ fn erase_step<B: Nand, A: Region>(parts: &mut Parts<A>, board: &mut B) -> Ticked
 
 // A page that may have a frame and has none is read into one.
 fn fill_step<B: Nand, A: Region>(parts: &mut Parts<A>, board: &mut B) -> Ticked
+    // The drive is whole.
     requires may { MayTick parts.old (B.state board.old) }
     requires whole { is_half parts.old ≡ false }
+
+    // No other background work remains but that frames lack pages.
     requires merged { has_no_merge (index_of parts.old) ≡ true }
     requires frozen { (length (taken_by parts.old.schedule.freeze) == 0) ≡ true }
     requires reclaimed { wants_reclaim parts.old ≡ false }
     requires unfilled { lacks_frames parts.old ≡ true }
+
+    // What the step does.
     ensures { Advances parts.old parts.new (B.state board.old) (B.state board.new) result }
 {
     // no run has more pages than its level may have

@@ -1,5 +1,5 @@
 -- A write buffer as the list of its entries.
-use Rattle.std.specs.Prelude.{ℕ, suc, cond, Bool, false, List, [], ◌∷◌, map, slice_get}
+use Rattle.std.specs.Prelude.{ℕ, suc, cond, Bool, false, List, [], ◌∷◌, map, get_or, None, slice_get}
 use Rattle.std.{specs.Ordering.is_lt, specs.Ordering.is_eq, specs.Option.option_map_or}
 use Rattle.pk_base.{specs.Key.Key, specs.Key.key_cmp, specs.Entry.Entry, specs.Entry.key_of, specs.Shape.Shape, specs.Shape.buffer, specs.Seen.entry}
 use Rattle.pk_buf.specs.declared.slot.Slot.{Slot}
@@ -32,9 +32,12 @@ has_at key es i = option_map_or (has_key key) (slice_get es i) false
 
 -- ---- inside
 
--- the entry of a slot, and of each
+-- the entry of a slot, of that with a number, and those of the slots with these numbers
 abbrev pub content : Slot → Entry
 content slot = entry slot.entry
 
-abbrev pub contents : List Slot → List Entry
-contents slots = map content slots
+abbrev pub numbered : List Slot → ℕ → Entry
+numbered slots i = get_or (map content slots) i ([], None)
+
+abbrev pub sorted : List Slot → List ℕ → List Entry
+sorted slots order = map (numbered slots) order

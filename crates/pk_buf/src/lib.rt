@@ -1,4 +1,6 @@
 //! A write buffer: a table of entries in the order of their keys, whose memory is taken once.
+//! Its slots are in the order of arrival, so that a write moves numbers of two bytes, and a table
+//! of homes leads from the hash of a key to its slot.
 //!
 //! Contracts see the list of its entries. A write puts an entry over the one of its key, or in its
 //! place among the others, which are unchanged.
@@ -6,16 +8,19 @@
 
 mod slot;
 
-ghost use Rattle.std.specs.Prelude.{◌≡◌, ◌+◌, ◌<◌, ◌≤◌, ◌⊎◌, length, T, Some, None, IsSome, IfOk, IfErr, MatchOption, MatchResult, true, false, slice_get, option_map, []};
+ghost use Rattle.std.specs.Prelude.{ℕ, suc, ◌≡◌, ◌+◌, ◌<◌, ◌≤◌, ◌⊎◌, length, T, Some, None, IsSome, IfOk, IfErr, MatchOption, MatchResult, true, false, slice_get, option_map, []};
+ghost use Rattle.std.specs.List.{AllWithin};
 ghost use Rattle.std.specs.FinMap.Entries.{find, put, is_sorted};
 ghost use Rattle.pk_base.specs.Key.{key_cmp};
 ghost use Rattle.pk_base.specs.Entry.{key_of};
 ghost use Rattle.pk_base.specs.Shape.{buffer};
 ghost use Rattle.pk_base.specs.Seen.{entry};
-ghost use Rattle.pk_buf.specs.Table.{Table, no_entries, place_of, is_below as is_below_key, has_key, has_at, content, contents};
+ghost use Rattle.pk_buf.specs.Slots.{HasSlots};
+ghost use Rattle.pk_buf.specs.Table.{Table, no_entries, place_of, is_below as is_below_key, has_key, has_at, content, numbered, sorted};
 
 use crate::slot::Slot;
 use pk_base::{Entry, Key, Shape, is_below, is_same};
+use pk_homes::{SHARED, add, hash, home};
 use pk_region::Region;
 use smallvec::SmallVec;
 use std::alloc::AllocError;
@@ -25,7 +30,12 @@ use std::mem;
 /// The table. Contracts see its entries in order, and how many there is room for.
 pub struct Buffer<A: Region> {
     capacity: u32,
+    // in the order of arrival
     slots: SmallVec<Slot, 0, A>,
+    // the places of the slots, in the order of their keys
+    order: SmallVec<u16, 0, A>,
+    // for each hash of a key, where its slot is
+    table: Vec<u16, A>,
 }
 
 // Written out, so that whoever drops one meets a call, and not the drops of all its parts.
@@ -34,23 +44,32 @@ impl<A: Region> Drop for Buffer<A> {
         let Buffer {
             capacity: _,
             slots: _,
+            order: _,
+            table: _,
         } = self;
     }
 }
 
 impl<A: Region> Model for Buffer<A> {
-    ghost use Rattle.std.specs.Prelude.{◌≤◌, ◌<◌, ◌^◌, length, T};
+    ghost use Rattle.std.specs.Prelude.{ℕ, suc, ◌≡◌, ◌≤◌, ◌<◌, ◌^◌, length, T};
+    ghost use Rattle.std.specs.List.{AllWithin};
     ghost use Rattle.std.specs.FinMap.Entries.{is_sorted};
     ghost use Rattle.pk_base.specs.Key.{key_cmp};
-    ghost use Rattle.pk_buf.specs.Table.{Table, contents};
+    ghost use Rattle.pk_buf.specs.Slots.{HasSlots, AllNumbered};
+    ghost use Rattle.pk_buf.specs.Table.{Table, sorted};
 
     ghost Value = { Table };
 
-    ghost view = { λ b. record { capacity = b.capacity; entries = contents b.slots.items } };
+    ghost view = { λ b. record
+        { capacity = b.capacity; entries = sorted b.slots.items b.order.items } };
 
-    ghost invariant = { λ b. T (is_sorted key_cmp (contents b.slots.items))
+    ghost invariant = { λ b. T (is_sorted key_cmp (sorted b.slots.items b.order.items))
+        × AllWithin (λ i. i < length b.slots.items) b.order.items 0 (length b.order.items)
+        × (length b.order.items ≡ length b.slots.items)
         × (length b.slots.items ≤ b.capacity) × (b.capacity ≤ b.slots.capacity)
-        × (b.capacity < 2 ^ 32) };
+        × (b.capacity ≤ b.order.capacity) × (b.capacity < 2 ^ 14)
+        × HasSlots b.slots.items b.table.items
+        × AllNumbered b.order.items (length b.slots.items) };
 }
 
 // Whether the slot's key is below this one.
@@ -67,17 +86,18 @@ fn has(slot: &Slot, key: &Key) -> bool
     is_same(slot.entry.key(), key)
 }
 
-// How many slots are before the first key that is not below this one.
-fn place(slots: &[Slot], key: &Key) -> usize
-    requires { T (is_sorted key_cmp (contents slots.now)) }
-    ensures place { result ≡ place_of key.now (contents slots.now) }
-    ensures bound { result ≤ length slots.now }
+// How many keys are before the first one that is not below this one.
+fn place(slots: &[Slot], order: &[u16], key: &Key) -> usize
+    requires rising { T (is_sorted key_cmp (sorted slots.now order.now)) }
+    requires within { AllWithin (λ i. i < length slots.now) order.now 0 (length order.now) }
+    ensures place { result ≡ place_of key.now (sorted slots.now order.now) }
+    ensures bound { result ≤ length order.now }
 {
     let mut low = 0;
-    let mut high = slots.len();
+    let mut high = order.len();
     while low < high {
         let middle = low + (high - low) / 2;
-        if comes_before(&slots[middle], key) {
+        if comes_before(&slots[order[middle] as usize], key) {
             low = middle + 1;
         } else {
             high = middle;
@@ -87,19 +107,71 @@ fn place(slots: &[Slot], key: &Key) -> usize
 }
 
 // Where the key is, or where it would go.
-fn search(slots: &[Slot], key: &Key) -> Result<usize, usize>
-    requires { T (is_sorted key_cmp (contents slots.now)) }
-    ensures found { IfOk result (λ i. (i ≡ place_of key.now (contents slots.now))
-        × (has_at key.now (contents slots.now) i ≡ true)) }
-    ensures absent { IfErr result (λ i. (i ≡ place_of key.now (contents slots.now))
-        × (has_at key.now (contents slots.now) i ≡ false)) }
-    ensures bound { MatchResult result (λ i. i < length slots.now) (λ i. i ≤ length slots.now) }
+fn search(slots: &[Slot], order: &[u16], key: &Key) -> Result<usize, usize>
+    requires rising { T (is_sorted key_cmp (sorted slots.now order.now)) }
+    requires within { AllWithin (λ i. i < length slots.now) order.now 0 (length order.now) }
+    ensures found { IfOk result (λ i. (i ≡ place_of key.now (sorted slots.now order.now))
+        × (has_at key.now (sorted slots.now order.now) i ≡ true)) }
+    ensures absent { IfErr result (λ i. (i ≡ place_of key.now (sorted slots.now order.now))
+        × (has_at key.now (sorted slots.now order.now) i ≡ false)) }
+    ensures bound { MatchResult result (λ i. i < length order.now) (λ i. i ≤ length order.now) }
 {
-    let at = place(slots, key);
-    if at < slots.len() && has(&slots[at], key) {
+    let at = place(slots, order, key);
+    if at < order.len() && has(&slots[order[at] as usize], key) {
         Ok(at)
     } else {
         Err(at)
+    }
+}
+
+// The slot before the one with this number, if it has the key.
+fn slot_before(slots: &[Slot], number: usize, key: &Key) -> Option<usize>
+    ensures { MatchOption result
+        ((i : ℕ) → i < length slots.now → suc i ≡ number
+        → has_key key.now (numbered slots.now i) ≡ false)
+        (λ i. (i < length slots.now) × (has_key key.now (numbered slots.now i) ≡ true)) }
+{
+    if number == 0 {
+        return None;
+    }
+    if number > slots.len() {
+        return None;
+    }
+    if has(&slots[number - 1], key) {
+        Some(number - 1)
+    } else {
+        None
+    }
+}
+
+// The slot of a key, by halving.
+fn slot_by_order(slots: &[Slot], order: &[u16], key: &Key) -> Option<usize>
+    requires rising { T (is_sorted key_cmp (sorted slots.now order.now)) }
+    requires within { AllWithin (λ i. i < length slots.now) order.now 0 (length order.now) }
+    ensures { MatchOption result (find key_cmp key.now (sorted slots.now order.now) ≡ None)
+        (λ i. (i < length slots.now) × (has_key key.now (numbered slots.now i) ≡ true)) }
+{
+    match search(slots, order, key) {
+        Ok(at) => Some(order[at] as usize),
+        Err(_) => None,
+    }
+}
+
+// The slot of a key.
+fn slot_of(slots: &[Slot], order: &[u16], table: &[u16], key: &Key) -> Option<usize>
+    requires rising { T (is_sorted key_cmp (sorted slots.now order.now)) }
+    requires within { AllWithin (λ i. i < length slots.now) order.now 0 (length order.now) }
+    requires homes { HasSlots slots.now table.now }
+    ensures { MatchOption result (find key_cmp key.now (sorted slots.now order.now) ≡ None)
+        (λ i. (i < length slots.now) × (has_key key.now (numbered slots.now i) ≡ true)) }
+{
+    let found = table[home(hash(key), table.len())];
+    if found < SHARED {
+        return slot_before(slots, found as usize, key);
+    }
+    match slot_before(slots, (found - SHARED) as usize, key) {
+        Some(number) => Some(number),
+        None => slot_by_order(slots, order, key),
     }
 }
 
@@ -110,7 +182,14 @@ impl<A: Region> Buffer<A> {
     {
         let capacity = shape.buffer();
         let slots = SmallVec::with_capacity(alloc, capacity as usize)?;
-        Ok(Buffer { capacity, slots })
+        let order = SmallVec::with_capacity(alloc, capacity as usize)?;
+        let table = Vec::from_elem(alloc, 0u16, 2 * capacity as usize)?;
+        Ok(Buffer {
+            capacity,
+            slots,
+            order,
+            table,
+        })
     }
 
     /// How many entries there are.
@@ -134,7 +213,9 @@ impl<A: Region> Buffer<A> {
         requires { i < length self.now.entries }
         ensures { slice_get self.now.entries i ≡ Some (entry result) }
     {
-        self.slots.as_slice()[i as usize].entry.copy()
+        self.slots.as_slice()[self.order.as_slice()[i as usize] as usize]
+            .entry
+            .copy()
     }
 
     /// The key of the entry at this place.
@@ -142,7 +223,9 @@ impl<A: Region> Buffer<A> {
         requires { i < length self.now.entries }
         ensures { option_map key_of (slice_get self.now.entries i) ≡ Some result.now }
     {
-        self.slots.as_slice()[i as usize].entry.key()
+        self.slots.as_slice()[self.order.as_slice()[i as usize] as usize]
+            .entry
+            .key()
     }
 
     /// The place of the first key that is not below this one.
@@ -150,7 +233,7 @@ impl<A: Region> Buffer<A> {
         ensures place { result ≡ place_of key.now self.now.entries }
         ensures bound { result ≤ length self.now.entries }
     {
-        place(self.slots.as_slice(), key) as u32
+        place(self.slots.as_slice(), self.order.as_slice(), key) as u32
     }
 
     /// The entry of the key.
@@ -159,9 +242,14 @@ impl<A: Region> Buffer<A> {
             (λ e. (key_of (entry e) ≡ key.now)
             × (find key_cmp key.now self.now.entries ≡ Some (entry e).1)) }
     {
-        match search(self.slots.as_slice(), key) {
-            Ok(at) => Some(self.slots.as_slice()[at].entry.copy()),
-            Err(_) => None,
+        match slot_of(
+            self.slots.as_slice(),
+            self.order.as_slice(),
+            &self.table,
+            key,
+        ) {
+            Some(number) => Some(self.slots.as_slice()[number].entry.copy()),
+            None => None,
         }
     }
 
@@ -172,14 +260,37 @@ impl<A: Region> Buffer<A> {
         ensures { self.new ≡ record self.old
             { entries = put key_cmp (key_of (entry new)) (entry new).1 self.old.entries } }
     {
-        match search(self.slots.as_slice(), new.key()) {
-            Ok(at) => {
-                self.slots[at] = Slot { entry: new };
+        match slot_of(
+            self.slots.as_slice(),
+            self.order.as_slice(),
+            &self.table,
+            new.key(),
+        ) {
+            Some(number) => {
+                self.slots[number] = Slot { entry: new };
             }
-            Err(at) => match self.slots.insert(at, Slot { entry: new }) {
-                Ok(()) => {}
-                Err(_) => unreachable!(),
-            },
+            None => self.insert(new),
+        }
+    }
+
+    // Adds the entry of a key that has none.
+    fn insert(&mut self, new: Entry)
+        requires room { length self.old.entries < self.old.capacity }
+        requires absent { find key_cmp (key_of (entry new)) self.old.entries ≡ None }
+        ensures { self.new ≡ record self.old
+            { entries = put key_cmp (key_of (entry new)) (entry new).1 self.old.entries } }
+    {
+        let at = place(self.slots.as_slice(), self.order.as_slice(), new.key());
+        let number = self.slots.len() as u16;
+        let here = home(hash(new.key()), self.table.len());
+        add(&mut self.table, here, number);
+        match self.slots.push(Slot { entry: new }) {
+            Ok(()) => {}
+            Err(_) => unreachable!(),
+        }
+        match self.order.insert(at, number) {
+            Ok(()) => {}
+            Err(_) => unreachable!(),
         }
     }
 
@@ -188,6 +299,8 @@ impl<A: Region> Buffer<A> {
         ensures { self.new ≡ record self.old { entries = [] } }
     {
         self.slots.clear();
+        self.order.clear();
+        self.table.fill(0);
     }
 
     /// Exchanges the two tables.

@@ -84,7 +84,8 @@ pub(crate) fn place_value<B: Nand, A: Region>(
     // The pages that were written.
     ensures step { StepPlaces parts.old parts.new (B.state board.old) (B.state board.new)
         key.now value.now result }
-    ensures rest { parts.new ≡ record parts.old { values = parts.new.values; pool = parts.new.pool } }
+    ensures rest { parts.new ≡ record parts.old
+        { values = parts.new.values; pool = parts.new.pool } }
     ensures opens { OnOk result (StaysOrOpens parts.old parts.new
         (pages_for parts.old value.now)) }
     ensures programs { OnOk result (fits_open parts.old.log.shape parts.old.values

@@ -11,7 +11,7 @@ use Rattle.pk_parts.{specs.Parts.Parts, specs.Parts.sight_of, specs.Parts.settle
 use Rattle.pk_core.{specs.Done.Does, specs.Done.Executes, specs.Quiet.OnlyLooks, specs.Quiet.eleven, specs.Serving.IsServable, proofs.Callings.few_of_shape, proofs.Executing.executes_walked}
 use Rattle.pk_core.{specs.Listed.first_listed, specs.Listed.ListsInto, specs.Listed.own_keys, proofs.Replies.keys_own, proofs.Replies.keys_listed}
 use Rattle.pk_core.proofs.Unchanging.{ReadsWithin, does_still, not_read, ok_sound, served}
-use Rattle.pk_index.specs.Keys.{keys_there}
+use Rattle.pk_parts.specs.Keys.{keys_there}
 
 -- the bytes of a List on these runs
 abbrev bytes_on : Parts → Request → List (List Entry) → List ℕ

@@ -13,7 +13,7 @@ use Rattle.pk_log.specs.State.{LogState}
 use Rattle.pk_model.specs.Answer.{listed, fitting, list_bytes}
 use Rattle.pk_walk.{specs.Visible.visible, specs.Visible.is_wanted, specs.Visible.wanted, proofs.Seeking.one_of_each, proofs.Seeking.Reads-none, proofs.Seeking.Reads-more}
 use Rattle.pk_walk.specs.Walking.{Walk, IsLeft, WalkGives, Reads, ReadsFail, pages_read, most_read}
-use Rattle.pk_index.specs.Keys.{MayWalk, Walked, keys_of, keys_there}
+use Rattle.pk_parts.specs.Keys.{MayWalk, Walked, keys_of, keys_there}
 use Rattle.pk_parts.{specs.Parts.Parts, specs.Agreeing.DriveOnFlash, proofs.Unchanging.agrees_ready}
 use Rattle.pk_core.specs.declared.filled.Filled.{Filled}
 use Rattle.pk_core.specs.Listed.{OffersKey, OffersFirst, OffersNext, Lists, ListsAll, ListsInto, own_keys}

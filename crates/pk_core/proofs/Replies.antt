@@ -13,7 +13,7 @@ use Rattle.pk_rootfmt.specs.Root.{Root}
 use Rattle.pk_law_steps.{specs.Under.places, proofs.Counting.counts}
 use Rattle.pk_walk.specs.Visible.{visible}
 use Rattle.pk_parts.{specs.Parts.Parts, specs.Agreeing.DriveOnFlashWith}
-use Rattle.pk_index.specs.Keys.{keys_of, not_below, keys_there}
+use Rattle.pk_parts.specs.Keys.{keys_of, not_below, keys_there}
 use Rattle.pk_core.specs.Listed.{least_in, own_keys}
 
 -- ---- the keys that exist

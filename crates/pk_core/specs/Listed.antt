@@ -8,7 +8,7 @@ use Rattle.pk_pin.specs.Frames.{Frames}
 use Rattle.pk_level.specs.Levels.{Levels}
 use Rattle.pk_walk.specs.Walking.{Walk, IsLeft}
 use Rattle.pk_log.specs.State.{LogState}
-use Rattle.pk_index.specs.Keys.{keys_of}
+use Rattle.pk_parts.specs.Keys.{keys_of}
 use Rattle.pk_call.{specs.Meter.reads_after, specs.declared.types.Outcome.Outcome}
 use Rattle.pk_model.specs.Answer.{listed, item_bytes, fitting}
 use Rattle.pk_core.specs.declared.filled.Filled.{Filled}

@@ -6,7 +6,7 @@ ghost use Rattle.pk_base.specs.Entry.{Place};
 ghost use Rattle.pk_nand.specs.declared.types.Fault.TheVariants.{Reading};
 ghost use Rattle.pk_walk.specs.Walking.{IsLeft, Reads, ReadsFail, pages_read, most_read};
 ghost use Rattle.pk_nvme.specs.Seen.{command_of};
-ghost use Rattle.pk_index.specs.Keys.{MayWalk, Walked, keys_of};
+ghost use Rattle.pk_parts.specs.Keys.{MayWalk, Walked, keys_of};
 ghost use Rattle.pk_core.specs.Serving.{IsServable};
 ghost use Rattle.pk_core.specs.Done.{Executes};
 ghost use Rattle.pk_core.specs.Listed.{IsFilled, OffersNext, ListsAll, first_listed, own_keys};

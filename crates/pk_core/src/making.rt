@@ -71,17 +71,24 @@ fn write_first_root<B: Nand>(
 ///
 /// `NandFault` if one of the two programs fails.
 pub fn format<B: Nand>(board: &mut B, shape: Shape, limits: &Limits) -> Result<(), NandFault>
+    // The flash, with all pages Erased, and the limits.
     requires ready { IsReady (B.state board.old) shape }
     requires erased { (q : ℕ) → q < page_count shape → IsErased (B.state board.old).pages q }
     requires limits { limits.now.shape ≡ shape }
+
+    // The empty map, with these limits.
     ensures holds { OnOk result (Holds shape (B.state board.new).pages empty) }
     ensures limits { OnOk result (limits_at shape (B.state board.new).pages ≡ limits.now.each) }
+
+    // The programs of the first root.
     ensures programs { OnOk result (B.state board.new ≡ after_programs (B.state board.old)
         (programs_of_pair 0 (root_bytes shape
         (first_with (written_limits shape limits.now.each))))) }
     ensures err { OnErr result (ProgramsFailed (B.state board.old) (B.state board.new)
         (programs_of_pair 0 (root_bytes shape
         (first_with (written_limits shape limits.now.each))))) }
+
+    // What is unchanged.
     ensures ready { IsReady (B.state board.new) shape }
 {
     shape.known();

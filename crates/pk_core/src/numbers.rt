@@ -47,11 +47,16 @@ fn put_counts(counts: &Counts, into: &mut [u8])
 
 /// Writes the numbers of a Report in the namespace of its request.
 pub(crate) fn report<A: Region>(parts: &Parts<A>, request: &Request, into: &mut [u8]) -> Outcome
+    // The namespace and the buffer.
     requires space { 1 ≤ request.now.namespace
         × request.now.namespace ≤ length (spec.spaces_of parts.now) }
     requires room { REPORT_BYTES ≤ length into.old }
+
+    // The answer.
     ensures does { request.now.opcode ≡ REPORT → DoneFor parts.now request.now result into.new }
     ensures told { (result.status ≡ SUCCESSFUL_COMPLETION) × (result.stopped ≡ false) }
+
+    // Its bytes.
     ensures bytes { take result.data_len into.new ≡ report_of
         (in_space_at (spec.spaces_of parts.now) request.now.namespace) (spec.counts_of parts.now) }
     ensures fits { result.data_len ≤ length into.new }

@@ -108,14 +108,19 @@ impl<D: Disk + Drop> DurableFlash<D> {
 impl<D: Disk> DurableFlash<D> {
     /// Programs a page. After an error nothing was done.
     pub fn program(&mut self, alloc: Global, page: u32, bytes: &[u8]) -> Result<(), NandFault>
+        // The page and its bytes.
         requires exists { page < length self.old.slots.items }
         requires full { length bytes.now ≡ self.old.shape.page_bytes }
+
+        // The pages and the trail; both stay if the program fails.
         ensures pages { OnOk result (pages_of self.new.slots.items
             ≡ slice_set (pages_of self.old.slots.items) page (whole bytes.now)) }
         ensures marks { OnOk result (seen_marks self.new.trail.marks.items
             ≡ seen_marks self.old.trail.marks.items ++ program page bytes.now ∷ []) }
         ensures left { OnErr result ((self.new.slots ≡ self.old.slots)
             × (self.new.trail ≡ self.old.trail)) }
+
+        // What is unchanged.
         ensures shape { self.new.shape ≡ self.old.shape }
         ensures opened { (self.new.opened_log ≡ self.old.opened_log)
             × (self.new.opened_image ≡ self.old.opened_image) }
@@ -145,13 +150,18 @@ impl<D: Disk> DurableFlash<D> {
 
     /// Erases a block. After an error nothing was done.
     pub fn erase(&mut self, block: u32) -> Result<(), NandFault>
+        // The block.
         requires exists { block < self.old.shape.blocks }
+
+        // The pages and the trail; both stay if the erase fails.
         ensures pages { OnOk result (pages_of self.new.slots.items
             ≡ after self.old.shape (erase block) (pages_of self.old.slots.items)) }
         ensures marks { OnOk result (seen_marks self.new.trail.marks.items
             ≡ seen_marks self.old.trail.marks.items ++ erase block ∷ []) }
         ensures left { OnErr result ((self.new.slots ≡ self.old.slots)
             × (self.new.trail ≡ self.old.trail)) }
+
+        // What is unchanged.
         ensures shape { self.new.shape ≡ self.old.shape }
         ensures opened { (self.new.opened_log ≡ self.old.opened_log)
             × (self.new.opened_image ≡ self.old.opened_image) }
@@ -171,12 +181,15 @@ impl<D: Disk> DurableFlash<D> {
 
     /// Posts bytes, which wait for a barrier. Without room for the mark, or memory, nothing is done.
     pub fn post(&mut self, alloc: Global, bytes: &[u8]) -> bool
+        // The trail and the bytes that wait; both stay if the post is refused.
         ensures marks { result ≡ true → seen_marks self.new.trail.marks.items
             ≡ seen_marks self.old.trail.marks.items ++ post bytes.now ∷ [] }
         ensures waits { result ≡ true
             → self.new.waiting.items ≡ self.old.waiting.items ++ bytes.now }
         ensures refused { result ≡ false → (self.new.trail ≡ self.old.trail)
             × (self.new.waiting.items ≡ self.old.waiting.items) }
+
+        // What is unchanged.
         ensures sent { self.new.sent ≡ self.old.sent }
         ensures slots { self.new.slots ≡ self.old.slots }
         ensures shape { self.new.shape ≡ self.old.shape }
@@ -200,11 +213,16 @@ impl<D: Disk> DurableFlash<D> {
     /// The barrier, after which what was posted is sent. After a barrier that failed nothing more is
     /// sent.
     pub fn deliver(&mut self) -> bool
+        // The bytes that were sent, and those that wait.
         ensures sent { result ≡ true → self.new.waiting.items ≡ [] }
         ensures held { result ≡ false → self.new.sent.items ≡ self.old.sent.items }
         ensures posted { self.new.sent.items ++ self.new.waiting.items
             ≡ self.old.sent.items ++ self.old.waiting.items }
+
+        // The marks that are on the disk.
         ensures durable { result ≡ true → self.new.durable ≡ length self.new.trail.marks.items }
+
+        // What is unchanged.
         ensures trail { self.new.trail ≡ self.old.trail }
         ensures slots { self.new.slots ≡ self.old.slots }
         ensures shape { self.new.shape ≡ self.old.shape }

@@ -15,7 +15,8 @@ use std::alloc::Global;
 fn bytes_of_page<'f>(shape: &Shape, file: &'f [u8], page: u32) -> &'f [u8]
     requires fits { file_size shape.now ≤ length file.now }
     requires exists { page < spec.page_count shape.now }
-    ensures value { result.now ≡ take shape.now.page_bytes (drop (page_place shape.now page) file.now) }
+    ensures value { result.now ≡ take shape.now.page_bytes
+        (drop (page_place shape.now page) file.now) }
     ensures len { length result.now ≡ shape.now.page_bytes }
 {
     let at = page_at(shape, page) as usize;

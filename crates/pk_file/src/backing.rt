@@ -175,10 +175,15 @@ fn write_waiting(
     slots: &Vec<Slot>,
     row: &mut Row,
 ) -> bool
+    // The pages and the row.
     requires count { length slots.now.items ≡ spec.page_count (shape_or_none shape.now) }
     requires fit { AllFit (shape_or_none shape.now) slots.now.items }
     requires row { row.old.first + length row.old.extents.items ≤ length slots.now.items }
+
+    // The row.
     ensures row { row.new.first + length row.new.extents.items ≤ length slots.now.items }
+
+    // If it is written, and if it was lost before.
     ensures none { result ≡ true → row.new.extents.items ≡ [] }
     ensures kept { result ≡ true → row.new.is_lost ≡ false }
     ensures lost { row.old.is_lost ≡ true → (result ≡ false) × (row.new.is_lost ≡ true) }
@@ -236,13 +241,18 @@ fn program_beside<D: OpenDisk>(
     page: u32,
     bytes: &[u8],
 ) -> Result<(), NandFault>
+    // The page and the image.
     requires exists { page < length slots.old.items }
     requires full { length bytes.now ≡ (shape_or_none shape.now).page_bytes }
     requires count { length slots.old.items ≡ spec.page_count (shape_or_none shape.now) }
     requires fit { AllFit (shape_or_none shape.now) slots.old.items }
+
+    // The pages; they stay if the program fails.
     ensures pages { OnOk result
         (pages_of slots.new.items ≡ slice_set (pages_of slots.old.items) page (whole bytes.now)) }
     ensures left { OnErr result (slots.new ≡ slots.old) }
+
+    // What is unchanged.
     ensures count { length slots.new.items ≡ length slots.old.items }
     ensures fit { AllFit (shape_or_none shape.now) slots.new.items }
 {
@@ -262,12 +272,17 @@ fn erase_beside<D: OpenDisk>(
     slots: &mut Vec<Slot>,
     block: u32,
 ) -> Result<(), NandFault>
+    // The block and the image.
     requires exists { block < (shape_or_none shape.now).blocks }
     requires count { length slots.old.items ≡ spec.page_count (shape_or_none shape.now) }
     requires fit { AllFit (shape_or_none shape.now) slots.old.items }
+
+    // The pages; they stay if the erase fails.
     ensures pages { OnOk result (pages_of slots.new.items
         ≡ after (shape_or_none shape.now) (erase block) (pages_of slots.old.items)) }
     ensures left { OnErr result (slots.new ≡ slots.old) }
+
+    // What is unchanged.
     ensures count { length slots.new.items ≡ length slots.old.items }
     ensures fit { AllFit (shape_or_none shape.now) slots.new.items }
 {
@@ -424,7 +439,8 @@ impl<'a, D: OpenDisk> Backing<'a, D> {
 
         // The whole effect, or a part of it as a cut may leave it.
         ensures pages { OnOk result
-            (pages_of slots.new.items ≡ slice_set (pages_of slots.old.items) page (whole bytes.now)) }
+            (pages_of slots.new.items ≡ slice_set (pages_of slots.old.items) page
+            (whole bytes.now)) }
         ensures left { OnErr result (LeftBehind (shape_or_none shape.now) (program page bytes.now)
             (pages_of slots.old.items) (pages_of slots.new.items) None None) }
 
@@ -489,12 +505,17 @@ impl<'a, D: OpenDisk> Backing<'a, D> {
     /// The barrier before posts leave: all changes are in the files, and on the disk if they have
     /// to be.
     pub fn barrier(&mut self, shape: &Option<Shape>, slots: &Vec<Slot>) -> bool
+        // The pages and the row.
         requires count { length slots.now.items ≡ spec.page_count (shape_or_none shape.now) }
         requires fit { AllFit (shape_or_none shape.now) slots.now.items }
         requires row { self.old.row.first + length self.old.row.extents.items
             ≤ length slots.now.items }
+
+        // The row.
         ensures row { self.new.row.first + length self.new.row.extents.items
             ≤ length slots.now.items }
+
+        // If all is written, and if the row was lost before.
         ensures none { result ≡ true → self.new.row.extents.items ≡ [] }
         ensures kept { result ≡ true → self.new.row.is_lost ≡ false }
         ensures lost { self.old.row.is_lost ≡ true

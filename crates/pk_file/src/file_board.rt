@@ -129,10 +129,13 @@ fn close<D: OpenDisk, W: Write + Drop>(
     slots: &Vec<Slot>,
     output: &mut Outgoing<W>,
 ) -> Result<(), EndFault>
+    // The pages and the row.
     requires count { length slots.now.items ≡ spec.page_count (shape_or_none shape.now) }
     requires fit { AllFit (shape_or_none shape.now) slots.now.items }
     requires row { backing.old.row.first + length backing.old.row.extents.items
         ≤ length slots.now.items }
+
+    // What does not wait any more, by how the run ended.
     ensures row { backing.new.row.first + length backing.new.row.extents.items
         ≤ length slots.now.items }
     ensures none_waits { OnOk result

@@ -148,12 +148,17 @@ impl Row {
         slots: &Vec<Slot>,
         page: u32,
     ) -> bool
+        // The page, the pages and the row.
         requires exists { page < length slots.now.items }
         requires count { length slots.now.items ≡ spec.page_count shape.now }
         requires fit { AllFit shape.now slots.now.items }
         requires row { self.old.first + length self.old.extents.items ≤ length slots.now.items }
+
+        // The row.
         ensures row { self.new.first + length self.new.extents.items ≤ length slots.now.items }
         ensures writes { self.new.writes ≡ self.old.writes }
+
+        // If the page is added, and if the row was lost before.
         ensures added { result ≡ true → RowGrew shape.now.page_bytes (pages_of slots.now.items)
             self.old.first self.old.extents.items self.new.first self.new.extents.items
             page (slice_index (extents_of slots.now.items) page)
@@ -227,14 +232,21 @@ impl Row {
         first: u32,
         count: u32,
     ) -> Cleared
+        // The block, the pages and the row.
         requires small { count ≤ MOST_BLOCK_PAGES }
         requires exists { first < spec.page_count shape.now }
         requires count { length slots.now.items ≡ spec.page_count shape.now }
         requires fit { AllFit shape.now slots.now.items }
         requires row { self.old.first + length self.old.extents.items ≤ length slots.now.items }
+
+        // The row.
         ensures row { self.new.first + length self.new.extents.items ≤ length slots.now.items }
+
+        // How many of its pages are erased.
         ensures most { result.count ≤ count }
         ensures all { result.is_done ≡ true → result.count ≡ count }
+
+        // If all are, and if the row was lost before.
         ensures done { result.is_done ≡ true → RowErased shape.now.page_bytes
             (pages_of slots.now.items) self.old.first self.old.extents.items first count
             (F.steps file.old) (F.steps file.new) }

@@ -17,7 +17,8 @@ pub fn session<D: Disk>(
     flash: DurableFlash<D>,
 ) -> (Status, DurableFlash<D>)
     requires fresh { flash.trail.marks.items ≡ [] }
-    ensures ran { IsTrue (D.Disk.is_clean flash.redo.log) → IsTrue (D.Disk.is_clean flash.redo.image)
+    ensures ran { IsTrue (D.Disk.is_clean flash.redo.log)
+        → IsTrue (D.Disk.is_clean flash.redo.image)
         → IsTrue (D.Disk.is_clean result.1.redo.log) → IsTrue (D.Disk.is_clean result.1.redo.image)
         → (log_left image_left : List ℕ) → D.Disk.may_leave result.1.redo.log log_left
         → D.Disk.may_leave result.1.redo.image image_left → ∥ IsDurableRun flash.shape (record {

@@ -100,7 +100,8 @@ impl<A: Allocator> Levels<A> {
     pub fn known(&self)
         ensures levels { IsLevels self.now }
         ensures runs { AllByRecursion IsKept self.now.runs }
-        ensures exact { reads_through self.now.runs + self.now.pinned + held_levels self.now ≡ LEVELS }
+        ensures exact { reads_through self.now.runs + self.now.pinned + held_levels self.now
+            ≡ LEVELS }
         ensures few { reads_through self.now.runs + self.now.pinned ≤ LEVELS }
     {
         self.first.known();

@@ -17,3 +17,4 @@ pub mod Freeing
 pub mod Elsewhere
 pub mod Ending
 pub mod Stepped
+mod Filling

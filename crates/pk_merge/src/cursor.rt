@@ -3,15 +3,16 @@ ghost use Rattle.std.specs.Prelude.{◌≡◌, suc, ◌<◌, ◌^◌, List, fals
 ghost use Rattle.pk_base.specs.Shape.{IsShape};
 ghost use Rattle.pk_base.specs.Entry.{Entry as EntrySpec};
 ghost use Rattle.pk_base.specs.Page.{Flash};
-ghost use Rattle.pk_base.specs.Seen.{entry as seen};
+ghost use Rattle.pk_base.specs.EntryBytes.{entry_at};
+ghost use Rattle.pk_meta.specs.Cells.{IsCell};
 ghost use Rattle.pk_nand.specs.Calls.{IsReady};
 ghost use Rattle.pk_nand.specs.declared.types.Fault.TheVariants.{Reading};
 ghost use Rattle.pk_pin.specs.Frames.{Frames};
 ghost use Rattle.pk_run.specs.Kept.{RunOnFlash};
-ghost use Rattle.pk_merge.specs.Cursors.{Follows, at_start, passed, wants_page, MayLoad, Loads, FailsToLoad};
+ghost use Rattle.pk_merge.specs.Cursors.{Follows, at_start, passed, own_cell, wants_page, MayLoad, Loads, FailsToLoad};
 
-use pk_base::{Entry, Shape};
-use pk_meta::entry;
+use pk_base::Shape;
+use pk_meta::cell;
 use pk_nand::{Fault, Nand};
 use pk_pin::PinArena;
 use pk_run::Run;
@@ -124,17 +125,19 @@ impl<A: Allocator> Cursor<A> {
         }
     }
 
-    /// The entry at the place, whose page is loaded.
-    pub fn head(&self, run: &Run<A>) -> Entry
+    /// The bytes of the entry at the place, whose page is loaded.
+    pub fn head(&self, run: &Run<A>) -> &[u8]
         requires here { (flash : Flash) × (arena : Frames) × (es : List EntrySpec)
             × RunOnFlash run.now flash arena es × Follows flash run.now self.now }
         requires exists { self.now.place < run.now.count }
         requires loaded { wants_page self.now ≡ false }
-        ensures { (flash : Flash) (arena : Frames) (es : List EntrySpec)
+        ensures entry { (flash : Flash) (arena : Frames) (es : List EntrySpec)
             → RunOnFlash run.now flash arena es → Follows flash run.now self.now
-            → slice_get es self.now.place ≡ Some (seen result) }
+            → slice_get es self.now.place ≡ Some (entry_at result.now) }
+        ensures value { result.now ≡ own_cell self.now }
+        ensures cell { IsCell result.now }
     {
         run.known();
-        entry(&self.shape, &self.page, self.place % self.shape.entries())
+        cell(&self.shape, &self.page, self.place % self.shape.entries())
     }
 }

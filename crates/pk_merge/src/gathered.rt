@@ -1,41 +1,52 @@
 //! The entries of the next output page.
 ghost use Rattle.std.specs.Prelude.{◌≡◌, ◌<◌, ◌≤◌, ◌==◌, ◌++◌, ◌∷◌, [], length, not, is_some, IfOk};
 ghost use Rattle.pk_base.specs.Shape.{IsShape, page_entries};
-ghost use Rattle.pk_base.specs.Seen.{entry as seen, entries as seen_all};
+ghost use Rattle.pk_base.specs.EntryBytes.{entry_at};
+ghost use Rattle.pk_meta.specs.Cells.{IsCell};
 ghost use Rattle.pk_meta.specs.Over.{kept_at};
+ghost use Rattle.pk_meta.specs.Page.{meta_bytes};
 
-use pk_base::{Entry, LEVELS, Shape};
+use pk_base::{ENTRY_BYTES, HEAD_BYTES, LEVELS, PUT_KIND, Shape};
+use pk_meta::complete;
 use std::alloc::{AllocError, Allocator};
 use std::marker::Model;
 
-/// At most the entries of a page.
+/// At most the entries of a page, by their bytes in it: how many there are, and the page that is
+/// being filled.
 #[derive(Drop)]
 pub struct Gathered<A: Allocator> {
     shape: Shape,
-    entries: Vec<Entry, A>,
+    count: u32,
+    page: Vec<u8, A>,
 }
 
 impl<A: Allocator> Model for Gathered<A> {
-    ghost use Rattle.std.specs.Prelude.{◌≤◌, length, vec_capacity};
-    ghost use Rattle.pk_base.specs.Shape.{page_entries};
-    ghost use Rattle.pk_base.specs.Seen.{entries as seen_all};
+    ghost use Rattle.pk_base.specs.declared.sizes.TheConstants.{HEAD_BYTES};
+    ghost use Rattle.pk_base.specs.EntryBytes.{entries_from};
     ghost use Rattle.pk_merge.specs.Gathering as spec;
 
     ghost Value = { spec.Gathered };
 
-    ghost view = { λ g. record { shape = g.shape; entries = seen_all g.entries.items } };
+    ghost view = { λ g. record {
+      shape = g.shape;
+      entries = entries_from HEAD_BYTES g.count g.page.items;
+      page = g.page.items;
+    } };
 
-    ghost invariant = { λ g. (length g.entries.items ≤ page_entries g.shape)
-        × (page_entries g.shape ≤ vec_capacity g.entries) };
+    ghost invariant = { λ g. spec.HasGathered g.shape g.count g.page.items };
 }
 
 impl<A: Allocator> Gathered<A> {
     /// None, with room for a page of them.
     pub fn new(alloc: A, shape: Shape) -> Result<Gathered<A>, AllocError>
-        ensures { IfOk result (λ g. g ≡ record { shape = shape; entries = [] }) }
+        ensures { IfOk result (λ g. (g.shape ≡ shape) × (g.entries ≡ [])) }
     {
-        let entries = Vec::with_capacity(alloc, shape.entries() as usize)?;
-        Ok(Gathered { shape, entries })
+        let page = Vec::from_elem(alloc, 0u8, shape.page_bytes() as usize)?;
+        Ok(Gathered {
+            shape,
+            count: 0,
+            page,
+        })
     }
 
     /// Does nothing: brings the invariant of the list into a proof.
@@ -45,11 +56,19 @@ impl<A: Allocator> Gathered<A> {
         self.shape.known();
     }
 
-    /// The entries in their order.
-    pub fn entries(&self) -> &[Entry]
-        ensures { seen_all result.now ≡ self.now.entries }
+    /// How many there are.
+    pub fn len(&self) -> u32
+        ensures { result ≡ length self.now.entries }
     {
-        self.entries.as_slice()
+        self.count
+    }
+
+    /// The page that is being filled.
+    pub fn bytes(&self) -> &[u8]
+        ensures value { result.now ≡ self.now.page }
+        ensures len { length self.now.page ≡ self.now.shape.page_bytes }
+    {
+        self.page.as_slice()
     }
 
     /// Whether a page of them is full.
@@ -59,42 +78,67 @@ impl<A: Allocator> Gathered<A> {
         ensures room { 0 < page_entries self.now.shape }
     {
         self.shape.known();
-        self.entries.len() == self.shape.entries() as usize
+        self.count == self.shape.entries()
     }
 
     /// Whether there is none.
     pub fn is_empty(&self) -> bool
         ensures { result ≡ (length self.now.entries == 0) }
     {
-        self.entries.is_empty()
+        self.count == 0
     }
 
-    /// Adds an entry after the others, but for a deleted key if the output is the deepest run.
-    pub fn keep(&mut self, level: u8, entry: Entry)
-        requires { length self.old.entries < page_entries self.old.shape }
-        ensures { self.new ≡ record self.old
-            { entries = self.old.entries ++ kept_at level (seen entry ∷ []) } }
+    /// Adds the entry of these bytes after the others, but for a deleted key if the output is the
+    /// deepest run.
+    pub fn keep(&mut self, level: u8, cell: &[u8])
+        requires room { length self.old.entries < page_entries self.old.shape }
+        requires cell { IsCell cell.now }
+        ensures entries { self.new.entries
+            ≡ self.old.entries ++ kept_at level (entry_at cell.now ∷ []) }
+        ensures shape { self.new.shape ≡ self.old.shape }
     {
-        if level == LEVELS && is_gone(&entry) {
+        if level == LEVELS && is_gone(cell) {
             return;
         }
-        self.entries.push_reserved(entry);
+        self.push(cell);
+    }
+
+    // Copies the bytes of an entry after those of the others.
+    fn push(&mut self, cell: &[u8])
+        requires room { length self.old.entries < page_entries self.old.shape }
+        requires cell { IsCell cell.now }
+        ensures entries { self.new.entries ≡ self.old.entries ++ entry_at cell.now ∷ [] }
+        ensures shape { self.new.shape ≡ self.old.shape }
+    {
+        self.shape.known();
+        let at = HEAD_BYTES + ENTRY_BYTES * self.count as usize;
+        self.page[at..at + ENTRY_BYTES].copy_from_slice(cell);
+        self.count += 1;
+    }
+
+    /// Makes the page that holds them.
+    pub fn complete(&mut self, level: u8, index: u32)
+        ensures page { self.new.page ≡ meta_bytes self.old.shape level index self.old.entries }
+        ensures entries { self.new.entries ≡ self.old.entries }
+        ensures shape { self.new.shape ≡ self.old.shape }
+    {
+        self.shape.known();
+        complete(&self.shape, level, index, self.count, &mut self.page);
     }
 
     /// Takes all of them out.
     pub fn clear(&mut self)
-        ensures { self.new ≡ record self.old { entries = [] } }
+        ensures entries { self.new.entries ≡ [] }
+        ensures shape { self.new.shape ≡ self.old.shape }
     {
-        self.entries.clear();
+        self.count = 0;
     }
 }
 
-// Whether the entry is one of a deleted key.
-fn is_gone(entry: &Entry) -> bool
-    ensures { result ≡ not (is_some (seen entry.now).1) }
+// Whether these are the bytes of an entry of a deleted key.
+fn is_gone(cell: &[u8]) -> bool
+    requires { IsCell cell.now }
+    ensures { result ≡ not (is_some (entry_at cell.now).1) }
 {
-    match entry {
-        Entry::Put { .. } => false,
-        Entry::Gone { .. } => true,
-    }
+    cell[1] != PUT_KIND
 }

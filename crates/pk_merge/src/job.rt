@@ -73,7 +73,7 @@ impl<A: Region> Model for MergeJob<A> {
 
 impl<A: Region> MergeJob<A> {
     /// No merge, for an arena of this many frames. All memory of merges is taken here: three page
-    /// buffers, the entries of a page, and one run of each level.
+    /// buffers, and one run of each level.
     pub fn new(alloc: A, plan: Plan, frames: u32) -> Result<MergeJob<A>, AllocError>
         ensures idle { IfOk result (λ j. IsIdle plan j) }
         ensures pinned { IfOk result (λ j. j.pinned ≡ shapes.pinned plan frames) }

@@ -1,16 +1,16 @@
 //! A merge that runs: where it is in its source and its target, and the entries of its next page.
-ghost use Rattle.std.specs.Prelude.{◌≡◌, ◌<◌, ◌≤◌, ◌^◌, suc, List, [], ◌≢◌, true, false, length, IfOk, IfErr, OnOk, OnErr, IsTrue, ◌↔◌};
+ghost use Rattle.std.specs.Prelude.{◌≡◌, ◌<◌, ◌≤◌, ◌^◌, suc, List, [], ◌≢◌, true, false, length, slice_get, Some, IfOk, IfErr, OnOk, OnErr, IsTrue, ◌↔◌};
 ghost use Rattle.pk_base.specs.Shape as shapes;
 ghost use Rattle.pk_base.specs.Shape.{IsShape, page_entries};
-ghost use Rattle.pk_base.specs.Entry.{Entry as EntrySpec, key_of};
-ghost use Rattle.pk_base.specs.Key.{key_cmp};
+ghost use Rattle.pk_base.specs.Entry.{Entry as EntrySpec};
 ghost use Rattle.pk_base.specs.Page.{Flash};
-ghost use Rattle.pk_base.specs.Seen.{entry as seen};
+ghost use Rattle.pk_base.specs.EntryBytes.{entry_at};
 ghost use Rattle.pk_nand.specs.Calls.{IsReady};
 ghost use Rattle.pk_nand.specs.declared.types.Fault.TheVariants.{Reading, Stopped};
 ghost use Rattle.pk_pin.specs.Frames.{Frames};
-ghost use Rattle.pk_merge.specs.Cursors.{MayLoad, FailsToLoad};
-ghost use Rattle.pk_merge.specs.Sources.{MayLoadIn, FailsToLoadIn};
+ghost use Rattle.pk_run.specs.Kept.{RunOnFlash};
+ghost use Rattle.pk_merge.specs.Cursors.{Follows, own_cell, wants_page, MayLoad, FailsToLoad};
+ghost use Rattle.pk_merge.specs.Sources.{head_in, HasNextEntry, IsNextEntry, MayLoadIn, FailsToLoadIn};
 ghost use Rattle.pk_merge.specs.Merging as spec;
 ghost use Rattle.pk_merge.specs.Merging.{restarted, takes_source, takes_target, takes_both, taken, StandsIn, GoesOn, Tells, IsAtEnd, IsDone, HasNextPage};
 ghost use Rattle.pk_merge.specs.Outputs.{MayProgram, ProgramsPage, FailsToProgram};
@@ -22,7 +22,7 @@ use crate::gathered::Gathered;
 use crate::next::Next;
 use crate::output::{program_page, take_block, wants_block};
 use crate::source::{Inputs, Source};
-use pk_base::{Entry, Shape, compare};
+use pk_base::Shape;
 use pk_nand::{Fault, Nand};
 use pk_pin::PinArena;
 use pk_pool::Pool;
@@ -32,12 +32,11 @@ use std::alloc::AllocError;
 use std::cmp::Ordering;
 use std::marker::Model;
 
-/// A cursor in the source and one in the target, the entries of the next output page, and a page's bytes.
+/// A cursor in the source and one in the target, and the next output page.
 pub struct Merger<A: Region> {
     source: Cursor<A>,
     target: Cursor<A>,
     gathered: Gathered<A>,
-    page: Vec<u8, A>,
 }
 
 // Written out, so that whoever drops one meets a call, and not the drops of all its parts.
@@ -47,7 +46,6 @@ impl<A: Region> Drop for Merger<A> {
             source: _,
             target: _,
             gathered: _,
-            page: _,
         } = self;
     }
 }
@@ -66,12 +64,11 @@ impl<A: Region> Model for Merger<A> {
     } };
 
     ghost invariant = { λ m. (m.source.shape ≡ m.gathered.shape)
-        × (m.target.shape ≡ m.gathered.shape) × (length m.page.items
-        ≡ m.gathered.shape.page_bytes) };
+        × (m.target.shape ≡ m.gathered.shape) };
 }
 
 impl<A: Region> Merger<A> {
-    /// At the start. All its memory is taken here: three pages, and the entries of one.
+    /// At the start. All its memory is taken here: three pages.
     pub fn new(alloc: A, shape: Shape) -> Result<Merger<A>, AllocError>
         ensures shape { IfOk result (λ m. IsMergerOf shape m) }
         ensures start { IfOk result (λ m. m ≡ restarted m) }
@@ -79,12 +76,10 @@ impl<A: Region> Merger<A> {
         let source = Cursor::new(alloc, shape)?;
         let target = Cursor::new(alloc, shape)?;
         let gathered = Gathered::new(alloc, shape)?;
-        let page = Vec::from_elem(alloc, 0u8, shape.page_bytes() as usize)?;
         Ok(Merger {
             source,
             target,
             gathered,
-            page,
         })
     }
 
@@ -174,33 +169,45 @@ impl<A: Region> Merger<A> {
     }
 
     // Takes an entry of the source.
-    fn take_source(&mut self, level: u8, entry: Entry)
+    fn take_source(&mut self, level: u8, source: &Source<A>)
+        requires head { HasNextEntry source.now self.old.source }
         requires room { length self.old.gathered < page_entries self.old.shape }
         requires place { suc self.old.source.place < 2 ^ 32 }
-        ensures { self.new ≡ takes_source level (seen entry) self.old }
+        ensures takes { self.new
+            ≡ takes_source level (head_in source.now self.old.source) self.old }
+        ensures head { IsNextEntry source.now self.old.source (head_in source.now self.old.source) }
     {
-        self.gathered.keep(level, entry);
+        source.give_head(&self.source, level, &mut self.gathered);
         self.source.pass();
     }
 
     // Takes an entry of the target.
-    fn take_target(&mut self, level: u8, entry: Entry)
+    fn take_target(&mut self, level: u8, target: &Run<A>)
+        requires here { (flash : Flash) × (arena : Frames) × (fs : List EntrySpec)
+            × RunOnFlash target.now flash arena fs × Follows flash target.now self.old.target }
+        requires exists { self.old.target.place < target.now.count }
+        requires loaded { wants_page self.old.target ≡ false }
         requires room { length self.old.gathered < page_entries self.old.shape }
         requires place { suc self.old.target.place < 2 ^ 32 }
-        ensures { self.new ≡ takes_target level (seen entry) self.old }
+        ensures takes { self.new
+            ≡ takes_target level (entry_at (own_cell self.old.target)) self.old }
+        ensures head { (flash : Flash) (arena : Frames) (fs : List EntrySpec)
+            → RunOnFlash target.now flash arena fs → Follows flash target.now self.old.target
+            → slice_get fs self.old.target.place ≡ Some (entry_at (own_cell self.old.target)) }
     {
-        self.gathered.keep(level, entry);
+        self.gathered.keep(level, self.target.head(target));
         self.target.pass();
     }
 
     // Takes an entry of the source over one of the target.
-    fn take_both(&mut self, level: u8, entry: Entry)
+    fn take_both(&mut self, level: u8, source: &Source<A>)
+        requires head { HasNextEntry source.now self.old.source }
         requires room { length self.old.gathered < page_entries self.old.shape }
         requires source { suc self.old.source.place < 2 ^ 32 }
         requires target { suc self.old.target.place < 2 ^ 32 }
-        ensures { self.new ≡ takes_both level (seen entry) self.old }
+        ensures { self.new ≡ takes_both level (head_in source.now self.old.source) self.old }
     {
-        self.gathered.keep(level, entry);
+        source.give_head(&self.source, level, &mut self.gathered);
         self.source.pass();
         self.target.pass();
     }
@@ -220,18 +227,14 @@ impl<A: Region> Merger<A> {
         let source_end = source.entries();
         let target_end = target.entries();
         if self.target.place() >= target_end {
-            let entry = source.head(&self.source);
-            self.take_source(level, entry);
+            self.take_source(level, source);
         } else if self.source.place() >= source_end {
-            let entry = self.target.head(target);
-            self.take_target(level, entry);
+            self.take_target(level, target);
         } else {
-            let upper = source.head(&self.source);
-            let lower = self.target.head(target);
-            match order_of(&upper, &lower) {
-                Ordering::Less => self.take_source(level, upper),
-                Ordering::Equal => self.take_both(level, upper),
-                Ordering::Greater => self.take_target(level, lower),
+            match source.compare_head(&self.source, self.target.head(target)) {
+                Ordering::Less => self.take_source(level, source),
+                Ordering::Equal => self.take_both(level, source),
+                Ordering::Greater => self.take_target(level, target),
             }
         }
     }
@@ -357,14 +360,7 @@ impl<A: Region> Merger<A> {
         // Either way the board may be called as before.
         ensures ready { IsReady (B.state board.new) out.old.shape }
     {
-        match program_page(
-            out,
-            self.gathered.entries(),
-            pins,
-            board,
-            arena,
-            &mut self.page,
-        ) {
+        match program_page(out, &mut self.gathered, pins, board, arena) {
             Ok(()) => {
                 self.gathered.clear();
                 Ok(())
@@ -417,11 +413,4 @@ impl<A: Region> Merger<A> {
             Err(fault) => Err(fault),
         }
     }
-}
-
-// How the keys of two entries compare.
-fn order_of(a: &Entry, b: &Entry) -> Ordering
-    ensures { result ≡ key_cmp (key_of (seen a.now)) (key_of (seen b.now)) }
-{
-    compare(a.key(), b.key())
 }

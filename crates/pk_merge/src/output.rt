@@ -1,14 +1,13 @@
 //! The output's blocks and pages.
 ghost use Rattle.std.specs.Prelude.{◌≡◌, ◌*◌, ◌==◌, length, IfErr, OnOk, OnErr};
-ghost use Rattle.pk_base.specs.Seen.{entries as seen_all};
 ghost use Rattle.pk_nand.specs.Calls.{IsReady};
 ghost use Rattle.pk_nand.specs.declared.types.Fault.TheVariants.{Stopped};
 ghost use Rattle.pk_pool.specs.Blocks.{PoolOnFlash};
 ghost use Rattle.pk_pool.specs.Taking.{FailsToErase};
 ghost use Rattle.pk_merge.specs.Outputs.{MayTakeBlock, TakesBlock, MayProgram, ProgramsPage, FailsToProgram};
 
-use pk_base::Entry;
-use pk_meta::encode;
+use crate::gathered::Gathered;
+use pk_meta::entry;
 use pk_nand::{Fault, Nand};
 use pk_pin::PinArena;
 use pk_pool::{Owner, Pool};
@@ -61,40 +60,42 @@ pub fn take_block<B: Nand, A: Allocator>(
 }
 
 /// Programs the next page with these entries, and keeps it in a frame if one is needed. `Stopped`
-/// if the program fails, and all is as before. `buf` has the size of a page and is overwritten.
+/// if the program fails, and all is as before.
 pub fn program_page<B: Nand, A: Allocator>(
     out: &mut Run<A>,
-    entries: &[Entry],
+    gathered: &mut Gathered<A>,
     pins: bool,
     board: &mut B,
     arena: &mut PinArena<A>,
-    buf: &mut [u8],
 ) -> Result<(), Fault>
     requires ready { IsReady (B.state board.old) out.old.shape }
-    requires may { MayProgram pins out.old (seen_all entries.now) (B.state board.old).pages
+    requires may { MayProgram pins out.old gathered.old.entries (B.state board.old).pages
         arena.old }
-    requires sized { length buf.old ≡ out.old.shape.page_bytes }
+    requires shape { gathered.old.shape ≡ out.old.shape }
 
     // The page is there.
-    ensures programmed { OnOk result (ProgramsPage pins out.old (seen_all entries.now)
+    ensures programmed { OnOk result (ProgramsPage pins out.old gathered.old.entries
         (B.state board.old) arena.old out.new (B.state board.new) arena.new) }
 
     // Or its program failed, and all is as before.
     ensures stopped { IfErr result (λ e. e ≡ Stopped) }
-    ensures failed { OnErr result (FailsToProgram out.old (seen_all entries.now)
+    ensures failed { OnErr result (FailsToProgram out.old gathered.old.entries
         (B.state board.old) (B.state board.new)) }
     ensures kept { OnErr result ((out.new ≡ out.old) × (arena.new ≡ arena.old)) }
 
     // Either way the board may be called as before.
     ensures ready { IsReady (B.state board.new) out.old.shape }
+    ensures gathered { (gathered.new.entries ≡ gathered.old.entries)
+        × (gathered.new.shape ≡ gathered.old.shape) }
 {
     out.known();
     let index = out.pages();
-    encode(&out.shape(), out.level(), index, entries, buf);
-    match write_page(board, out.page(index), buf) {
+    gathered.complete(out.level(), index);
+    match write_page(board, out.page(index), gathered.bytes()) {
         Ok(()) => {
-            let lease = arena.keep(pins, buf);
-            out.push_page(entries[0].key().copy(), lease, entries.len() as u32);
+            let lease = arena.keep(pins, gathered.bytes());
+            let first = entry(&out.shape(), gathered.bytes(), 0);
+            out.push_page(first.key().copy(), lease, gathered.len());
             Ok(())
         }
         Err(fault) => Err(fault),

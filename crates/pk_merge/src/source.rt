@@ -1,21 +1,25 @@
 //! What is merged into a run.
-ghost use Rattle.std.specs.Prelude.{◌≡◌, ◌<◌, List, false, slice_get, Some, IfErr, OnOk, OnErr};
-ghost use Rattle.pk_base.specs.Entry.{Entry as EntrySpec};
-ghost use Rattle.pk_base.specs.Page.{Flash};
+ghost use Rattle.std.specs.Prelude.{◌≡◌, ◌<◌, ◌++◌, ◌∷◌, [], length, IfErr, OnOk, OnErr};
+ghost use Rattle.pk_base.specs.Entry.{key_of};
+ghost use Rattle.pk_base.specs.EntryBytes.{entry_at};
+ghost use Rattle.pk_base.specs.Key.{key_cmp};
 ghost use Rattle.pk_base.specs.Shape as spec;
-ghost use Rattle.pk_base.specs.Seen.{entry as seen};
+ghost use Rattle.pk_base.specs.Shape.{page_entries};
+ghost use Rattle.pk_meta.specs.Cells.{IsCell};
+ghost use Rattle.pk_meta.specs.Over.{kept_at};
 ghost use Rattle.pk_nand.specs.Calls.{IsReady};
 ghost use Rattle.pk_nand.specs.declared.types.Fault.TheVariants.{Reading};
-ghost use Rattle.pk_pin.specs.Frames.{Frames};
-ghost use Rattle.pk_merge.specs.Sources.{count_of, Has, FollowsIn, wants_page_in, MayLoadIn, LoadsIn, FailsToLoadIn};
+ghost use Rattle.pk_merge.specs.Sources.{count_of, head_in, HasNextEntry, IsNextEntry, wants_page_in, MayLoadIn, LoadsIn, FailsToLoadIn};
 
 use crate::cursor::Cursor;
-use pk_base::Entry;
+use crate::gathered::Gathered;
 use pk_buf::Buffer;
+use pk_meta::{compare_cells, compare_with_cell, written};
 use pk_nand::{Fault, Nand};
 use pk_pin::PinArena;
 use pk_region::Region;
 use pk_run::Run;
+use std::cmp::Ordering;
 
 /// The frozen write buffer, or the run of the level above.
 #[derive(Drop)]
@@ -76,19 +80,33 @@ impl<'a, A: Region> Source<'a, A> {
         }
     }
 
-    /// The entry at the cursor's place.
-    pub(crate) fn head(&self, cursor: &Cursor<A>) -> Entry
-        requires here { (flash : Flash) × (arena : Frames) × (es : List EntrySpec)
-            × Has self.now flash arena es × FollowsIn self.now flash cursor.now }
-        requires exists { cursor.now.place < count_of self.now }
-        requires loaded { wants_page_in self.now cursor.now ≡ false }
-        ensures { (flash : Flash) (arena : Frames) (es : List EntrySpec)
-            → Has self.now flash arena es → FollowsIn self.now flash cursor.now
-            → slice_get es cursor.now.place ≡ Some (seen result) }
+    /// How the key of the entry at the cursor's place compares with that of an entry of which these
+    /// are the bytes.
+    pub(crate) fn compare_head(&self, cursor: &Cursor<A>, cell: &[u8]) -> Ordering
+        requires head { HasNextEntry self.now cursor.now }
+        requires cell { IsCell cell.now }
+        ensures order { result
+            ≡ key_cmp (key_of (head_in self.now cursor.now)) (key_of (entry_at cell.now)) }
+        ensures head { IsNextEntry self.now cursor.now (head_in self.now cursor.now) }
     {
         match self {
-            Source::Frozen(buffer) => buffer.at(cursor.place()),
-            Source::Run(run) => cursor.head(run),
+            Source::Frozen(buffer) => compare_with_cell(buffer.key(cursor.place()), cell),
+            Source::Run(run) => compare_cells(cursor.head(run), cell),
+        }
+    }
+
+    /// Adds the entry at the cursor's place to those of the next page.
+    pub(crate) fn give_head(&self, cursor: &Cursor<A>, level: u8, gathered: &mut Gathered<A>)
+        requires head { HasNextEntry self.now cursor.now }
+        requires room { length gathered.old.entries < page_entries gathered.old.shape }
+        ensures entries { gathered.new.entries
+            ≡ gathered.old.entries ++ kept_at level (head_in self.now cursor.now ∷ []) }
+        ensures shape { gathered.new.shape ≡ gathered.old.shape }
+        ensures head { IsNextEntry self.now cursor.now (head_in self.now cursor.now) }
+    {
+        match self {
+            Source::Frozen(buffer) => gathered.keep(level, &written(&buffer.at(cursor.place()))),
+            Source::Run(run) => gathered.keep(level, cursor.head(run)),
         }
     }
 }

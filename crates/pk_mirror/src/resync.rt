@@ -75,16 +75,23 @@ impl Mirror {
         first: &mut P,
         second: &mut Q,
     ) -> Result<(), MirrorError>
+        // The pair.
         requires alike { Alike (P.state first.old) (Q.state second.old) }
         requires shape { (P.state first.old).shape ≡ self.old.shape }
+
+        // The maps: both are the first's, which is unchanged in any case.
         ensures visits { OnOk result (VisitsAll AreAny HaveSame (P.state first.old)
             (Q.state second.old) (Q.state second.new)) }
         ensures keeps { (P.state first.new).map ≡ (P.state first.old).map }
         ensures same { self.new ≡ self.old }
+
+        // Why they are not.
         ensures causes { IfErr result (λ e. IsCause (P.state first.old) (P.state first.new)
             (Q.state second.old) (Q.state second.new) e) }
         ensures unread { IfErr result (λ e.
             OnlyReadsFail AreAny (P.state first.old) (Q.state second.old) e) }
+
+        // The commands.
         ensures took_first { TookSome P.took AreAsking first.old first.new }
         ensures took_second { TookSome Q.took (AreOfResync (P.state first.old)
             (Q.state second.old)) second.old second.new }
@@ -117,18 +124,25 @@ fn copy_map<P: Port, Q: Port>(
     one: &mut [u8],
     two: &mut [u8],
 ) -> Result<(), MirrorError>
+    // The pair and the buffers.
     requires alike { Alike (P.state first.old) (Q.state second.old) }
     requires one { length one.old < 2 ^ 32 }
     requires room_one { greatest (P.state first.old).shape ≤ length one.old }
     requires two { length two.old < 2 ^ 32 }
     requires room_two { greatest (P.state first.old).shape ≤ length two.old }
+
+    // The maps: both are the first's, which is unchanged in any case.
     ensures visits { OnOk result (VisitsAll AreAny HaveSame (P.state first.old)
         (Q.state second.old) (Q.state second.new)) }
     ensures keeps { (P.state first.new).map ≡ (P.state first.old).map }
+
+    // Why they are not.
     ensures causes { IfErr result (λ e. IsCause (P.state first.old) (P.state first.new)
         (Q.state second.old) (Q.state second.new) e) }
     ensures unread { IfErr result (λ e.
         OnlyReadsFail AreAny (P.state first.old) (Q.state second.old) e) }
+
+    // The commands.
     ensures took_first { TookSome P.took AreAsking first.old first.new }
     ensures took_second { TookSome Q.took (AreOfResync (P.state first.old)
         (Q.state second.old)) second.old second.new }
@@ -154,16 +168,23 @@ fn drop_page<P: Port, Q: Port>(
     one: &mut [u8],
     two: &mut [u8],
 ) -> Result<Option<Key>, MirrorError>
+    // The pair and the buffers.
     requires alike { Alike (P.state first.old) (Q.state second.old) }
     requires one { length one.old < 2 ^ 32 }
     requires room_one { greatest (P.state first.old).shape ≤ length one.old }
     requires two { length two.old < 2 ^ 32 }
     requires room_two { greatest (P.state first.old).shape ≤ length two.old }
+
+    // The key before the page.
     requires text { (key : List ℕ) → option_copied last ≡ Some key → IsText key }
+
+    // The keys of the page, and the one from which the next page is asked.
     ensures turns { IfOk result (λ next. Turns AreAny NoOther (P.state first.old)
         (Q.state second.old) (Q.state second.new) (option_copied last.entry) next) }
     ensures falls { IfOk result (λ next. (key : List ℕ) → next ≡ Some key → IsText key
         × (keys_left next < keys_left (option_copied last.entry))) }
+
+    // The maps and the commands.
     ensures dropped { OnOk result (Dropped P.state P.took Q.state Q.took first.old
         first.new second.old second.new) }
     ensures fails { IfErr result (DropFails P.state P.took Q.state Q.took first.old
@@ -189,13 +210,18 @@ fn drop_all<P: Port, Q: Port>(
     one: &mut [u8],
     two: &mut [u8],
 ) -> Result<(), MirrorError>
+    // The pair and the buffers.
     requires alike { Alike (P.state first.old) (Q.state second.old) }
     requires one { length one.old < 2 ^ 32 }
     requires room_one { greatest (P.state first.old).shape ≤ length one.old }
     requires two { length two.old < 2 ^ 32 }
     requires room_two { greatest (P.state first.old).shape ≤ length two.old }
+
+    // The keys of the second drive.
     ensures visits { OnOk result (VisitsAll AreAny NoOther (P.state first.old)
         (Q.state second.old) (Q.state second.new)) }
+
+    // The maps and the commands.
     ensures dropped { OnOk result (Dropped P.state P.took Q.state Q.took first.old
         first.new second.old second.new) }
     ensures fails { IfErr result (DropFails P.state P.took Q.state Q.took first.old
@@ -222,14 +248,21 @@ fn copy_page<P: Port, Q: Port>(
     page: &mut KeyPage,
     one: &mut [u8],
 ) -> Result<Option<Key>, MirrorError>
+    // The pair and the buffer.
     requires alike { Alike (P.state first.old) (Q.state second.old) }
     requires one { length one.old < 2 ^ 32 }
     requires room_one { greatest (P.state first.old).shape ≤ length one.old }
+
+    // The key before the page.
     requires text { (key : List ℕ) → option_copied last ≡ Some key → IsText key }
+
+    // The keys of the page, and the one from which the next page is asked.
     ensures turns { IfOk result (λ next. Turns IsPart HaveSame (P.state first.old)
         (Q.state second.old) (Q.state second.new) (option_copied last.entry) next) }
     ensures falls { IfOk result (λ next. (key : List ℕ) → next ≡ Some key → IsText key
         × (keys_left next < keys_left (option_copied last.entry))) }
+
+    // The maps and the commands.
     ensures copied { OnOk result (Copied P.state P.took Q.state Q.took first.old
         first.new second.old second.new) }
     ensures fails { IfErr result (CopyFails P.state P.took Q.state Q.took first.old
@@ -254,11 +287,16 @@ fn copy_all<P: Port, Q: Port>(
     page: &mut KeyPage,
     one: &mut [u8],
 ) -> Result<(), MirrorError>
+    // The pair and the buffer.
     requires alike { Alike (P.state first.old) (Q.state second.old) }
     requires one { length one.old < 2 ^ 32 }
     requires room_one { greatest (P.state first.old).shape ≤ length one.old }
+
+    // The keys of the first drive.
     ensures visits { OnOk result (VisitsAll IsPart HaveSame (P.state first.old)
         (Q.state second.old) (Q.state second.new)) }
+
+    // The maps and the commands.
     ensures copied { OnOk result (Copied P.state P.took Q.state Q.took first.old
         first.new second.old second.new) }
     ensures fails { IfErr result (CopyFails P.state P.took Q.state Q.took first.old

@@ -30,16 +30,21 @@ fn has_other<P: Port, Q: Port>(
     one: &mut [u8],
     two: &mut [u8],
 ) -> Result<bool, MirrorError>
+    // The key, the pair and the buffers.
     requires own { IsOwnKey key.now }
     requires one { length one.old < 2 ^ 32 }
     requires two { length two.old < 2 ^ 32 }
     requires alike { Alike (P.state first.old) (Q.state second.old) }
     requires room_one { greatest (P.state first.old).shape ≤ length one.old }
     requires room_two { greatest (P.state first.old).shape ≤ length two.old }
+
+    // What the maps have of the key.
     ensures tells { IfOk result (λ other. (a b : Map) → (P.state first.old).map ≡ Some a
         → (Q.state second.old).map ≡ Some b → other ≡ false → NoOther a b key.now) }
     ensures differs { IfOk result (λ other. (a b : Map) → (P.state first.old).map ≡ Some a
         → (Q.state second.old).map ≡ Some b → other ≡ true → ToDelete a b key.now) }
+
+    // The maps and the commands.
     ensures looks { OnOk result (Looked P.state P.took Q.state Q.took first.old
         first.new second.old second.new) }
     ensures fails { IfErr result (DropFails P.state P.took Q.state Q.took first.old
@@ -67,14 +72,19 @@ fn drop_other<P: Port, Q: Port>(
     one: &mut [u8],
     two: &mut [u8],
 ) -> Result<(), MirrorError>
+    // The key, the pair and the buffers.
     requires own { IsOwnKey key.now }
     requires one { length one.old < 2 ^ 32 }
     requires two { length two.old < 2 ^ 32 }
     requires alike { Alike (P.state first.old) (Q.state second.old) }
     requires room_one { greatest (P.state first.old).shape ≤ length one.old }
     requires room_two { greatest (P.state first.old).shape ≤ length two.old }
+
+    // The key on the second drive.
     ensures visits { OnOk result (Visits AreAny NoOther (P.state first.old)
         (Q.state second.old) (Q.state second.new) (key.now ∷ [])) }
+
+    // The maps and the commands.
     ensures dropped { OnOk result (Dropped P.state P.took Q.state Q.took first.old
         first.new second.old second.new) }
     ensures fails { IfErr result (DropFails P.state P.took Q.state Q.took first.old
@@ -101,18 +111,25 @@ pub fn drop_others<P: Port, Q: Port>(
     one: &mut [u8],
     two: &mut [u8],
 ) -> Result<(), MirrorError>
+    // The pair and the buffers.
     requires one { length one.old < 2 ^ 32 }
     requires two { length two.old < 2 ^ 32 }
     requires alike { Alike (P.state first.old) (Q.state second.old) }
     requires room_one { greatest (P.state first.old).shape ≤ length one.old }
     requires room_two { greatest (P.state first.old).shape ≤ length two.old }
+
+    // The maps: the first is unchanged in any case.
     ensures visits { OnOk result (Visits AreAny NoOther (P.state first.old)
         (Q.state second.old) (Q.state second.new) page.now) }
     ensures keeps { (P.state first.new).map ≡ (P.state first.old).map }
+
+    // Why not all keys were visited.
     ensures causes { IfErr result (λ e. IsCause (P.state first.old) (P.state first.new)
         (Q.state second.old) (Q.state second.new) e) }
     ensures unread { IfErr result (λ e.
         OnlyReadsFail AreAny (P.state first.old) (Q.state second.old) e) }
+
+    // The commands.
     ensures took_first { TookSome P.took AreAsking first.old first.new }
     ensures took_second { TookSome Q.took (Deleting (P.state first.old) (Q.state second.old))
         second.old second.new }
@@ -138,14 +155,19 @@ fn copy<P: Port, Q: Port>(
     key: &Key,
     one: &mut [u8],
 ) -> Result<(), MirrorError>
+    // The key, the pair and the buffer.
     requires own { IsOwnKey key.now }
     requires one { length one.old < 2 ^ 32 }
     requires alike { Alike (P.state first.old) (Q.state second.old) }
     requires room { greatest (P.state first.old).shape ≤ length one.old }
     requires lacked { (b : Map) → (Q.state second.old).map ≡ Some b
         → map.contains_key b key.now ≡ false }
+
+    // The key on the second drive.
     ensures visits { OnOk result (Visits IsPart HaveSame (P.state first.old)
         (Q.state second.old) (Q.state second.new) (key.now ∷ [])) }
+
+    // The maps and the commands.
     ensures copied { OnOk result (Copied P.state P.took Q.state Q.took first.old
         first.new second.old second.new) }
     ensures fails { IfErr result (CopyFails P.state P.took Q.state Q.took first.old
@@ -171,12 +193,17 @@ fn copy_missing<P: Port, Q: Port>(
     key: &Key,
     one: &mut [u8],
 ) -> Result<(), MirrorError>
+    // The key, the pair and the buffer.
     requires own { IsOwnKey key.now }
     requires one { length one.old < 2 ^ 32 }
     requires alike { Alike (P.state first.old) (Q.state second.old) }
     requires room { greatest (P.state first.old).shape ≤ length one.old }
+
+    // The key on the second drive.
     ensures visits { OnOk result (Visits IsPart HaveSame (P.state first.old)
         (Q.state second.old) (Q.state second.new) (key.now ∷ [])) }
+
+    // The maps and the commands.
     ensures copied { OnOk result (Copied P.state P.took Q.state Q.took first.old
         first.new second.old second.new) }
     ensures fails { IfErr result (CopyFails P.state P.took Q.state Q.took first.old
@@ -199,16 +226,23 @@ pub fn copy_all_missing<P: Port, Q: Port>(
     page: &KeyPage,
     one: &mut [u8],
 ) -> Result<(), MirrorError>
+    // The pair and the buffer.
     requires one { length one.old < 2 ^ 32 }
     requires alike { Alike (P.state first.old) (Q.state second.old) }
     requires room { greatest (P.state first.old).shape ≤ length one.old }
+
+    // The maps: the first is unchanged in any case.
     ensures visits { OnOk result (Visits IsPart HaveSame (P.state first.old)
         (Q.state second.old) (Q.state second.new) page.now) }
     ensures keeps { (P.state first.new).map ≡ (P.state first.old).map }
+
+    // Why not all keys were visited.
     ensures causes { IfErr result (λ e. IsCause (P.state first.old) (P.state first.new)
         (Q.state second.old) (Q.state second.new) e) }
     ensures unread { IfErr result (λ e.
         OnlyReadsFail IsPart (P.state first.old) (Q.state second.old) e) }
+
+    // The commands.
     ensures took_first { TookSome P.took AreAsking first.old first.new }
     ensures took_second { TookSome Q.took (Storing (P.state first.old) (Q.state second.old))
         second.old second.new }

@@ -34,20 +34,27 @@ fn put<P: Port, Q: Port>(
     value: &[u8],
     text: &mut Bytes,
 ) -> Result<(), MirrorError>
+    // The pair, the key, the value and the text.
     requires pair { IsInStep mirror.old (P.state first.old) (Q.state second.old) }
     requires own { IsOwnKey key.now }
     requires short { length value.now < 2 ^ 32 }
     requires room { 11 ≤ text.old.room }
+
+    // What the word does, or how it fails.
     ensures done { OnOk result ((m : Map) → (P.state first.old).map ≡ Some m
         → PairDone (put key.now value.now) (P.state first.old) (P.state first.new)
         (Q.state second.new) m text.new.items) }
     ensures fails { IfErr result (λ e. (m : Map) → (P.state first.old).map ≡ Some m
         → PairFails (put key.now value.now) (P.state first.old) (P.state first.new)
         (Q.state second.old) (Q.state second.new) m e) }
+
+    // The commands.
     ensures took_first { TookSome P.took (AtMostOne (store_of key.now value.now Any)) first.old
         first.new }
     ensures took_second { TookSome Q.took (AtMostOne (store_of key.now value.now Any)) second.old
         second.new }
+
+    // What is unchanged.
     ensures room { text.new.room ≡ text.old.room }
 {
     match mirror.store(first, second, key, value, StoreRule::Any) {
@@ -67,17 +74,24 @@ fn delete<P: Port, Q: Port>(
     key: &Key,
     text: &mut Bytes,
 ) -> Result<(), MirrorError>
+    // The pair, the key and the text.
     requires pair { IsInStep mirror.old (P.state first.old) (Q.state second.old) }
     requires own { IsOwnKey key.now }
     requires room { 11 ≤ text.old.room }
+
+    // What the word does, or how it fails.
     ensures done { OnOk result ((m : Map) → (P.state first.old).map ≡ Some m
         → PairDone (delete key.now) (P.state first.old) (P.state first.new) (Q.state second.new) m
         text.new.items) }
     ensures fails { IfErr result (λ e. (m : Map) → (P.state first.old).map ≡ Some m
         → PairFails (delete key.now) (P.state first.old) (P.state first.new) (Q.state second.old)
         (Q.state second.new) m e) }
+
+    // The commands.
     ensures took_first { TookSome P.took (AtMostOne (delete_of key.now)) first.old first.new }
     ensures took_second { TookSome Q.took (AtMostOne (delete_of key.now)) second.old second.new }
+
+    // What is unchanged.
     ensures room { text.new.room ≡ text.old.room }
 {
     match mirror.delete(first, second, key) {
@@ -102,21 +116,28 @@ fn get<P: Port, Q: Port>(
     value: &mut [u8],
     text: &mut Bytes,
 ) -> Result<(), MirrorError>
+    // The pair, the key, the value and the text.
     requires pair { IsInStep mirror.old (P.state first.old) (Q.state second.old) }
     requires own { IsOwnKey key.now }
     requires value { length value.old ≡ greatest (P.state first.old).shape }
     requires short { length value.old < 2 ^ 32 }
     requires room { 2 * length value.old + 11 ≤ text.old.room }
+
+    // What the word does, or how it fails.
     ensures done { OnOk result ((m : Map) → (P.state first.old).map ≡ Some m
         → PairDone (get key.now) (P.state first.old) (P.state first.new) (Q.state second.new) m
         text.new.items) }
     ensures fails { IfErr result (λ e. (m : Map) → (P.state first.old).map ≡ Some m
         → PairFails (get key.now) (P.state first.old) (P.state first.new) (Q.state second.old)
         (Q.state second.new) m e) }
+
+    // The commands.
     ensures took_first { TookSome P.took (AtMostOne (retrieve_of key.now (length value.old)))
         first.old first.new }
     ensures took_second { TookSome Q.took (AtMostOne (retrieve_of key.now (length value.old)))
         second.old second.new }
+
+    // What is unchanged.
     ensures room { text.new.room ≡ text.old.room }
 {
     // so that the key is known to be one
@@ -144,17 +165,24 @@ fn ask_in_step<P: Port, Q: Port>(
     room: &mut PairRoom,
     task: &PairTask,
 ) -> Result<(), MirrorError>
+    // The pair, the word and the memory.
     requires pair { IsInStep mirror.old (P.state first.old) (Q.state second.old) }
     requires allowed { IsAllowed (seen task.now) }
     requires shape { (P.state first.old).shape ≡ room.old.shape }
+
+    // What the word does, or how it fails.
     ensures done { OnOk result ((m : Map) → (P.state first.old).map ≡ Some m
         → PairDone (seen task.now) (P.state first.old) (P.state first.new) (Q.state second.new) m
         room.new.text) }
     ensures fails { IfErr result (λ e. (m : Map) → (P.state first.old).map ≡ Some m
         → PairFails (seen task.now) (P.state first.old) (P.state first.new) (Q.state second.old)
         (Q.state second.new) m e) }
+
+    // The commands.
     ensures took_first { TookSome P.took (AreOfWord (seen task.now)) first.old first.new }
     ensures took_second { TookSome Q.took (AreOfWord (seen task.now)) second.old second.new }
+
+    // What is unchanged.
     ensures shape { room.new.shape ≡ room.old.shape }
 {
     let shape = room.shape;
@@ -190,15 +218,20 @@ fn ask_pair<P: Port, Q: Port>(
     room: &mut PairRoom,
     task: &PairTask,
 ) -> Result<(), MirrorError>
+    // The pair, the word and the memory.
     requires pair { IsToldPair mirror.old (P.state first.old) (Q.state second.old) }
     requires allowed { IsAllowed (seen task.now) }
     requires shape { (P.state first.old).shape ≡ room.old.shape }
+
+    // What the word does, or how it fails.
     ensures done { OnOk result ((m : Map) → (P.state first.old).map ≡ Some m
         → PairDone (seen task.now) (P.state first.old) (P.state first.new) (Q.state second.new) m
         room.new.text) }
     ensures fails { IfErr result (λ e. (m : Map) → (P.state first.old).map ≡ Some m
         → PairFails (seen task.now) (P.state first.old) (P.state first.new) (Q.state second.old)
         (Q.state second.new) m e) }
+
+    // The commands.
     ensures took_first { TookSome P.took (AreOfWord (seen task.now)) first.old first.new }
     ensures took_second { TookSome Q.took (AsksSecond (seen task.now) (P.state first.old)
         (Q.state second.old)) second.old second.new }
@@ -206,6 +239,8 @@ fn ask_pair<P: Port, Q: Port>(
         (Q.state second.old) first.old first.new second.old second.new
         ⊎ ResyncFails (P.state first.old) (P.state first.new) (Q.state second.old)
         (Q.state second.new) result }
+
+    // What is unchanged.
     ensures shape { room.new.shape ≡ room.old.shape }
 {
     match mirror.resync(first, second) {
@@ -224,9 +259,12 @@ pub fn answer_pair<P: Port, Q: Port>(
     room: &mut PairRoom,
     task: &PairTask,
 ) -> Result<(), PortFault>
+    // The pair, the word and the memory.
     requires pair { IsToldPair mirror.old (P.state first.old) (Q.state second.old) }
     requires allowed { IsAllowed (seen task.now) }
     requires shape { (P.state first.old).shape ≡ room.old.shape }
+
+    // The text, or that a port failed.
     ensures said { OnOk result ((m : Map) → (P.state first.old).map ≡ Some m
         → PairSaid (PairAsked P.took Q.took (seen task.now) (P.state first.old)
         (Q.state second.old) first.old first.new second.old second.new)
@@ -234,9 +272,13 @@ pub fn answer_pair<P: Port, Q: Port>(
         (Q.state second.new) m room.new.text) }
     ensures fault { OnErr result (PairFault (P.state first.old) (P.state first.new)
         (Q.state second.old) (Q.state second.new)) }
+
+    // The commands.
     ensures took_first { TookSome P.took (AreOfWord (seen task.now)) first.old first.new }
     ensures took_second { TookSome Q.took (AsksSecond (seen task.now) (P.state first.old)
         (Q.state second.old)) second.old second.new }
+
+    // What is unchanged.
     ensures shape { room.new.shape ≡ room.old.shape }
 {
     match ask_pair(mirror, first, second, room, task) {

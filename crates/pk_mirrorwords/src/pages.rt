@@ -46,24 +46,35 @@ fn add_page<P: Port, Q: Port>(
     page: &mut KeyPage,
     text: &mut Bytes,
 ) -> Result<Option<Key>, MirrorError>
+    // The pair, the key before the page, and the text so far.
     requires pair { IsToldPair mirror.old (P.state first.old) (Q.state second.old) }
     requires shape { (P.state first.old).shape ≡ shape.now }
     requires from { (key : List ℕ) → option_copied last ≡ Some key → IsText key }
     requires room { LINE_BYTES * limit shape.now ≤ text.old.room }
     requires listed { IsListed (P.state first.old) (option_copied last) text.old.items }
-    ensures goes { IfOk result (λ next. ListGoesOn (P.state first.old) (option_copied last.entry) next
-        text.old.items text.new.items) }
+
+    // The lines of the page, and the key from which the next page is asked.
+    ensures goes { IfOk result (λ next. ListGoesOn (P.state first.old) (option_copied last.entry)
+        next text.old.items text.new.items) }
+
+    // The pair and its maps.
     ensures pair { IsPair mirror.new (P.state first.new) (Q.state second.new) }
     ensures keeps { KeepsMaps (P.state first.old) (P.state first.new) (Q.state second.old)
         (Q.state second.new) }
     ensures stays { mirror.old.split ≡ false → StaysUnlessPort mirror.new (P.state first.old)
         (P.state first.new) (Q.state second.old) (Q.state second.new) }
+
+    // Why there is no page.
     ensures fails { IfErr result (λ e. PageFails mirror.old (P.state first.old)
         (P.state first.new) (Q.state second.old) (Q.state second.new) e) }
+
+    // The commands.
     ensures took_first { TookSome P.took
         (AtMostOne (list_of (key_or_none (option_copied last.entry)))) first.old first.new }
     ensures took_second { TookSome Q.took
         (AtMostOne (list_of (key_or_none (option_copied last.entry)))) second.old second.new }
+
+    // What is unchanged.
     ensures room { text.new.room ≡ text.old.room }
 {
     shape.known();
@@ -86,17 +97,24 @@ pub fn list<P: Port, Q: Port>(
     page: &mut KeyPage,
     text: &mut Bytes,
 ) -> Result<(), MirrorError>
+    // The pair and the text.
     requires pair { IsInStep mirror.old (P.state first.old) (Q.state second.old) }
     requires shape { (P.state first.old).shape ≡ shape.now }
     requires room { LINE_BYTES * limit shape.now ≤ text.old.room }
+
+    // What the word does, or how it fails.
     ensures done { OnOk result ((m : Map) → (P.state first.old).map ≡ Some m
         → PairDone list (P.state first.old) (P.state first.new) (Q.state second.new) m
         text.new.items) }
     ensures fails { IfErr result (λ e. (m : Map) → (P.state first.old).map ≡ Some m
         → PairFails list (P.state first.old) (P.state first.new) (Q.state second.old)
         (Q.state second.new) m e) }
+
+    // The commands.
     ensures took_first { TookSome P.took AreAsking first.old first.new }
     ensures took_second { TookSome Q.took AreAsking second.old second.new }
+
+    // What is unchanged.
     ensures room { text.new.room ≡ text.old.room }
 {
     text.clear();

@@ -1,6 +1,7 @@
 pub mod Halves
 pub mod Stopping
 pub mod Searching
+pub mod Walks
 pub mod Standing
 pub mod Keeping
 pub mod Elsewhere

@@ -1,5 +1,5 @@
 -- What a lookup reads.
-use Rattle.std.proofs.Common.{◌≡◌, ℕ, zero, suc, ◌+◌, ◌-◌, ◌<◌, ◌≤◌, refl, sym, ap, subst, ◌∙◌, arith, min, List, Option, Some, Ok, Result}
+use Rattle.std.proofs.Common.{◌≡◌, ℕ, zero, suc, ◌+◌, ◌<◌, ◌≤◌, refl, sym, ap, subst, ◌∙◌, arith, min, List, Option, Some, Ok, Result}
 use Rattle.std.specs.Prelude.{OnOk, OnErr, Err}
 use Rattle.pk_base.{specs.Key.Key, specs.Shape.Shape, specs.Page.IsFlash, specs.Entry.Place, specs.Map.Map, proofs.Logic.some_same}
 use Rattle.pk_nand.{specs.BoardState.BoardState, specs.Calls.Rose, specs.Calls.counted, specs.Calls.last_count, specs.Calls.IsReady, specs.Operations.ReadFailed}

@@ -5,4 +5,5 @@ pub mod Finding
 pub mod Moves
 pub mod Staying
 pub mod Quiet
+pub mod Keys
 pub mod Opening

@@ -7,11 +7,10 @@ ghost use Rattle.pk_base.specs.Shape.{most_calls};
 ghost use Rattle.pk_nand.specs.declared.types.Fault.TheVariants.{Reading};
 ghost use Rattle.pk_level.specs.Levels.{RunsOnFlash};
 ghost use Rattle.pk_walk.specs.Walking.{IsLeft, Reads, ReadsFail, pages_read, most_read};
-ghost use Rattle.pk_index.specs.Keys.{GivesKey, MayWalk, Walked, keys_of, keys_there};
+ghost use Rattle.pk_parts.specs.Keys.{GivesKey, MayWalk, Walked, keys_of, keys_there};
 
 use crate::parts::Parts;
 use pk_base::{Entry, Key};
-use pk_index::{few_pages, next_key, start_walk};
 use pk_nand::{Fault, Nand};
 use pk_region::Region;
 
@@ -36,8 +35,13 @@ impl<A: Region> Parts<A> {
         ensures shape { self.new.walk.shape ≡ self.old.log.shape }
         ensures rest { self.new ≡ record self.old { walk = self.new.walk } }
     {
-        few_pages(&self.levels);
-        start_walk(&mut self.walk, from);
+        // These calls do nothing: they say to the proof how many pages a run can have.
+        self.levels.known();
+        self.levels.run(1).known();
+        self.levels.run(2).known();
+        self.levels.run(3).known();
+        self.levels.run(4).known();
+        self.walk.start(Some(from));
     }
 
     /// The entry of the next key of the walk that `start_keys` began; None after the last.
@@ -65,6 +69,9 @@ impl<A: Region> Parts<A> {
         // What is unchanged.
         ensures rest { self.new ≡ record self.old { walk = self.new.walk } }
     {
-        next_key(&mut self.walk, board, &self.levels, &self.arena, &self.log)
+        let active = self.log.active();
+        let frozen = self.log.frozen();
+        self.walk
+            .next(board, &self.arena, &self.levels, active, frozen)
     }
 }

@@ -10,9 +10,8 @@ ghost use Rattle.pk_parts.specs.Parts.{most_looks};
 ghost use Rattle.pk_parts.specs.Quiet.{ReadsOnly, ReadsFailing, Looks};
 
 use crate::parts::Parts;
-use crate::place::place_found;
+use crate::place::{place_found, place_in};
 use pk_base::{Key, Place};
-use pk_index::find_entry;
 use pk_nand::{Fault, Nand};
 use pk_region::Region;
 use pk_seg::read_value;
@@ -43,14 +42,10 @@ impl<A: Region> Parts<A> {
         ensures ready { IsReady (B.state board.new) self.old.log.shape }
     {
         self.levels.known();
-        place_found(find_entry(
-            &self.log,
-            &self.levels,
-            &self.arena,
-            board,
-            key,
-            &mut self.page,
-        ))
+        match self.log.get(key) {
+            Some(entry) => Ok(place_in(&Some(entry))),
+            None => place_found(self.levels.lookup(board, &self.arena, key, &mut self.page)),
+        }
     }
 
     /// Fills the start of `into` with the first `count` bytes of the value that begins at this

@@ -1,5 +1,5 @@
 -- A list cut into pieces: reading and writing one, and counts of a list of tests.
-use Rattle.std.proofs.Common.{◌≡◌, ℕ, zero, suc, ◌+◌, ◌*◌, ◌<◌, ◌≤◌, Bool, true, false, cond, List, [], ◌∷◌, ◌++◌, length, get_or, take, drop, refl, ap, ◌∙◌, arith, length-take, length-drop}
+use Rattle.std.proofs.Common.{◌≡◌, ℕ, zero, suc, ◌+◌, ◌-◌, ◌*◌, ◌<◌, ◌≤◌, Bool, true, false, cond, List, [], ◌∷◌, ◌++◌, length, get_or, take, drop, refl, ap, ◌∙◌, arith, length-take, length-drop}
 use Rattle.std.proofs.Common.{get_or-set_same}
 use Rattle.std.{proofs.lemmas.Slice.take-put_mid_below, specs.Prelude.not, specs.Prelude.count_by, specs.Prelude.slice_get, specs.Prelude.Some, proofs.Math.ListN.set}
 use Rattle.std.{proofs.Math.Nat.suc-mul, proofs.Math.Nat.mul-le-mul_right, proofs.lemmas.List.Sums.sum_by-set, proofs.lemmas.List.Sums.sum_by-cons}
@@ -11,6 +11,12 @@ use Rattle.pk_pin.specs.Frames.{chunks}
 -- a piece ends within the pieces
 pub piece_end : (i n p : ℕ) → i < n → i * p + p ≤ n * p
 piece_end i n p h = omega (arith, mul-le-mul_right {m = suc i} {n = n} p (omega arith), suc-mul i p)
+
+-- a part within a list has its length
+pub length-piece : (a k : ℕ) (xs : List ℕ) → a + k ≤ length xs → length (take (a + k - a) (drop a xs)) ≡ k
+length-piece a k xs h =
+    let e : a + k - a ≡ k = omega arith in
+    rw (e, length-take) (simp length-drop (omega arith))
 
 pub length-chunks : (p n : ℕ) (xs : List ℕ) → length (chunks p n xs) ≡ n
 length-chunks p zero xs = refl

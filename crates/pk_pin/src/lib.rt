@@ -1,17 +1,22 @@
 //! An arena of page frames, whose memory is taken once.
 //!
 //! Free and leased frames together are always all frames. A frame contains what it was filled with,
-//! whatever happens to the others. Who has which frames is a relation of the specification.
+//! whatever happens to the others, and has a table of homes of the entries of its page. Who has
+//! which frames is a relation of the specification.
 #![tactic(auto)]
 
 ghost use Rattle.std.specs.Prelude.{◌≡◌, ◌≢◌, ℕ, ◌+◌, ◌*◌, ◌<◌, ◌↔◌, length, replicate, true, false, slice_get, slice_set, IfOk, IfSome, IfNone, IsNone, Some, count_by, not, slice_index_or, []};
+ghost use Rattle.pk_pin.specs.Index.{IsNumberOf};
 ghost use Rattle.pk_pin.specs.Frames.{Frames, free_frames, leased_frames, IsLeased, frame_of, leased, given, filled, KeepsPage, chunks};
 
+mod index;
 mod laws;
 
+use crate::index::{homes_for, index_frame, table_of};
 pub use laws::{
     free_and_leased, lease_given, lease_taken, leases_counted, leases_filled, none_leased,
 };
+use pk_homes::home;
 use std::alloc::{AllocError, Allocator};
 use std::marker::Model;
 
@@ -35,6 +40,9 @@ pub struct PinArena<A: Allocator> {
     free: u32,
     used: Vec<bool, A>,
     bytes: Vec<u8, A>,
+    // of each frame, how many homes its table has, and the tables
+    homes: usize,
+    tables: Vec<u16, A>,
 }
 
 // Written out, so that whoever drops one meets a call, and not the drops of all its parts.
@@ -45,13 +53,16 @@ impl<A: Allocator> Drop for PinArena<A> {
             free: _,
             used: _,
             bytes: _,
+            homes: _,
+            tables: _,
         } = self;
     }
 }
 
 impl<A: Allocator> Model for PinArena<A> {
-    ghost use Rattle.std.specs.Prelude.{◌≡◌, ◌<◌, ◌*◌, ◌^◌, not, count_by, length};
+    ghost use Rattle.std.specs.Prelude.{length};
     ghost use Rattle.pk_pin.specs.Frames.{Frames, chunks};
+    ghost use Rattle.pk_pin.specs.Index.{IsArena};
 
     ghost Value = { Frames };
 
@@ -61,8 +72,8 @@ impl<A: Allocator> Model for PinArena<A> {
       frames = chunks a.page_bytes (length a.used.items) a.bytes.items;
     } };
 
-    ghost invariant = { λ a. (a.free ≡ count_by not a.used.items) × (length a.used.items < 2 ^ 32)
-        × (length a.bytes.items ≡ length a.used.items * a.page_bytes) };
+    ghost invariant = { λ a. IsArena a.page_bytes a.homes a.free a.used.items a.bytes.items
+        a.tables.items };
 }
 
 // Takes the first place that is not used.
@@ -117,19 +128,23 @@ fn put_piece(bytes: &mut [u8], page: usize, n: usize, i: usize, from: &[u8])
 
 impl<A: Allocator + Clone> PinArena<A> {
     /// An arena of `frames` frames of this many bytes, all free. All its memory is taken here: the
-    /// bytes of the frames, and one byte for each frame.
+    /// bytes of the frames, one byte for each frame, and an eighth of its size for its table.
     pub fn new(alloc: A, frames: u32, page_bytes: u32) -> Result<PinArena<A>, AllocError>
         ensures page { IfOk result (λ a. a.page_bytes ≡ page_bytes) }
         ensures free { IfOk result (λ a. a.used ≡ replicate frames false) }
         ensures frames { IfOk result (λ a. length a.frames ≡ frames) }
     {
         let used = Vec::from_elem(alloc.clone()?, false, frames as usize)?;
-        let bytes = Vec::from_elem(alloc, 0u8, frames as usize * page_bytes as usize)?;
+        let bytes = Vec::from_elem(alloc.clone()?, 0u8, frames as usize * page_bytes as usize)?;
+        let homes = homes_for(page_bytes as usize);
+        let tables = Vec::from_elem(alloc, 0u16, frames as usize * homes)?;
         Ok(PinArena {
             page_bytes: page_bytes as usize,
             free: frames,
             used,
             bytes,
+            homes,
+            tables,
         })
     }
 }
@@ -172,6 +187,13 @@ impl<A: Allocator> PinArena<A> {
             lease.frame as usize,
             bytes,
         );
+        index_frame(
+            &mut self.tables,
+            self.homes,
+            frames,
+            lease.frame as usize,
+            bytes,
+        );
     }
 
     /// Keeps a page of bytes in the first free frame, if a frame is needed; None if none is.
@@ -200,6 +222,17 @@ impl<A: Allocator> PinArena<A> {
     {
         let frames = self.used.len();
         piece(&self.bytes, self.page_bytes, frames, lease.frame as usize)
+    }
+
+    /// The number, counted from 1, that an entry with this hash has in the page in a frame of this
+    /// arena, if there is one; or that of a home that several entries share.
+    pub fn number_of(&self, lease: &Lease, hash: u64) -> u16
+        requires { IsLeased self.now lease.now }
+        ensures { IsNumberOf (frame_of self.now lease.now) hash result }
+    {
+        let frames = self.used.len();
+        let table = table_of(&self.tables, self.homes, frames, lease.frame as usize);
+        table[home(hash, table.len())]
     }
 
     /// How many frames there are, free and leased.

@@ -49,11 +49,14 @@ fn put_front<D: Disk>(
     extents: &mut Vec<usize>,
     buffer: &mut [u8],
 ) -> io::Result<()>
+    // The image, the page and the buffers.
     requires usable { IsTrue (D.Disk.is_usable image.old) }
     requires exists { page < spec.page_count shape.now }
     requires short { length front.now ≤ shape.now.page_bytes }
     requires extents { length extents.old.items ≡ spec.page_count shape.now }
     requires buffer { length buffer.old ≡ shape.now.page_bytes }
+
+    // What the image holds and may leave.
     ensures crash { (marks : List Mark) (base : List ℕ) → Sets shape.now marks page
         → AllSameBut D.Disk image.old shape.now marks base
         → AllSameBut D.Disk image.new shape.now marks base }
@@ -62,6 +65,8 @@ fn put_front<D: Disk>(
         → SameButSet shape.now marks base (D.Disk.seen image.new) }
     ensures torn { Torn (page_place shape.now page) shape.now.page_bytes
         (D.Disk.seen image.old) (D.Disk.seen image.new) }
+
+    // The bytes that are known to be zeros, and the page.
     ensures zeros { file_size shape.now ≤ length (D.Disk.seen image.old)
         → ZerosAfterExtents shape.now extents.old.items (D.Disk.seen image.old)
         → ZerosAfterExtents shape.now extents.new.items (D.Disk.seen image.new) }
@@ -69,6 +74,8 @@ fn put_front<D: Disk>(
         → ZerosAfterExtents shape.now extents.old.items (D.Disk.seen image.old)
         → take shape.now.page_bytes (drop (page_place shape.now page) (D.Disk.seen image.new))
         ≡ padded shape.now.page_bytes front.now) }
+
+    // The image stays usable, and a wrong answer is not forgotten.
     ensures usable { IsTrue (D.Disk.is_usable image.new) }
     ensures clean { IsTrue (D.Disk.is_clean image.new) → IsTrue (D.Disk.is_clean image.old) }
     ensures len { length extents.new.items ≡ length extents.old.items }
@@ -90,11 +97,14 @@ fn put_bytes<D: Disk, P: Pages>(
     extents: &mut Vec<usize>,
     buffer: &mut [u8],
 ) -> io::Result<()>
+    // The image, the page and the buffers.
     requires usable { IsTrue (D.Disk.is_usable image.old) }
     requires shape { P.shape_of pages.now ≡ shape.now }
     requires exists { page < spec.page_count shape.now }
     requires extents { length extents.old.items ≡ spec.page_count shape.now }
     requires buffer { length buffer.old ≡ shape.now.page_bytes }
+
+    // What the image holds and may leave.
     ensures crash { (marks : List Mark) (base : List ℕ) → Sets shape.now marks page
         → AllSameBut D.Disk image.old shape.now marks base
         → AllSameBut D.Disk image.new shape.now marks base }
@@ -103,13 +113,18 @@ fn put_bytes<D: Disk, P: Pages>(
         → SameButSet shape.now marks base (D.Disk.seen image.new) }
     ensures torn { Torn (page_place shape.now page) shape.now.page_bytes
         (D.Disk.seen image.old) (D.Disk.seen image.new) }
+
+    // The bytes that are known to be zeros, and the page.
     ensures zeros { file_size shape.now ≤ length (D.Disk.seen image.old)
         → ZerosAfterExtents shape.now extents.old.items (D.Disk.seen image.old)
         → ZerosAfterExtents shape.now extents.new.items (D.Disk.seen image.new) }
     ensures own { OnOk result (file_size shape.now ≤ length (D.Disk.seen image.old)
         → ZerosAfterExtents shape.now extents.old.items (D.Disk.seen image.old)
         → (own : List ℕ) → page_at (P.flash_of pages.now) page ≡ whole own
-        → take shape.now.page_bytes (drop (page_place shape.now page) (D.Disk.seen image.new)) ≡ own) }
+        → take shape.now.page_bytes (drop (page_place shape.now page) (D.Disk.seen image.new))
+        ≡ own) }
+
+    // The image stays usable, and a wrong answer is not forgotten.
     ensures usable { IsTrue (D.Disk.is_usable image.new) }
     ensures clean { IsTrue (D.Disk.is_clean image.new) → IsTrue (D.Disk.is_clean image.old) }
     ensures len { length extents.new.items ≡ length extents.old.items }
@@ -130,11 +145,14 @@ fn put_all_bytes<D: Disk, P: Pages>(
     extents: &mut Vec<usize>,
     buffer: &mut [u8],
 ) -> io::Result<()>
+    // The image, the pages that it lacks, and the buffers.
     requires usable { IsTrue (D.Disk.is_usable image.old) }
     requires shape { P.shape_of pages.now ≡ shape.now }
     requires lacks { length lacks.now.items ≡ spec.page_count shape.now }
     requires extents { length extents.old.items ≡ spec.page_count shape.now }
     requires buffer { length buffer.old ≡ shape.now.page_bytes }
+
+    // What the image holds and may leave.
     ensures crash { (marks : List Mark) (base : List ℕ)
         → ((k : ℕ) → get_or lacks.now.items k false ≡ true → Sets shape.now marks k)
         → AllSameBut D.Disk image.old shape.now marks base
@@ -143,6 +161,8 @@ fn put_all_bytes<D: Disk, P: Pages>(
         → ((k : ℕ) → get_or lacks.now.items k false ≡ true → Sets shape.now marks k)
         → SameButSet shape.now marks base (D.Disk.seen image.old)
         → SameButSet shape.now marks base (D.Disk.seen image.new) }
+
+    // The bytes that are known to be zeros, and the pages.
     ensures zeros { file_size shape.now ≤ length (D.Disk.seen image.old)
         → ZerosAfterExtents shape.now extents.old.items (D.Disk.seen image.old)
         → ZerosAfterExtents shape.now extents.new.items (D.Disk.seen image.new) }
@@ -151,6 +171,8 @@ fn put_all_bytes<D: Disk, P: Pages>(
         → (k : ℕ) (own : List ℕ) → get_or lacks.now.items k false ≡ true
         → page_at (P.flash_of pages.now) k ≡ whole own
         → take shape.now.page_bytes (drop (page_place shape.now k) (D.Disk.seen image.new)) ≡ own) }
+
+    // The image stays usable, and a wrong answer is not forgotten.
     ensures usable { IsTrue (D.Disk.is_usable image.new) }
     ensures clean { IsTrue (D.Disk.is_clean image.new) → IsTrue (D.Disk.is_clean image.old) }
     ensures len { length extents.new.items ≡ length extents.old.items }
@@ -203,10 +225,13 @@ fn put_row<D: Disk>(
     end: usize,
     states: &[u8],
 ) -> io::Result<()>
+    // The image and the pages.
     requires usable { IsTrue (D.Disk.is_usable image.old) }
     requires order { first ≤ end }
     requires within { end ≤ spec.page_count shape.now }
     requires states { length states.now ≡ spec.page_count shape.now }
+
+    // What the image holds and may leave.
     ensures crash { (marks : List Mark) (base : List ℕ)
         → ((k : ℕ) → first ≤ k → k < end → Sets shape.now marks k)
         → AllSameBut D.Disk image.old shape.now marks base
@@ -217,8 +242,12 @@ fn put_row<D: Disk>(
         → SameButSet shape.now marks base (D.Disk.seen image.new) }
     ensures torn { Torn (state_place first) (end - first)
         (D.Disk.seen image.old) (D.Disk.seen image.new) }
+
+    // The states that are written.
     ensures written { OnOk result ((k : ℕ) → first ≤ k → k < end
         → slice_index (D.Disk.seen image.new) (state_place k) ≡ slice_index states.now k) }
+
+    // The image stays usable, and a wrong answer is not forgotten.
     ensures usable { IsTrue (D.Disk.is_usable image.new) }
     ensures clean { IsTrue (D.Disk.is_clean image.new) → IsTrue (D.Disk.is_clean image.old) }
 {
@@ -236,9 +265,12 @@ fn put_all_states<D: Disk>(
     states: &[u8],
     lacks: &Vec<bool>,
 ) -> io::Result<()>
+    // The image, and the pages that it lacks.
     requires usable { IsTrue (D.Disk.is_usable image.old) }
     requires states { length states.now ≡ spec.page_count shape.now }
     requires lacks { length lacks.now.items ≡ spec.page_count shape.now }
+
+    // What the image holds and may leave.
     ensures crash { (marks : List Mark) (base : List ℕ)
         → ((k : ℕ) → get_or lacks.now.items k false ≡ true → Sets shape.now marks k)
         → AllSameBut D.Disk image.old shape.now marks base
@@ -249,9 +281,13 @@ fn put_all_states<D: Disk>(
         → SameButSet shape.now marks base (D.Disk.seen image.new) }
     ensures torn { Torn HEADER_BYTES (spec.page_count shape.now)
         (D.Disk.seen image.old) (D.Disk.seen image.new) }
+
+    // The states that are written.
     ensures written { OnOk result (file_size shape.now ≤ length (D.Disk.seen image.old)
         → (k : ℕ) → get_or lacks.now.items k false ≡ true
         → slice_index (D.Disk.seen image.new) (state_place k) ≡ slice_index states.now k) }
+
+    // The image stays usable, and a wrong answer is not forgotten.
     ensures usable { IsTrue (D.Disk.is_usable image.new) }
     ensures clean { IsTrue (D.Disk.is_clean image.new) → IsTrue (D.Disk.is_clean image.old) }
 {

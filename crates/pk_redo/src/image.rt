@@ -88,19 +88,26 @@ pub fn put_states<D: Disk>(
 
 /// Writes the first bytes of a page.
 pub fn put_page<D: Disk>(image: &mut D, shape: &Shape, page: u32, front: &[u8]) -> io::Result<()>
+    // The image and the page.
     requires usable { IsTrue (D.Disk.is_usable image.old) }
     requires exists { page < spec.page_count shape.now }
     requires short { length front.now ≤ shape.now.page_bytes }
+
+    // What the image holds and may leave.
     ensures crash { (marks : List Mark) (base : List ℕ) → Sets shape.now marks page
         → AllSameBut D.Disk image.old shape.now marks base
         → AllSameBut D.Disk image.new shape.now marks base }
     ensures seen { (marks : List Mark) (base : List ℕ) → Sets shape.now marks page
         → SameButSet shape.now marks base (D.Disk.seen image.old)
         → SameButSet shape.now marks base (D.Disk.seen image.new) }
+
+    // The bytes that are written.
     ensures written { OnOk result (0 < length front.now
         → Holds (D.Disk.seen image.new) (page_place shape.now page) front.now) }
     ensures torn { Torn (page_place shape.now page) (length front.now)
         (D.Disk.seen image.old) (D.Disk.seen image.new) }
+
+    // The image stays usable, and a wrong answer is not forgotten.
     ensures usable { IsTrue (D.Disk.is_usable image.new) }
     ensures clean { IsTrue (D.Disk.is_clean image.new) → IsTrue (D.Disk.is_clean image.old) }
 {
@@ -172,8 +179,11 @@ pub fn finish<D: Disk>(
 /// The same at the end of a run: the log is shut, so that the image alone is the drive, and the log
 /// may be removed.
 pub fn close<D: Disk>(log: &mut D, image: &mut D, shape: &Shape) -> io::Result<()>
+    // Both files.
     requires log_usable { IsTrue (D.Disk.is_usable log.old) }
     requires image_usable { IsTrue (D.Disk.is_usable image.old) }
+
+    // What they hold together after a crash, and when the log is empty.
     ensures crash { IsTrue (D.Disk.is_clean log.new) → (base : List ℕ) (marks : List Mark)
         → LogStands D.Disk log.old shape.now base marks
         → AllSameBut D.Disk image.old shape.now marks base
@@ -183,6 +193,8 @@ pub fn close<D: Disk>(log: &mut D, image: &mut D, shape: &Shape) -> io::Result<(
         → BothRead D.Disk log.new image.new shape.now (flash_after shape.now marks base) }
     ensures done { OnOk result (IsTrue (D.Disk.is_clean log.new)
         → AllStand D.Disk log.new [] × Only (D.Disk.seen image.old) (D.Disk.may_leave image.new)) }
+
+    // The image stays as it is seen, and wrong answers are not forgotten.
     ensures seen { D.Disk.seen image.new ≡ D.Disk.seen image.old }
     ensures clean { IsTrue (D.Disk.is_clean log.new) → IsTrue (D.Disk.is_clean log.old) }
     ensures image_clean { IsTrue (D.Disk.is_clean image.new)

@@ -10,17 +10,22 @@ use std::io;
 /// Adds a batch by one sync, where a crash leaves of each byte that is written the old one or the
 /// new one: it is written over zeros, and its count tells whether one is missing.
 fn commit_counted<D: Disk>(disk: &mut D, end: usize, room: usize, batch: &[u8]) -> io::Result<()>
+    // The log and the batch.
     requires usable { IsTrue (D.Disk.is_usable disk.old) }
     requires mixing { IsTrue (D.Disk.is_mixing disk.old) }
     requires sealed { IsSealed batch.now }
     requires fits { end + length batch.now < room }
     requires room { room < 2 ^ 63 }
+
+    // What the log holds after a crash, and when the batch is in it.
     ensures crash { (bs : List (List ℕ)) → AllReady D.Disk disk.old bs end room
         → AtEachCrash D.Disk disk.new
         (λ c. LogHolds c bs ⊎ LogHolds c (bs ++ (drop BATCH_HEAD batch.now ∷ []))) }
     ensures done { OnOk result ((bs : List (List ℕ)) → AllReady D.Disk disk.old bs end room
         → AllReady D.Disk disk.new (bs ++ (drop BATCH_HEAD batch.now ∷ []))
         (end + length batch.now) room) }
+
+    // A wrong answer is not forgotten, and after success the log is usable.
     ensures clean { IsTrue (D.Disk.is_clean disk.new) → IsTrue (D.Disk.is_clean disk.old) }
     ensures usable { OnOk result (IsTrue (D.Disk.is_usable disk.new)) }
 {
@@ -31,16 +36,21 @@ fn commit_counted<D: Disk>(disk: &mut D, end: usize, room: usize, batch: &[u8]) 
 /// Adds a batch by two syncs, whatever a crash leaves where it is written: its first byte is
 /// written last.
 fn commit_twice<D: Disk>(disk: &mut D, end: usize, room: usize, batch: &[u8]) -> io::Result<()>
+    // The log and the batch.
     requires usable { IsTrue (D.Disk.is_usable disk.old) }
     requires sealed { IsSealed batch.now }
     requires fits { end + length batch.now < room }
     requires room { room < 2 ^ 63 }
+
+    // What the log holds after a crash, and when the batch is in it.
     ensures crash { (bs : List (List ℕ)) → AllReady D.Disk disk.old bs end room
         → AtEachCrash D.Disk disk.new
         (λ c. LogHolds c bs ⊎ LogHolds c (bs ++ (drop BATCH_HEAD batch.now ∷ []))) }
     ensures done { OnOk result ((bs : List (List ℕ)) → AllReady D.Disk disk.old bs end room
         → AllReady D.Disk disk.new (bs ++ (drop BATCH_HEAD batch.now ∷ []))
         (end + length batch.now) room) }
+
+    // A wrong answer is not forgotten, and after success the log is usable.
     ensures clean { IsTrue (D.Disk.is_clean disk.new) → IsTrue (D.Disk.is_clean disk.old) }
     ensures usable { OnOk result (IsTrue (D.Disk.is_usable disk.new)) }
 {
@@ -96,12 +106,17 @@ pub fn extend<D: Disk>(disk: &mut D, end: usize, room: usize, blank: &[u8]) -> i
 
 /// Whether a log has to be shut: its first byte opens it, or is not there.
 fn needs_shut<D: Disk>(disk: &mut D) -> io::Result<bool>
+    // The log.
     requires { IsTrue (D.Disk.is_usable disk.old) }
     ensures clean { IsTrue (D.Disk.is_clean disk.new) → IsTrue (D.Disk.is_clean disk.old) }
+
+    // Whether it may be open.
     ensures yes { result ≡ Ok true → IsTrue (D.Disk.is_clean disk.new)
         → MayBeOpen (D.Disk.seen disk.old) }
     ensures no { result ≡ Ok false → IsTrue (D.Disk.is_clean disk.new)
         → IsShut (D.Disk.seen disk.old) }
+
+    // The log stays as it was.
     ensures seen { D.Disk.seen disk.new ≡ D.Disk.seen disk.old }
     ensures usable { IsTrue (D.Disk.is_usable disk.new) }
     ensures crash { (c : List ℕ) → D.Disk.may_leave disk.new c → D.Disk.may_leave disk.old c }

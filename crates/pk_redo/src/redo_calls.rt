@@ -58,12 +58,17 @@ fn ended() -> io::Error {
 
 /// Makes the record of an image that has these pages.
 fn note_record<P: Pages>(first: &mut Vec<u8>, states: &mut Vec<u8>, shape: &Shape, pages: &P)
+    // The shape and the buffers.
     requires shape { P.shape_of pages.now ≡ shape.now }
     requires states { length states.old.items ≡ spec.page_count shape.now }
     requires room { length first.old.items ≡ BATCH_HEAD + record_size shape.now }
+
+    // The batch with the record of the pages.
     ensures sealed { IsSealed first.new.items }
     ensures fits { RecordFits shape.now (drop BATCH_HEAD first.new.items) (header_bytes shape.now)
         (λ k. state_byte (page_at (P.flash_of pages.now) k)) [] }
+
+    // The buffers keep their lengths.
     ensures states_len { length states.new.items ≡ length states.old.items }
     ensures len { length first.new.items ≡ length first.old.items }
 {
@@ -81,9 +86,12 @@ fn commit_pending<D: Disk>(
     room: usize,
     batch: &mut Pending,
 ) -> io::Result<()>
+    // The log and the batch.
     requires usable { IsTrue (D.Disk.is_usable log.old) }
     requires fits { end + batch.old.filled < room }
     requires room { room < 2 ^ 63 }
+
+    // What both files hold after a crash, and when the batch is in the log.
     ensures crash { (base : List ℕ) (marks now : List Mark)
         → LogSays D.Disk log.old shape.now base marks end room
         → AllSameBut D.Disk image.now shape.now marks base
@@ -97,6 +105,8 @@ fn commit_pending<D: Disk>(
         → AreSteps shape.now batch.old.bytes.items BATCH_HEAD now batch.old.filled
         → LogSays D.Disk log.new shape.now base (marks ++ now) (end + batch.old.filled) room
         × AllSameBut D.Disk image.now shape.now (marks ++ now) base) }
+
+    // A wrong answer is not forgotten, and the batch keeps its length.
     ensures usable { OnOk result (IsTrue (D.Disk.is_usable log.new)) }
     ensures clean { IsTrue (D.Disk.is_clean log.new) → IsTrue (D.Disk.is_clean log.old) }
     ensures filled { batch.new.filled ≡ batch.old.filled }
@@ -236,15 +246,22 @@ impl<D: Disk> RedoLog<D> {
 
     /// Writes the pages that the image may lack, and empties the log.
     fn settle<P: Pages>(&mut self, pages: &P) -> io::Result<()>
+        // The pages, of which none waits.
         requires shape { P.shape_of pages.now ≡ self.old.shape }
         requires empty { self.old.batch.filled ≡ BATCH_HEAD }
+
+        // What both files keep.
         ensures keeps { IsTrue (D.Disk.is_clean self.new.log) → (kept : Flash)
             → KeepsPages D.Disk self.old kept kept → P.flash_of pages.now ≡ kept
             → StillKeeps D.Disk self.new kept kept }
+
+        // The log after a checkpoint.
         ensures done { OnOk result ((self.new.state ≡ LogState.Ready)
             × (self.new.batch.filled ≡ BATCH_HEAD)
             × (self.new.end + BATCH_HEAD + STEP_BYTES + self.new.shape.page_bytes
             < self.new.room)) }
+
+        // Wrong answers are not forgotten, and the shape stays.
         ensures clean { IsTrue (D.Disk.is_clean self.new.log)
             → IsTrue (D.Disk.is_clean self.old.log) }
         ensures image_clean { IsTrue (D.Disk.is_clean self.new.image)
@@ -292,11 +309,18 @@ impl<D: Disk> RedoLog<D> {
 
     /// Sees that a step whose front has this length fits the batch: a full one is committed.
     fn secure_batch(&mut self, len: usize) -> io::Result<()>
+        // The length of the page.
         requires { len ≤ self.old.shape.page_bytes }
+
+        // What both files keep.
         ensures keeps { IsTrue (D.Disk.is_clean self.new.log) → (kept now : Flash)
             → KeepsPages D.Disk self.old kept now → StillKeeps D.Disk self.new kept now }
+
+        // The room of the batch.
         ensures fits { OnOk result (self.new.batch.filled + (STEP_BYTES + len)
             ≤ length self.new.batch.bytes.items) }
+
+        // Wrong answers are not forgotten, and the shape stays.
         ensures state { OnOk result (self.new.state ≡ self.old.state) }
         ensures clean { IsTrue (D.Disk.is_clean self.new.log)
             → IsTrue (D.Disk.is_clean self.old.log) }
@@ -312,12 +336,19 @@ impl<D: Disk> RedoLog<D> {
 
     /// Writes more zeros ahead.
     fn extend(&mut self) -> io::Result<()>
+        // The log.
         requires ready { self.old.state ≡ LogState.Ready }
         requires short { self.old.room < self.old.limit }
+
+        // What both files keep.
         ensures keeps { (kept now : Flash)
             → KeepsPages D.Disk self.old kept now → KeepsPages D.Disk self.new kept now }
+
+        // The room of the log.
         ensures done { OnOk result ((self.new.room ≡ self.old.room + length self.old.blank.items)
             × (self.new.end ≡ self.old.end) × (self.new.batch ≡ self.old.batch)) }
+
+        // Wrong answers are not forgotten, and the shape stays.
         ensures state { self.new.state ≡ self.old.state }
         ensures clean { IsTrue (D.Disk.is_clean self.new.log)
             → IsTrue (D.Disk.is_clean self.old.log) }
@@ -339,15 +370,22 @@ impl<D: Disk> RedoLog<D> {
 
     /// Sees that a step whose front has this length, which fits the batch, fits the log.
     fn secure_log<P: Pages>(&mut self, pages: &P, len: usize) -> io::Result<()>
+        // The pages, the log and the batch.
         requires shape { P.shape_of pages.now ≡ self.old.shape }
         requires short { len ≤ self.old.shape.page_bytes }
         requires ready { self.old.state ≡ LogState.Ready }
         requires fits { self.old.batch.filled + (STEP_BYTES + len)
             ≤ length self.old.batch.bytes.items }
+
+        // What both files keep.
         ensures keeps { IsTrue (D.Disk.is_clean self.new.log) → (kept now : Flash)
             → KeepsPages D.Disk self.old kept now → P.flash_of pages.now ≡ now
             → StillKeeps D.Disk self.new kept now }
+
+        // The room of the log.
         ensures room { OnOk result (HasRoomForStep self.new len) }
+
+        // Wrong answers are not forgotten, and the shape stays.
         ensures clean { IsTrue (D.Disk.is_clean self.new.log)
             → IsTrue (D.Disk.is_clean self.old.log) }
         ensures image_clean { IsTrue (D.Disk.is_clean self.new.image)
@@ -370,12 +408,19 @@ impl<D: Disk> RedoLog<D> {
     /// zeros ahead, or makes a checkpoint of a log that is long, or as it was found. After an error
     /// nothing of the step was done.
     pub fn ready<P: Pages>(&mut self, pages: &P, len: usize) -> io::Result<()>
+        // The pages.
         requires shape { P.shape_of pages.now ≡ self.old.shape }
         requires short { len ≤ self.old.shape.page_bytes }
+
+        // What both files keep.
         ensures keeps { IsTrue (D.Disk.is_clean self.new.log) → (kept now : Flash)
             → KeepsPages D.Disk self.old kept now → P.flash_of pages.now ≡ now
             → StillKeeps D.Disk self.new kept now }
+
+        // The room of batch and log.
         ensures room { OnOk result (HasRoomForStep self.new len) }
+
+        // Wrong answers are not forgotten, and the shape stays.
         ensures clean { IsTrue (D.Disk.is_clean self.new.log)
             → IsTrue (D.Disk.is_clean self.old.log) }
         ensures image_clean { IsTrue (D.Disk.is_clean self.new.image)
@@ -443,14 +488,21 @@ impl<D: Disk> RedoLog<D> {
 
     /// Ends a run: the image alone is the drive then, and the log, which is shut, may be removed.
     pub fn finish<P: Pages>(&mut self, pages: &P) -> io::Result<()>
+        // The pages.
         requires shape { P.shape_of pages.now ≡ self.old.shape }
+
+        // What both files keep.
         ensures keeps { IsTrue (D.Disk.is_clean self.new.log) → (kept now : Flash)
             → KeepsPages D.Disk self.old kept now → P.flash_of pages.now ≡ now
             → StillKeeps D.Disk self.new kept now }
+
+        // The image without its log.
         ensures done { OnOk result (IsTrue (D.Disk.is_clean self.new.log) → (kept now : Flash)
             → KeepsPages D.Disk self.old kept now → P.flash_of pages.now ≡ now
             → ImageAlone D.Disk self.new now) }
         ensures ended { OnOk result (self.new.state ≡ LogState.Ended) }
+
+        // Wrong answers are not forgotten, and the shape stays.
         ensures clean { IsTrue (D.Disk.is_clean self.new.log)
             → IsTrue (D.Disk.is_clean self.old.log) }
         ensures image_clean { IsTrue (D.Disk.is_clean self.new.image)
@@ -465,15 +517,22 @@ impl<D: Disk> RedoLog<D> {
 
     /// Brings the pages into the image, and shuts the log.
     fn end_run<P: Pages>(&mut self, pages: &P) -> io::Result<()>
+        // The pages, of which none waits.
         requires shape { P.shape_of pages.now ≡ self.old.shape }
         requires empty { self.old.batch.filled ≡ BATCH_HEAD }
+
+        // What both files keep.
         ensures keeps { IsTrue (D.Disk.is_clean self.new.log) → (kept : Flash)
             → KeepsPages D.Disk self.old kept kept → P.flash_of pages.now ≡ kept
             → StillKeeps D.Disk self.new kept kept }
+
+        // The image without its log.
         ensures done { OnOk result (IsTrue (D.Disk.is_clean self.new.log) → (kept : Flash)
             → KeepsPages D.Disk self.old kept kept → P.flash_of pages.now ≡ kept
             → ImageAlone D.Disk self.new kept) }
         ensures ended { OnOk result (self.new.state ≡ LogState.Ended) }
+
+        // Wrong answers are not forgotten, and the shape stays.
         ensures clean { IsTrue (D.Disk.is_clean self.new.log)
             → IsTrue (D.Disk.is_clean self.old.log) }
         ensures image_clean { IsTrue (D.Disk.is_clean self.new.image)

@@ -44,12 +44,19 @@ fn fault_of(error: &io::Error) -> LogFault
 
 /// The header and the state bytes of an image, if it has the length of one.
 fn read_head<D: Disk>(image: &mut D, alloc: Global, shape: &Shape) -> Result<Vec<u8>, LogFault>
+    // The image.
     requires { IsTrue (D.Disk.is_usable image.old) }
+
+    // What is read.
     ensures len { IfOk result (λ v. length v.items ≡ HEADER_BYTES + spec.page_count shape.now) }
     ensures found { IfOk result (λ v. IsTrue (D.Disk.is_clean image.new)
         → Holds (D.Disk.seen image.old) 0 v.items
         × (file_size shape.now ≤ length (D.Disk.seen image.old))) }
+
+    // Why it is not.
     ensures other { result ≢ Err (LogFault.OtherImage) }
+
+    // The image stays as it was.
     ensures seen { D.Disk.seen image.new ≡ D.Disk.seen image.old }
     ensures usable { IsTrue (D.Disk.is_usable image.new) }
     ensures crash { (c : List ℕ) → D.Disk.may_leave image.new c → D.Disk.may_leave image.old c }

@@ -12,9 +12,11 @@ use pk_nand::{Board, HostFault, Nand, raise};
 impl<B: Board> Board for Remap<B> {
     fn fetch(&mut self, into: &mut [u8]) -> Result<usize, HostFault>
         // As the trait has it.
-        ensures ok { IfOk result (λ n. Fetched (⟦<Remap<B> as Nand>⟧.state self.old) (⟦<Remap<B> as Nand>⟧.state self.new) n into.new) }
+        ensures ok { IfOk result (λ n. Fetched (⟦<Remap<B> as Nand>⟧.state self.old)
+            (⟦<Remap<B> as Nand>⟧.state self.new) n into.new) }
         ensures len { length into.new ≡ length into.old }
-        ensures err { OnErr result (FetchFailed (⟦<Remap<B> as Nand>⟧.state self.old) (⟦<Remap<B> as Nand>⟧.state self.new)) }
+        ensures err { OnErr result (FetchFailed (⟦<Remap<B> as Nand>⟧.state self.old)
+            (⟦<Remap<B> as Nand>⟧.state self.new)) }
         ensures none_given { IfErr result (λ f. f.given ≡ 0) }
 
         // What of the inner board makes it fail.
@@ -40,10 +42,14 @@ impl<B: Board> Board for Remap<B> {
 
     fn post(&mut self, bytes: &[u8]) -> Result<(), HostFault>
         // As the trait has it.
-        ensures ok { OnOk result (⟦<Remap<B> as Nand>⟧.state self.new ≡ after_post (⟦<Remap<B> as Nand>⟧.state self.old) bytes.now) }
-        ensures err { OnErr result (PostFailed (⟦<Remap<B> as Nand>⟧.state self.old) (⟦<Remap<B> as Nand>⟧.state self.new) bytes.now) }
-        ensures given { IfErr result (λ f. SentFront bytes.now f.given (⟦<Remap<B> as Nand>⟧.state self.old).posted
-            (⟦<Remap<B> as Nand>⟧.state self.new).posted (⟦<Remap<B> as Nand>⟧.state self.old).trail (⟦<Remap<B> as Nand>⟧.state self.new).trail) }
+        ensures ok { OnOk result (⟦<Remap<B> as Nand>⟧.state self.new
+            ≡ after_post (⟦<Remap<B> as Nand>⟧.state self.old) bytes.now) }
+        ensures err { OnErr result (PostFailed (⟦<Remap<B> as Nand>⟧.state self.old)
+            (⟦<Remap<B> as Nand>⟧.state self.new) bytes.now) }
+        ensures given { IfErr result (λ f. SentFront bytes.now f.given
+            (⟦<Remap<B> as Nand>⟧.state self.old).posted
+            (⟦<Remap<B> as Nand>⟧.state self.new).posted (⟦<Remap<B> as Nand>⟧.state self.old).trail
+            (⟦<Remap<B> as Nand>⟧.state self.new).trail) }
 
         // What of the inner board, or of the log's room, makes it fail.
         ensures fits { OnOk result (HasLogRoom self.old.log (length bytes.now)) }
@@ -78,10 +84,17 @@ impl<B: Board> Board for Remap<B> {
 impl<B: Board> Remap<B> {
     /// Notes the bytes that a post gave that failed, and counts it.
     fn post_failed(&mut self, bytes: &[u8], given: u32)
+        // The bytes that left.
         requires within { given ≤ length bytes.now }
         requires room { HasLogRoom self.old.log (length bytes.now) }
-        ensures told { told self.new.log ≡ longer (told self.old.log) (post (take given bytes.now) ∷ []) }
-        ensures counts { self.new.counts ≡ record self.old.counts { out_faults = counted self.old.counts.out_faults } }
+
+        // The trail and the count.
+        ensures told { told self.new.log
+            ≡ longer (told self.old.log) (post (take given bytes.now) ∷ []) }
+        ensures counts { self.new.counts
+            ≡ record self.old.counts { out_faults = counted self.old.counts.out_faults } }
+
+        // What is unchanged.
         ensures inner { self.new.inner ≡ self.old.inner }
         ensures image { self.new.image ≡ self.old.image }
         ensures work { self.new.work ≡ self.old.work }

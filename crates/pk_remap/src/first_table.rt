@@ -58,17 +58,22 @@ impl Relocation {
 
     /// Programs a table page by which no spare is used.
     fn program_empty<N: Nand>(&mut self, inner: &mut N, page: u32) -> Result<(), NandFault>
+        // The page of the inner flash, and the buffers.
         requires ready { IsReady (N.state inner.old) (inner_shape self.old.shape self.old.spares) }
         requires exists { page < length (N.state inner.old).pages }
         requires order { InOrder (inner_shape self.old.shape self.old.spares)
             (N.state inner.old).pages page }
         requires few { self.old.spares ≤ MOST_SPARES }
         requires room { HasPageBuffers self.old }
+
+        // What is programmed.
         ensures full { IsPage self.old.shape (first_table_bytes self.old) }
         ensures ok { OnOk result (N.state inner.new
             ≡ after_program (N.state inner.old) page (first_table_bytes self.old)) }
         ensures err { OnErr result (ProgramFailed (N.state inner.old) (N.state inner.new) page
             (first_table_bytes self.old)) }
+
+        // What of the work changed.
         ensures copy { self.new ≡ record self.old { copy = self.new.copy } }
         ensures room { HasPageBuffers self.new }
     {

@@ -54,16 +54,23 @@ impl<N: Nand> Remap<N> {
         alloc: Global,
         found: &Shape,
     ) -> Result<Option<Shape>, LoadFault>
+        // Nothing of the image is known yet.
         requires unknown { self.old.image ≡ Unknown }
         requires ready { IsReady (N.state self.old.inner) found.now }
         requires none_bad { self.old.counts.bad ≡ None }
+
+        // The answer and its cause.
         ensures answers { LoadAnswers (⟦<Remap<N> as Nand>⟧.state self.old) result
             (⟦<Remap<N> as Nand>⟧.state self.new) }
         ensures cause { LoadCause self.old.work.spares (N.state self.old.inner) result
             (spares_left_of self.new.image self.new.work) (N.state self.new.inner) }
+
+        // What of the inner flash changed.
         ensures reads { OnlyReading (N.state self.old.inner) (N.state self.new.inner) }
         ensures calls { AtMostCalls (2 * found.now.block_pages) (N.state self.old.inner)
             (N.state self.new.inner) }
+
+        // What is unchanged.
         ensures spares { self.new.work.spares ≡ self.old.work.spares }
     {
         match outer_shape(found, self.work.spares) {
@@ -78,18 +85,25 @@ impl<N: Nand> Remap<N> {
 
     /// Takes the newest table into memory, and the room for the log.
     fn open_table(&mut self, alloc: Global) -> Result<Option<Shape>, LoadFault>
+        // Nothing of the image is known yet.
         requires unknown { self.old.image ≡ Unknown }
         requires ready { IsReady (N.state self.old.inner) (inner_shape_of self.old.work.shape
             self.old.work.spares) }
         requires none { self.old.work.taken ≡ 0 }
         requires none_bad { self.old.counts.bad ≡ None }
+
+        // The answer and its cause.
         ensures answers { LoadAnswers (⟦<Remap<N> as Nand>⟧.state self.old) result
             (⟦<Remap<N> as Nand>⟧.state self.new) }
         ensures cause { LoadCause self.old.work.spares (N.state self.old.inner) result
             (spares_left_of self.new.image self.new.work) (N.state self.new.inner) }
+
+        // What of the inner flash changed.
         ensures reads { OnlyReading (N.state self.old.inner) (N.state self.new.inner) }
         ensures calls { AtMostCalls (2 * self.old.work.shape.block_pages) (N.state self.old.inner)
             (N.state self.new.inner) }
+
+        // What is unchanged.
         ensures spares { self.new.work.spares ≡ self.old.work.spares }
     {
         match self.work.find(&mut self.inner) {
@@ -101,14 +115,19 @@ impl<N: Nand> Remap<N> {
 
     /// Takes the room for the log.
     fn open_log(&mut self, alloc: Global) -> Result<Option<Shape>, LoadFault>
+        // The newest table is found.
         requires unknown { self.old.image ≡ Unknown }
         requires rests { IsAtRest self.old.work (N.state self.old.inner) }
         requires all { self.old.work.taken ≡ self.old.work.used }
         requires none_bad { self.old.counts.bad ≡ None }
+
+        // The answer and its cause.
         ensures answers { LoadAnswers (⟦<Remap<N> as Nand>⟧.state self.old) result
             (⟦<Remap<N> as Nand>⟧.state self.new) }
         ensures cause { LoadCause self.old.work.spares (N.state self.old.inner) result
             (spares_left_of self.new.image self.new.work) (N.state self.new.inner) }
+
+        // What is unchanged.
         ensures reads { OnlyReading (N.state self.old.inner) (N.state self.new.inner) }
         ensures inner { self.new.inner ≡ self.old.inner }
         ensures spares { self.new.work.spares ≡ self.old.work.spares }
@@ -131,13 +150,18 @@ impl<N: Nand> Remap<N> {
         shape: Shape,
         inner: Shape,
     ) -> Result<(), LoadFault>
+        // The shape, of an image that is missing.
         requires missing { self.old.image ≡ Missing }
         requires inner { inner ≡ inner_shape_of shape self.old.work.spares }
         requires allowed { IsOk (checked (inner_shape_of shape self.old.work.spares)) }
+
+        // The answer and its cause.
         ensures answers { MakeAnswers (⟦<Remap<N> as Nand>⟧.state self.old) shape result
             (⟦<Remap<N> as Nand>⟧.state self.new) }
         ensures cause { MakeCause self.old.work.spares shape (N.state self.old.inner) result
             (spares_left_of self.new.image self.new.work) (N.state self.new.inner) }
+
+        // What of the inner flash changed, wherever it is cut.
         ensures cuts { MakesInner self.old.work.spares shape (N.state self.old.inner)
             (N.state self.new.inner) }
         ensures spares { self.new.work.spares ≡ self.old.work.spares }
@@ -157,15 +181,22 @@ impl<N: Nand> Remap<N> {
         inner: Shape,
         log: MarkLog,
     ) -> Result<(), LoadFault>
+        // The shape, of an image that is missing.
         requires missing { self.old.image ≡ Missing }
         requires inner { inner ≡ inner_shape_of shape self.old.work.spares }
         requires allowed { IsOk (checked (inner_shape_of shape self.old.work.spares)) }
+
+        // The trail.
         requires told { told log ≡ told self.old.log }
         requires sized { log.page_bytes ≡ shape.page_bytes }
+
+        // The answer and its cause.
         ensures answers { MakeAnswers (⟦<Remap<N> as Nand>⟧.state self.old) shape result
             (⟦<Remap<N> as Nand>⟧.state self.new) }
         ensures cause { MakeCause self.old.work.spares shape (N.state self.old.inner) result
             (spares_left_of self.new.image self.new.work) (N.state self.new.inner) }
+
+        // What of the inner flash changed, wherever it is cut.
         ensures cuts { MakesInner self.old.work.spares shape (N.state self.old.inner)
             (N.state self.new.inner) }
         ensures spares { self.new.work.spares ≡ self.old.work.spares }
@@ -179,15 +210,22 @@ impl<N: Nand> Remap<N> {
 
     /// Writes the first table.
     fn make_table(&mut self, shape: Shape, log: MarkLog) -> Result<(), LoadFault>
+        // The shape, whose inner image is made.
         requires unknown { self.old.image ≡ Unknown }
         requires made { IsMade shape self.old.work.spares (N.state self.old.inner) }
         requires allowed { IsOk (checked (inner_shape_of shape self.old.work.spares)) }
+
+        // The trail.
         requires told { told log ≡ told self.old.log }
         requires sized { log.page_bytes ≡ shape.page_bytes }
+
+        // The answer and its cause.
         ensures answers { MakeAnswers (⟦<Remap<N> as Nand>⟧.state self.old) shape result
             (⟦<Remap<N> as Nand>⟧.state self.new) }
         ensures cause { MakeCause self.old.work.spares shape (N.state self.old.inner) result
             (spares_left_of self.new.image self.new.work) (N.state self.new.inner) }
+
+        // What of the inner flash changed, wherever it is cut.
         ensures cuts { PassesCalls (IsNoneOrErased shape self.old.work.spares)
             (N.state self.old.inner) (N.state self.new.inner) }
         ensures spares { self.new.work.spares ≡ self.old.work.spares }

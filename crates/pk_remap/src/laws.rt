@@ -12,12 +12,17 @@ pub fn calls()
 
 /// The steps of a relocation in the spare: wherever one is cut, the outer flash is what the call that it serves may leave.
 pub fn in_spare()
+    // The erase of the spare block.
     ensures erases { ErasesSpare }
     ensures fails_to_erase { FailsToEraseSpare }
+
+    // The pages that are read and written.
     ensures source { ReadsSource }
     ensures order { WritesInOrder }
     ensures writes { WritesSpare }
     ensures fails_to_write { FailsToWriteSpare }
+
+    // The order in which they are.
     ensures fills { Fills }
 {}
 

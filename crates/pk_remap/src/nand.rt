@@ -29,13 +29,18 @@ impl<N: Nand> Nand for Remap<N> {
 
     fn load(&mut self, alloc: Global) -> Result<Option<Shape>, LoadFault>
         // As the trait has it.
-        ensures ok { IfOk result (Loaded (⟦<Remap<N> as Nand>⟧.state self.old) (⟦<Remap<N> as Nand>⟧.state self.new)) }
-        ensures err { OnErr result (LoadFailed (⟦<Remap<N> as Nand>⟧.state self.old) (⟦<Remap<N> as Nand>⟧.state self.new)) }
+        ensures ok { IfOk result (Loaded (⟦<Remap<N> as Nand>⟧.state self.old)
+            (⟦<Remap<N> as Nand>⟧.state self.new)) }
+        ensures err { OnErr result (LoadFailed (⟦<Remap<N> as Nand>⟧.state self.old)
+            (⟦<Remap<N> as Nand>⟧.state self.new)) }
         ensures fault { result ≡ Err LoadFault.Fault
-            → Rose (⟦<Remap<N> as Nand>⟧.state self.old).flash_faults (⟦<Remap<N> as Nand>⟧.state self.new).flash_faults }
+            → Rose (⟦<Remap<N> as Nand>⟧.state self.old).flash_faults
+            (⟦<Remap<N> as Nand>⟧.state self.new).flash_faults }
         ensures no_fault { result ≢ Err LoadFault.Fault
-            → (⟦<Remap<N> as Nand>⟧.state self.new).flash_faults ≡ (⟦<Remap<N> as Nand>⟧.state self.old).flash_faults }
-        ensures ready { (shape : spec.Shape) → (⟦<Remap<N> as Nand>⟧.state self.new).shape ≡ Some shape
+            → (⟦<Remap<N> as Nand>⟧.state self.new).flash_faults
+            ≡ (⟦<Remap<N> as Nand>⟧.state self.old).flash_faults }
+        ensures ready { (shape : spec.Shape)
+            → (⟦<Remap<N> as Nand>⟧.state self.new).shape ≡ Some shape
             → IsReady (⟦<Remap<N> as Nand>⟧.state self.new) shape }
         ensures bad { (at : ℕ) → result ≡ Err (LoadFault.BadImage at)
             → (⟦<Remap<N> as Nand>⟧.state self.new).bad ≡ Some at }
@@ -72,12 +77,16 @@ impl<N: Nand> Nand for Remap<N> {
         requires { (⟦<Remap<N> as Nand>⟧.state self.old).bare ≡ true }
 
         // As the trait has it.
-        ensures ok { OnOk result (Made (⟦<Remap<N> as Nand>⟧.state self.old) (⟦<Remap<N> as Nand>⟧.state self.new) shape) }
-        ensures err { OnErr result (MakeFailed (⟦<Remap<N> as Nand>⟧.state self.old) (⟦<Remap<N> as Nand>⟧.state self.new)) }
+        ensures ok { OnOk result (Made (⟦<Remap<N> as Nand>⟧.state self.old)
+            (⟦<Remap<N> as Nand>⟧.state self.new) shape) }
+        ensures err { OnErr result (MakeFailed (⟦<Remap<N> as Nand>⟧.state self.old)
+            (⟦<Remap<N> as Nand>⟧.state self.new)) }
         ensures fault { result ≡ Err LoadFault.Fault
-            → Rose (⟦<Remap<N> as Nand>⟧.state self.old).flash_faults (⟦<Remap<N> as Nand>⟧.state self.new).flash_faults }
+            → Rose (⟦<Remap<N> as Nand>⟧.state self.old).flash_faults
+            (⟦<Remap<N> as Nand>⟧.state self.new).flash_faults }
         ensures no_fault { result ≢ Err LoadFault.Fault
-            → (⟦<Remap<N> as Nand>⟧.state self.new).flash_faults ≡ (⟦<Remap<N> as Nand>⟧.state self.old).flash_faults }
+            → (⟦<Remap<N> as Nand>⟧.state self.new).flash_faults
+            ≡ (⟦<Remap<N> as Nand>⟧.state self.old).flash_faults }
         ensures ready { (own : spec.Shape) → (⟦<Remap<N> as Nand>⟧.state self.new).shape ≡ Some own
             → IsReady (⟦<Remap<N> as Nand>⟧.state self.new) own }
         ensures bad { (at : ℕ) → result ≢ Err (LoadFault.BadImage at) }
@@ -97,15 +106,19 @@ impl<N: Nand> Nand for Remap<N> {
 
     fn read(&mut self, page: u32, into: &mut [u8]) -> Result<PageRead, NandFault>
         requires exists { page < length (⟦<Remap<N> as Nand>⟧.state self.old).pages }
-        requires room { length into.old ≡ (shape_of (⟦<Remap<N> as Nand>⟧.state self.old)).page_bytes }
+        requires room { length into.old
+            ≡ (shape_of (⟦<Remap<N> as Nand>⟧.state self.old)).page_bytes }
 
         // As the trait has it.
         ensures found { IfOk result
             (λ r. r ≡ answer (page_at (⟦<Remap<N> as Nand>⟧.state self.old).pages page)) }
         ensures bytes { OnOk result
-            (into.new ≡ filled (page_at (⟦<Remap<N> as Nand>⟧.state self.old).pages page) into.old) }
-        ensures ok { OnOk result (⟦<Remap<N> as Nand>⟧.state self.new ≡ after_read (⟦<Remap<N> as Nand>⟧.state self.old)) }
-        ensures err { OnErr result (ReadFailed (⟦<Remap<N> as Nand>⟧.state self.old) (⟦<Remap<N> as Nand>⟧.state self.new) page) }
+            (into.new ≡ filled (page_at (⟦<Remap<N> as Nand>⟧.state self.old).pages page)
+            into.old) }
+        ensures ok { OnOk result (⟦<Remap<N> as Nand>⟧.state self.new
+            ≡ after_read (⟦<Remap<N> as Nand>⟧.state self.old)) }
+        ensures err { OnErr result (ReadFailed (⟦<Remap<N> as Nand>⟧.state self.old)
+            (⟦<Remap<N> as Nand>⟧.state self.new) page) }
 
         // What of the inner flash makes it fail; that is only read, and no spare is taken.
         ensures cause { OnErr result (Rose (N.state self.old.inner).read_faults
@@ -130,8 +143,10 @@ impl<N: Nand> Nand for Remap<N> {
 
     fn program(&mut self, page: u32, bytes: &[u8]) -> Result<(), NandFault>
         requires exists { page < length (⟦<Remap<N> as Nand>⟧.state self.old).pages }
-        requires full { length bytes.now ≡ (shape_of (⟦<Remap<N> as Nand>⟧.state self.old)).page_bytes }
-        requires order { InOrder (shape_of (⟦<Remap<N> as Nand>⟧.state self.old)) (⟦<Remap<N> as Nand>⟧.state self.old).pages page }
+        requires full { length bytes.now
+            ≡ (shape_of (⟦<Remap<N> as Nand>⟧.state self.old)).page_bytes }
+        requires order { InOrder (shape_of (⟦<Remap<N> as Nand>⟧.state self.old))
+            (⟦<Remap<N> as Nand>⟧.state self.old).pages page }
 
         // As the trait has it.
         ensures ok { OnOk result (⟦<Remap<N> as Nand>⟧.state self.new
@@ -141,7 +156,8 @@ impl<N: Nand> Nand for Remap<N> {
 
         // At each cut of the calls of the inner flash the outer flash is what this call may leave.
         ensures passes { PassesCalls (MayShow self.old.work.shape self.old.work.spares
-            (⟦<Remap<N> as Nand>⟧.state self.old).pages (program page bytes.now)) (N.state self.old.inner) (N.state self.new.inner) }
+            (⟦<Remap<N> as Nand>⟧.state self.old).pages (program page bytes.now))
+            (N.state self.old.inner) (N.state self.new.inner) }
         ensures calls { CallsUnlessMoved (find_calls self.old.image self.old.work.shape + 2)
             (relocation_calls self.old.work.shape (spares_left_of self.old.image self.old.work))
             (N.state self.old.inner) (N.state self.new.inner) }
@@ -150,16 +166,18 @@ impl<N: Nand> Nand for Remap<N> {
         ensures shown { OnOk result (through self.old.work.shape self.old.work.spares
             (N.state self.new.inner).pages ≡ Some (⟦<Remap<N> as Nand>⟧.state self.new).pages) }
         ensures noted { OnErr result (IsRefused self.old.log (length bytes.now)
-            (N.state self.old.inner) (N.state self.new.inner) ⊎ (⟦<Remap<N> as Nand>⟧.state self.new).trail
+            (N.state self.old.inner) (N.state self.new.inner)
+            ⊎ (⟦<Remap<N> as Nand>⟧.state self.new).trail
             ≡ longer (⟦<Remap<N> as Nand>⟧.state self.old).trail
             (program page bytes.now ∷ [])) }
 
         // What of the inner flash, or of the log's room, makes it fail; and how many spares are left.
         ensures fits { OnOk result (HasLogRoom self.old.log (length bytes.now)) }
-        ensures cause { OnErr result (IsRefused self.old.log (length bytes.now) (N.state self.old.inner)
+        ensures cause { OnErr result (IsRefused self.old.log (length bytes.now)
+            (N.state self.old.inner)
             (N.state self.new.inner) ⊎ StopCause self.old.work.shape self.old.work.spares
-            (program page bytes.now) (N.state self.old.inner) (spares_left_of self.new.image self.new.work)
-            (N.state self.new.inner)) }
+            (program page bytes.now) (N.state self.old.inner)
+            (spares_left_of self.new.image self.new.work) (N.state self.new.inner)) }
         ensures left { SparesFallBy (spares_left_of self.old.image self.old.work)
             (N.state self.old.inner) (spares_left_of self.new.image self.new.work)
             (N.state self.new.inner) }
@@ -185,7 +203,8 @@ impl<N: Nand> Nand for Remap<N> {
 
         // At each cut of the calls of the inner flash the outer flash is what this call may leave.
         ensures passes { PassesCalls (MayShow self.old.work.shape self.old.work.spares
-            (⟦<Remap<N> as Nand>⟧.state self.old).pages (erase block)) (N.state self.old.inner) (N.state self.new.inner) }
+            (⟦<Remap<N> as Nand>⟧.state self.old).pages (erase block)) (N.state self.old.inner)
+            (N.state self.new.inner) }
         ensures calls { CallsUnlessMoved (find_calls self.old.image self.old.work.shape + 1)
             (relocation_calls self.old.work.shape (spares_left_of self.old.image self.old.work))
             (N.state self.old.inner) (N.state self.new.inner) }

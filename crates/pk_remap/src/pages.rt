@@ -29,9 +29,12 @@ impl<N: Nand> Remap<N> {
 
     /// Reads a page by the newest table.
     pub(crate) fn read_page(&mut self, page: u32, into: &mut [u8]) -> Result<PageRead, NandFault>
+        // The page and the buffer.
         requires opened { is_open_image self.old.image ≡ true }
         requires inside { page < page_count self.old.work.shape }
         requires room { length into.old ≡ self.old.work.shape.page_bytes }
+
+        // What is read.
         ensures found { IfOk result (λ r. r ≡ answer (page_at (outer_pages self.old.work.shape
             self.old.work.spares (N.state self.old.inner).pages) page)) }
         ensures bytes { OnOk result (into.new ≡ filled (page_at (outer_pages
@@ -39,9 +42,13 @@ impl<N: Nand> Remap<N> {
             into.old) }
         ensures err { OnErr result (Rose (N.state self.old.inner).read_faults
             (N.state self.new.inner).read_faults) }
+
+        // The calls of the inner flash.
         ensures reads { OnlyReading (N.state self.old.inner) (N.state self.new.inner) }
         ensures calls { AtMostCalls (find_calls self.old.image self.old.work.shape + 1)
             (N.state self.old.inner) (N.state self.new.inner) }
+
+        // What is unchanged.
         ensures opened { is_open_image self.new.image ≡ true }
         ensures same { SameTaken self.old.work self.new.work }
         ensures log { self.new.log ≡ self.old.log }
@@ -55,16 +62,21 @@ impl<N: Nand> Remap<N> {
 
     /// Programs a page by the newest table. After a failure nobody knows which table that is.
     pub(crate) fn program_page(&mut self, page: u32, bytes: &[u8]) -> Result<(), NandFault>
+        // The page and its bytes.
         requires opened { is_open_image self.old.image ≡ true }
         requires inside { page < page_count self.old.work.shape }
         requires full { IsPage self.old.work.shape bytes.now }
         requires order { InOrder self.old.work.shape (outer_pages self.old.work.shape
             self.old.work.spares (N.state self.old.inner).pages) page }
+
+        // The mark on the outer flash, and the calls of the inner one.
         ensures made { MarkMade self.old.work (program page bytes.now) (N.state self.old.inner)
             result self.new.work (N.state self.new.inner) }
         ensures calls { CallsUnlessMoved (find_calls self.old.image self.old.work.shape + 2)
             (relocation_calls self.old.work.shape (self.old.work.spares - self.old.work.taken))
             (N.state self.old.inner) (N.state self.new.inner) }
+
+        // What is unchanged.
         ensures opened { is_open_image self.new.image ≡ true }
         ensures log { self.new.log ≡ self.old.log }
         ensures counts { self.new.counts ≡ self.old.counts }
@@ -77,18 +89,23 @@ impl<N: Nand> Remap<N> {
 
     /// Programs a page by the newest table, which is in memory.
     fn program_found(&mut self, page: u32, bytes: &[u8]) -> Result<(), NandFault>
+        // The page and its bytes.
         requires sure { self.old.image ≡ Sure }
         requires inside { page < page_count self.old.work.shape }
         requires full { IsPage self.old.work.shape bytes.now }
         requires order { InOrder self.old.work.shape (outer_of self.old.work
             (N.state self.old.inner).pages) page }
-        ensures outcome { OuterOutcome self.old.work (program page bytes.now) (N.state self.old.inner) result
-            self.new.work (N.state self.new.inner) }
+
+        // What became of the outer flash, and the calls of the inner one.
+        ensures outcome { OuterOutcome self.old.work (program page bytes.now)
+            (N.state self.old.inner) result self.new.work (N.state self.new.inner) }
         ensures taken { OuterCounts self.old.work (N.state self.old.inner) result self.new.work
             (N.state self.new.inner) }
         ensures calls { CallsUnlessMoved 2 (relocation_calls self.old.work.shape
             (self.old.work.spares - self.old.work.taken)) (N.state self.old.inner)
             (N.state self.new.inner) }
+
+        // What is unchanged.
         ensures opened { is_open_image self.new.image ≡ true }
         ensures log { self.new.log ≡ self.old.log }
         ensures counts { self.new.counts ≡ self.old.counts }
@@ -105,13 +122,18 @@ impl<N: Nand> Remap<N> {
 
     /// Erases a block by the newest table. After a failure nobody knows which table that is.
     pub(crate) fn erase_block(&mut self, block: u32) -> Result<(), NandFault>
+        // The block.
         requires opened { is_open_image self.old.image ≡ true }
         requires inside { block < self.old.work.shape.blocks }
+
+        // The mark on the outer flash, and the calls of the inner one.
         ensures made { MarkMade self.old.work (erase block) (N.state self.old.inner) result
             self.new.work (N.state self.new.inner) }
         ensures calls { CallsUnlessMoved (find_calls self.old.image self.old.work.shape + 1)
             (relocation_calls self.old.work.shape (self.old.work.spares - self.old.work.taken))
             (N.state self.old.inner) (N.state self.new.inner) }
+
+        // What is unchanged.
         ensures opened { is_open_image self.new.image ≡ true }
         ensures log { self.new.log ≡ self.old.log }
         ensures counts { self.new.counts ≡ self.old.counts }
@@ -124,8 +146,11 @@ impl<N: Nand> Remap<N> {
 
     /// Erases a block by the newest table, which is in memory.
     fn erase_found(&mut self, block: u32) -> Result<(), NandFault>
+        // The block.
         requires sure { self.old.image ≡ Sure }
         requires inside { block < self.old.work.shape.blocks }
+
+        // What became of the outer flash, and the calls of the inner one.
         ensures outcome { OuterOutcome self.old.work (erase block) (N.state self.old.inner) result
             self.new.work (N.state self.new.inner) }
         ensures taken { OuterCounts self.old.work (N.state self.old.inner) result self.new.work
@@ -133,6 +158,8 @@ impl<N: Nand> Remap<N> {
         ensures calls { CallsUnlessMoved 1 (relocation_calls self.old.work.shape
             (self.old.work.spares - self.old.work.taken)) (N.state self.old.inner)
             (N.state self.new.inner) }
+
+        // What is unchanged.
         ensures opened { is_open_image self.new.image ≡ true }
         ensures log { self.new.log ≡ self.old.log }
         ensures counts { self.new.counts ≡ self.old.counts }

@@ -70,7 +70,8 @@ impl Relocation {
 
     /// For a flash of this shape, of which no table is known.
     pub(crate) fn fit(&mut self, shape: Shape)
-        ensures { self.new ≡ record self.old { shape = shape; number = 0; used = 0; top = 0; next = None; taken = 0 } }
+        ensures { self.new ≡ record self.old
+            { shape = shape; number = 0; used = 0; top = 0; next = None; taken = 0 } }
     {
         self.shape = shape;
         self.number = 0;

@@ -29,8 +29,11 @@ impl<N: Nand + Drop> Remap<N> {
     /// A flash over this one, of which `spares` blocks are spare blocks; it reports its marks if the log has room for some. The memory of its
     /// three page buffers is taken here, that of the log by `load` and `make`. Without memory the inner flash is dropped.
     pub fn new(alloc: Global, inner: N, spares: u16, log: usize) -> Result<Remap<N>, AllocError>
+        // How many spare blocks there are.
         requires some { 1 ≤ spares }
         requires few { spares ≤ MOST_SPARES }
+
+        // The board, of which nothing is known yet.
         ensures board { IfOk result
             (λ r. ⟦<Remap<N> as Nand>⟧.state r ≡ fresh_remap log (N.state inner)) }
         ensures inner { IfOk result (λ r. r.inner ≡ inner) }

@@ -20,7 +20,8 @@ use pk_nand::{Nand, NandFault, PageRead};
 /// Takes this table if it is newer than the one that was found before.
 fn take(best: Option<Top>, table: Top, own: &[u16], serves: &mut [u16]) -> Option<Top>
     requires { length own.now ≡ length serves.old }
-    ensures newer { table_found result serves.new ≡ newer_at (table_found best serves.old) table.page
+    ensures newer { table_found result serves.new
+        ≡ newer_at (table_found best serves.old) table.page
         (Some (table_of table.number table.used own.now)) }
     ensures few { (most : ℕ) → UsesAtMost most best → table.used ≤ most → UsesAtMost most result }
     ensures len { length serves.new ≡ length serves.old }
@@ -100,19 +101,26 @@ pub fn newest<N: Nand>(
     serves: &mut [u16],
     buf: &mut [u8],
 ) -> Result<Option<Top>, NandFault>
+    // The inner flash and the buffers.
     requires ready { IsReady (N.state inner.old) (inner_shape shape.now spares) }
     requires few { spares ≤ MOST_SPARES }
     requires room { length serves.old ≡ MOST_SPARES }
     requires sized { length buf.old ≡ shape.now.page_bytes }
+
+    // The newest table.
     ensures found { IfOk result
         (λ r. newest_table shape.now spares (page_at (N.state inner.old).pages)
         ≡ table_found r serves.new) }
     ensures few { IfOk result (λ r. UsesAtMost spares r) }
+
+    // The calls of the inner flash.
     ensures ok { OnOk result (N.state inner.new
         ≡ after_reads (2 * shape.now.block_pages) (N.state inner.old)) }
     ensures err { OnErr result (SearchFailed (N.state inner.old) (N.state inner.new)) }
     ensures calls { AtMostCalls (2 * shape.now.block_pages) (N.state inner.old)
         (N.state inner.new) }
+
+    // What is unchanged.
     ensures len { length serves.new ≡ length serves.old }
 {
     shape.known();

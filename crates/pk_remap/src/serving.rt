@@ -88,13 +88,18 @@ impl Relocation {
         page: u32,
         into: &mut [u8],
     ) -> Result<PageRead, NandFault>
+        // The page and the buffer.
         requires rests { IsAtRest self.now (N.state inner.old) }
         requires inside { page < page_count self.now.shape }
         requires room { length into.old ≡ self.now.shape.page_bytes }
+
+        // What is read.
         ensures found { IfOk result (λ r. r
             ≡ answer (page_at (outer_of self.now (N.state inner.old).pages) page)) }
         ensures bytes { OnOk result (into.new
             ≡ filled (page_at (outer_of self.now (N.state inner.old).pages) page) into.old) }
+
+        // The read of the inner flash.
         ensures ok { OnOk result (N.state inner.new ≡ after_read (N.state inner.old)) }
         ensures err { OnErr result (ReadFailed (N.state inner.old) (N.state inner.new)
             (placed_page self.now.shape (relocation_of self.now).table page)) }
@@ -136,10 +141,13 @@ impl Relocation {
         page: u32,
         bytes: &[u8],
     ) -> Result<(), NandFault>
+        // The page and its bytes.
         requires rests { IsAtRest self.old (N.state inner.old) }
         requires inside { page < page_count self.old.shape }
         requires full { IsPage self.old.shape bytes.now }
         requires order { InOrder self.old.shape (outer_of self.old (N.state inner.old).pages) page }
+
+        // What became of the outer flash, and the calls of the inner one.
         ensures outcome { OuterOutcome self.old (program page bytes.now) (N.state inner.old) result
             self.new (N.state inner.new) }
         ensures counts { OuterCounts self.old (N.state inner.old) result self.new
@@ -160,11 +168,14 @@ impl Relocation {
         page: u32,
         bytes: &[u8],
     ) -> Result<(), NandFault>
+        // The page, its bytes, and the other page of its pair.
         requires rests { IsAtRest self.old (N.state inner.old) }
         requires inside { page < page_count self.old.shape }
         requires full { IsPage self.old.shape bytes.now }
         requires order { InOrder self.old.shape (outer_of self.old (N.state inner.old).pages) page }
         requires partner { HasPartner self.old page (outer_of self.old (N.state inner.old).pages) }
+
+        // What became of the outer flash, and the calls of the inner one.
         ensures outcome { OuterOutcome self.old (program page bytes.now) (N.state inner.old) result
             self.new (N.state inner.new) }
         ensures counts { OuterCounts self.old (N.state inner.old) result self.new
@@ -245,19 +256,26 @@ fn newest_by<N: Nand>(
     serves: &mut [u16],
     buffer: &mut [u8],
 ) -> Result<Option<Top>, NandFault>
+    // The inner flash and the buffers.
     requires ready { IsReady (N.state inner.old) (inner_shape shape.now spares) }
     requires few { spares ≤ MOST_SPARES }
     requires all { length serves.old ≡ MOST_SPARES }
     requires room { shape.now.page_bytes ≤ length buffer.old }
+
+    // The newest table.
     ensures found { IfOk result
         (λ r. newest_table shape.now spares (page_at (N.state inner.old).pages)
         ≡ table_found r serves.new) }
     ensures few { IfOk result (λ r. UsesAtMost spares r) }
+
+    // The calls of the inner flash.
     ensures ok { OnOk result (N.state inner.new
         ≡ after_reads (2 * shape.now.block_pages) (N.state inner.old)) }
     ensures err { OnErr result (SearchFailed (N.state inner.old) (N.state inner.new)) }
     ensures calls { AtMostCalls (2 * shape.now.block_pages) (N.state inner.old)
         (N.state inner.new) }
+
+    // What is unchanged.
     ensures all { length serves.new ≡ length serves.old }
     ensures len { length buffer.new ≡ length buffer.old }
 {

@@ -123,7 +123,8 @@ impl Relocation {
         requires runs { (before : Flash) × RelocationRuns self.old before (N.state inner.old) }
         ensures steps { RelocationSteps self.old (N.state inner.old) result self.new
             (N.state inner.new) }
-        ensures counts { StepCounts self.old (N.state inner.old) result self.new (N.state inner.new) }
+        ensures counts { StepCounts self.old (N.state inner.old) result self.new
+            (N.state inner.new) }
         ensures calls { OneCall (N.state inner.old) (N.state inner.new) }
     {
         self.shape.known();
@@ -142,7 +143,8 @@ impl Relocation {
         requires runs { (before : Flash) × RelocationRuns self.old before (N.state inner.old) }
         ensures steps { RelocationSteps self.old (N.state inner.old) result self.new
             (N.state inner.new) }
-        ensures counts { StepCounts self.old (N.state inner.old) result self.new (N.state inner.new) }
+        ensures counts { StepCounts self.old (N.state inner.old) result self.new
+            (N.state inner.new) }
         ensures calls { OneCall (N.state inner.old) (N.state inner.new) }
     {
         self.shape.known();
@@ -183,7 +185,8 @@ impl Relocation {
         requires runs { (before : Flash) × RelocationRuns self.old before (N.state inner.old) }
         ensures steps { RelocationSteps self.old (N.state inner.old) result self.new
             (N.state inner.new) }
-        ensures counts { StepCounts self.old (N.state inner.old) result self.new (N.state inner.new) }
+        ensures counts { StepCounts self.old (N.state inner.old) result self.new
+            (N.state inner.new) }
         ensures calls { OneCall (N.state inner.old) (N.state inner.new) }
     {
         self.shape.known();
@@ -219,7 +222,8 @@ impl Relocation {
         requires runs { (before : Flash) × RelocationRuns self.old before (N.state inner.old) }
         ensures steps { RelocationSteps self.old (N.state inner.old) result self.new
             (N.state inner.new) }
-        ensures counts { StepCounts self.old (N.state inner.old) result self.new (N.state inner.new) }
+        ensures counts { StepCounts self.old (N.state inner.old) result self.new
+            (N.state inner.new) }
         ensures calls { OneCall (N.state inner.old) (N.state inner.new) }
     {
         self.shape.known();
@@ -281,7 +285,8 @@ impl Relocation {
         requires runs { (before : Flash) × RelocationRuns self.old before (N.state inner.old) }
         ensures steps { RelocationSteps self.old (N.state inner.old) result self.new
             (N.state inner.new) }
-        ensures counts { StepCounts self.old (N.state inner.old) result self.new (N.state inner.new) }
+        ensures counts { StepCounts self.old (N.state inner.old) result self.new
+            (N.state inner.new) }
         ensures calls { OneCall (N.state inner.old) (N.state inner.new) }
     {
         self.shape.known();
@@ -309,7 +314,8 @@ impl Relocation {
         requires runs { (before : Flash) × RelocationRuns self.old before (N.state inner.old) }
         ensures steps { RelocationSteps self.old (N.state inner.old) result self.new
             (N.state inner.new) }
-        ensures counts { StepCounts self.old (N.state inner.old) result self.new (N.state inner.new) }
+        ensures counts { StepCounts self.old (N.state inner.old) result self.new
+            (N.state inner.new) }
         ensures calls { OneCall (N.state inner.old) (N.state inner.new) }
     {
         self.shape.known();
@@ -337,7 +343,8 @@ impl Relocation {
         requires { (before : Flash) × RelocationRuns self.old before (N.state inner.old) }
         ensures steps { RelocationSteps self.old (N.state inner.old) result self.new
             (N.state inner.new) }
-        ensures counts { StepCounts self.old (N.state inner.old) result self.new (N.state inner.new) }
+        ensures counts { StepCounts self.old (N.state inner.old) result self.new
+            (N.state inner.new) }
         ensures calls { OneCall (N.state inner.old) (N.state inner.new) }
     {
         match self.phase {
@@ -375,16 +382,23 @@ pub fn program_table<N: Nand>(
     serves: &[u16],
     buffer: &mut [u8],
 ) -> Result<(), NandFault>
+    // The page of the inner flash.
     requires exists { page < length (N.state inner.old).pages }
     requires order { InOrder (shape_of (N.state inner.old)) (N.state inner.old).pages page }
     requires sized { shape.now.page_bytes ≡ (shape_of (N.state inner.old)).page_bytes }
+
+    // The table and the buffer.
     requires few { spares ≤ MOST_SPARES }
     requires used { length serves.now ≤ spares }
     requires room { shape.now.page_bytes ≤ length buffer.old }
+
+    // The bytes of the table.
     ensures page { IsPage shape.now (take shape.now.page_bytes buffer.new) }
     ensures bytes { take shape.now.page_bytes buffer.new
         ≡ table_bytes shape.now spares (record { number = number; serves = serves.now }) }
     ensures len { length buffer.new ≡ length buffer.old }
+
+    // Their program.
     ensures ok { OnOk result (N.state inner.new ≡ after_program (N.state inner.old) page
         (take shape.now.page_bytes buffer.new)) }
     ensures err { OnErr result (ProgramFailed (N.state inner.old) (N.state inner.new) page
@@ -402,13 +416,18 @@ pub fn read_into<N: Nand>(
     size: usize,
     buffer: &mut [u8],
 ) -> Result<PageRead, NandFault>
+    // The page and the buffer.
     requires exists { at < length (N.state inner.old).pages }
     requires sized { size ≡ (shape_of (N.state inner.old)).page_bytes }
     requires room { size ≤ length buffer.old }
+
+    // What is read.
     ensures found { IfOk result (λ r. r ≡ answer (page_at (N.state inner.old).pages at)) }
     ensures bytes { OnOk result (take size buffer.new
         ≡ filled (page_at (N.state inner.old).pages at) (take size buffer.old)) }
     ensures len { length buffer.new ≡ length buffer.old }
+
+    // The read of the inner flash.
     ensures ok { OnOk result (N.state inner.new ≡ after_read (N.state inner.old)) }
     ensures err { OnErr result (ReadFailed (N.state inner.old) (N.state inner.new) at) }
 {

@@ -50,16 +50,23 @@ pub fn decode(
     page: &[u8],
     serves: &mut [u16],
 ) -> Result<(u64, usize), BadTable>
+    // The page and the buffer.
     requires sized { length page.now ≡ shape.now.page_bytes }
     requires few { spares ≤ MOST_SPARES }
     requires room { MOST_SPARES ≤ length serves.old }
+
+    // A table.
     ensures found { IfOk result (λ r. table_page shape.now spares page.now
         ≡ Some (table_of r.0 r.1 serves.new)) }
     ensures grammar { IfOk result (λ r. is_table shape.now spares (table_of r.0 r.1 serves.new)
         ≡ true) }
     ensures used { IfOk result (λ r. r.1 ≤ spares) }
+
+    // None.
     ensures missing { OnErr result (table_page shape.now spares page.now ≡ None) }
     ensures exact { IfErr result (λ bad. table_fault shape.now spares page.now ≡ Some bad.at) }
+
+    // What is unchanged.
     ensures kept { OnErr result (serves.new ≡ serves.old) }
     ensures len { length serves.new ≡ length serves.old }
 {

@@ -2,7 +2,7 @@
 use Rattle.std.proofs.Common.{◌≡◌, ℕ, suc, ◌+◌, ◌*◌, ◌<◌, ◌≤◌, T, List, [], length, slice_get, get_or, take, drop, ap, sym, subst, ◌∙◌, arith, Option, Some, None, option_map, ◌/◌, ◌%◌}
 use Rattle.std.proofs.Common.{div-lt_iff_lt-mul, suc-mul, zero-mul, mul-le-mul_right, lt_of_mul-lt-mul_right}
 use Rattle.std.{proofs.lemmas.Grind.div_ceil_times, proofs.lemmas.List.get_or_default, specs.FinMap.Entries.find, specs.FinMap.Entries.is_sorted}
-use Rattle.std.proofs.lemmas.Option.{slice_get_within, slice_get_past, slice_get-get_or}
+use Rattle.std.proofs.lemmas.Option.{slice_get_within, slice_get-get_or}
 use Rattle.pk_base.{specs.Key.Key, specs.Key.key_cmp, specs.Shape.Shape, specs.Shape.IsShape, specs.Shape.page_entries, specs.Entry.Entry, specs.Entry.key_of, specs.Seen.entry as seen}
 use Rattle.pk_base.{specs.declared.entry.Entry.Entry as RustEntry, specs.Page.Flash, specs.Page.IsFlash, specs.Page.page_at, specs.Page.page_in, specs.Page.whole, specs.Page.torn}
 use Rattle.pk_base.specs.declared.sizes.TheConstants.{MOST_SPACES}

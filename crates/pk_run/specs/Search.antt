@@ -1,7 +1,9 @@
 -- Where a key is looked for among the pages of a run.
-use Rattle.std.specs.Prelude.{◌≡◌, ◌⊎◌, ℕ, suc, ◌<◌, ◌≤◌, List, length, slice_get, Some, None, Option, MatchOption}
+use Rattle.std.specs.Prelude.{◌≡◌, ◌≢◌, ◌⊎◌, ℕ, suc, ◌+◌, ◌*◌, ◌<◌, ◌≤◌, List, length, slice_get, slice_index, Some, None, Option, MatchOption}
 use Rattle.std.{specs.declared.cmp.Ordering.TheVariants.Greater, specs.FinMap.Entries.find}
 use Rattle.pk_base.{specs.Key.Key, specs.Key.key_cmp, specs.Entry.Entry, specs.Entry.key_of, specs.Seen.entry, specs.declared.entry.Entry.Entry as RustEntry}
+use Rattle.byteorder.specs.Endian.{big_number}
+use Rattle.pk_base.{specs.declared.sizes.TheConstants.KEY_BYTES, specs.declared.sizes.TheConstants.HEAD_BYTES, specs.declared.sizes.TheConstants.ENTRY_BYTES, specs.EntryBytes.cell_at, specs.EntryBytes.cell_key, specs.Fields.number_at}
 use Rattle.pk_nand.specs.BoardState.{BoardState}
 use Rattle.pk_run.specs.Kept.{Kept, after_look}
 
@@ -38,3 +40,14 @@ pub record IsBorder (key : Key) (firsts : List Key) (place : ℕ) : Type 0 where
   pub end : place ≤ length firsts
   pub before : (p : ℕ) → suc p ≡ place → BeginsUpTo key firsts p
   pub at : BeginsAbove key firsts place
+
+-- the place in a page of the entry with a number, counted from 1, if that entry has the key
+abbrev pub IsPlaceBefore : List ℕ → Key → ℕ → Option ℕ → Type 0
+IsPlaceBefore page key number place =
+    MatchOption place
+    ((i : ℕ) → i < number_at 2 10 page → number ≡ suc i → cell_key (cell_at (HEAD_BYTES + ENTRY_BYTES * i) page) ≢ key)
+    (λ i. (i < number_at 2 10 page) × (cell_key (cell_at (HEAD_BYTES + ENTRY_BYTES * i) page) ≡ key))
+
+-- the number is the one that the bytes of a whole key spell, the highest first; of a shorter key nothing is said
+abbrev pub IsSpelled : List ℕ → ℕ → Type 0
+IsSpelled bytes number = length bytes ≡ KEY_BYTES → (number ≡ big_number KEY_BYTES bytes) × ((i : ℕ) → slice_index bytes i < 256)

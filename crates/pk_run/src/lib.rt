@@ -5,6 +5,7 @@
 //! frames.
 #![tactic(auto)]
 
+mod frame;
 mod laws;
 mod run;
 mod search;

@@ -12,8 +12,10 @@ ghost use Rattle.pk_run.specs.Kept.{Kept, IsKept, IsPinned, RunOnFlash, IsNext, 
 ghost use Rattle.pk_run.specs.Leases.{AreLeased, LeavesOthers, LeavesOtherLeases, given_all};
 ghost use Rattle.pk_run.specs.Search.{IsBeforeAll, IsFound, IsPageFor, RunLooks};
 
+use crate::frame::find_by_number;
 use crate::search::page_for;
 use pk_base::{Entry, Key, Shape};
+use pk_homes::hash;
 use pk_meta::find as find_in_page;
 use pk_nand::{Fault, Nand};
 use pk_pin::{Lease, PinArena};
@@ -289,7 +291,10 @@ impl<A: Allocator> Run<A> {
         match page_for(&self.firsts, key) {
             None => Ok(None),
             Some(i) => match self.lease(i as u32) {
-                Some(lease) => Ok(find_in_page(&self.shape, arena.bytes(lease), key)),
+                Some(lease) => {
+                    let number = arena.number_of(lease, hash(key));
+                    Ok(find_by_number(&self.shape, arena.bytes(lease), number, key))
+                }
                 None => match read_page(board, self.page(i as u32), buf) {
                     Ok(()) => Ok(find_in_page(&self.shape, buf, key)),
                     Err(fault) => Err(fault),

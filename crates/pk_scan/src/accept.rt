@@ -23,9 +23,16 @@ use pk_rootfmt::Root;
 use pk_space::Use;
 use std::alloc::Allocator;
 
+/// A root, and the pool in which the blocks that it names have their owners.
+#[derive(Drop)]
+pub struct Named<'a, A: Allocator> {
+    pub root: &'a Root<A>,
+    pub pool: &'a Pool<A>,
+}
+
 /// Takes the pages of a value and checks them: one step of the reading of a flash, whose earlier
-/// values `live` represents and `spaces` counts, of a drive with this root. In the pool the blocks
-/// that the root names have their owners. `buf` has the size of a page and is overwritten.
+/// values `live` represents and `spaces` counts, of a drive with this root. `buf` has the size of a
+/// page and is overwritten.
 ///
 /// `Damaged` names the first page of a value whose pages may not be taken, before any read, or the
 /// first page that is wrong. `Fault` if a read failed. After either the live map represents
@@ -33,8 +40,7 @@ use std::alloc::Allocator;
 pub fn accept_value<B: Nand, A: Allocator>(
     board: &mut B,
     shape: &Shape,
-    root: &Root<A>,
-    pool: &Pool<A>,
+    named: &Named<A>,
     live: &mut Live<A>,
     spaces: &mut Use,
     key: &Key,
@@ -44,19 +50,20 @@ pub fn accept_value<B: Nand, A: Allocator>(
     requires ready { IsReady (B.state board.old) shape.now }
     requires place { IsPlace shape.now place }
     requires lives { (taken : List (KeySpec × Place))
-        × Lives shape.now (owned_blocks pool.now) live.old taken
+        × Lives shape.now (owned_blocks named.now.pool.now) live.old taken
         × IsUseOf shape.now spaces.old taken }
     requires room { length buf.old ≡ shape.now.page_bytes }
 
     // The reading finds the value after those that were taken, and the live map represents it too.
     ensures accepted { OnOk result ((taken : List (KeySpec × Place))
-        → Lives shape.now (owned_blocks pool.now) live.old taken
+        → Lives shape.now (owned_blocks named.now.pool.now) live.old taken
         → IsUseOf shape.now spaces.old taken
         → Accepted shape.now (B.state board.old).pages
-        (held_limits root.now) (owned_blocks pool.now) taken key.now place) }
+        (held_limits named.now.root.now) (owned_blocks named.now.pool.now) taken key.now place) }
     ensures lives { OnOk result ((taken : List (KeySpec × Place))
-        → Lives shape.now (owned_blocks pool.now) live.old taken
-        → Lives shape.now (owned_blocks pool.now) live.new (taken ++ (key.now, place) ∷ [])) }
+        → Lives shape.now (owned_blocks named.now.pool.now) live.old taken
+        → Lives shape.now (owned_blocks named.now.pool.now) live.new
+        (taken ++ (key.now, place) ∷ [])) }
 
     ensures used { OnOk result ((taken : List (KeySpec × Place))
         → IsUseOf shape.now spaces.old taken
@@ -64,10 +71,10 @@ pub fn accept_value<B: Nand, A: Allocator>(
 
     // It refuses with the page that is answered.
     ensures err { IfErr result (λ e. (taken : List (KeySpec × Place))
-        → Lives shape.now (owned_blocks pool.now) live.old taken
+        → Lives shape.now (owned_blocks named.now.pool.now) live.old taken
         → IsUseOf shape.now spaces.old taken
         → NotAccepted shape.now (B.state board.old) (B.state board.new)
-        (held_limits root.now) (owned_blocks pool.now) taken key.now place e) }
+        (held_limits named.now.root.now) (owned_blocks named.now.pool.now) taken key.now place e) }
 
     // Nothing but its pages is read.
     ensures ok { OnOk result
@@ -75,7 +82,7 @@ pub fn accept_value<B: Nand, A: Allocator>(
     ensures board { StaysReady shape.now (B.state board.old) (B.state board.new) }
     ensures buffer { length buf.new ≡ length buf.old }
 {
-    if !take_value(shape, root, pool, live, spaces, key, place) {
+    if !take_value(shape, named.root, named.pool, live, spaces, key, place) {
         return Err(PageError::Damaged { page: place.page });
     }
     match check_value(board, shape, key, place, buf) {

@@ -18,6 +18,7 @@ ghost use Rattle.pk_scan.specs.Reads.{list_reads, opening_reads};
 ghost use Rattle.pk_scan.specs.Board.{StaysReady};
 ghost use Rattle.pk_scan.specs.Memory.{AwaitsLists, AwaitsValues, FindsLists, FindsValues, HoldsLists};
 
+use crate::accept::Named;
 use crate::adopt::{adopt_blocks, adopt_values};
 use crate::contents::{Found, Memory};
 use crate::errors::OpenError;
@@ -118,6 +119,10 @@ fn fill_values<B: Nand, A: Region>(board: &mut B, memory: &mut Memory<A>) -> Res
     shape.known();
     // first of all: no value may be in a block that has its owner
     adopt_blocks(&mut memory.found.pool, &memory.found.root);
+    let named = Named {
+        root: &memory.found.root,
+        pool: &memory.found.pool,
+    };
     let lists = Lists {
         arena: &memory.found.arena,
         levels: &memory.found.levels,
@@ -127,8 +132,7 @@ fn fill_values<B: Nand, A: Region>(board: &mut B, memory: &mut Memory<A>) -> Res
     match read_values(
         board,
         &shape,
-        &memory.found.root,
-        &memory.found.pool,
+        &named,
         &mut memory.walk,
         &lists,
         &mut memory.found.live,

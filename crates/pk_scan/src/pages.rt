@@ -100,7 +100,8 @@ pub fn goes_on(
     requires level { 1 ≤ level × level ≤ LEVELS }
     requires sized { length page.now ≡ shape.now.page_bytes }
     ensures goes_on { (before : List EntrySpec) → T (is_sorted key_cmp before)
-        → IsLast last.now before → GoesOnOr shape.now spaces level index count before page.now result }
+        → IsLast last.now before → GoesOnOr shape.now spaces level index count before page.now
+        result }
     ensures decodes { result ≡ true → Decodes shape.now page.now }
     ensures count { result ≡ true → count ≡ number_at 2 10 page.now }
 {

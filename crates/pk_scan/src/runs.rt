@@ -103,8 +103,8 @@ fn read_pages<B: Nand, A: Allocator>(
         ≡ after_reads (run_pages into.old.shape count) (B.state board.old)) }
 
     // Or the reading refuses one, or a read failed.
-    ensures err { IfErr result (λ e. NotRead into.old.shape spaces into.old.level count into.old.blocks
-        (B.state board.old) (B.state board.new) e) }
+    ensures err { IfErr result (λ e. NotRead into.old.shape spaces into.old.level count
+        into.old.blocks (B.state board.old) (B.state board.new) e) }
 
     // Either way the run represents the pages before, and nothing but reads was done.
     ensures loads { LoadsPages pins (B.state board.old).pages into.old.blocks

@@ -16,7 +16,7 @@ ghost use Rattle.pk_scan.specs.Board.{StaysReady};
 ghost use Rattle.pk_scan.specs.Taken.{TakesValues, ReadsExactly};
 ghost use Rattle.pk_scan.specs.Used.{held_limits};
 
-use crate::accept::accept_value;
+use crate::accept::{Named, accept_value};
 use crate::errors::OpenError;
 use pk_base::{Entry, Place, Shape};
 use pk_buf::Buffer;
@@ -24,9 +24,7 @@ use pk_level::Levels;
 use pk_live::Live;
 use pk_nand::Nand;
 use pk_pin::PinArena;
-use pk_pool::Pool;
 use pk_region::Region;
-use pk_rootfmt::Root;
 use pk_space::Use;
 use pk_walk::Walk;
 
@@ -50,8 +48,7 @@ pub struct Lists<'a, A: Region> {
 pub fn read_values<B: Nand, A: Region>(
     board: &mut B,
     shape: &Shape,
-    root: &Root<A>,
-    pool: &Pool<A>,
+    named: &Named<A>,
     walk: &mut Walk<A>,
     lists: &Lists<A>,
     live: &mut Live<A>,
@@ -64,7 +61,7 @@ pub fn read_values<B: Nand, A: Region>(
         × IsLeft walk.old (B.state board.old).pages lists.now.arena.now lists.now.levels.now.runs
         lists.now.active.now.entries lists.now.frozen.now.entries es
         × AllByRecursion (λ e. IsPlace shape.now e.1) es }
-    requires none { Lives shape.now (owned_blocks pool.now) live.old [] }
+    requires none { Lives shape.now (owned_blocks named.now.pool.now) live.old [] }
     requires unused { spaces.old ≡ nothing_used }
     requires room { length buf.old ≡ shape.now.page_bytes }
 
@@ -73,7 +70,8 @@ pub fn read_values<B: Nand, A: Region>(
         → IsLeft walk.old (B.state board.old).pages lists.now.arena.now lists.now.levels.now.runs
         lists.now.active.now.entries lists.now.frozen.now.entries es
         → TakesValues shape.now (B.state board.old).pages
-        (held_limits root.now) (owned_blocks pool.now) live.new spaces.new keys es) }
+        (held_limits named.now.root.now) (owned_blocks named.now.pool.now) live.new spaces.new keys
+        es) }
     ensures exact { OnOk result ((es : List (Key × Place))
         → IsLeft walk.old (B.state board.old).pages lists.now.arena.now lists.now.levels.now.runs
         lists.now.active.now.entries lists.now.frozen.now.entries es
@@ -86,7 +84,7 @@ pub fn read_values<B: Nand, A: Region>(
         lists.now.active.now.entries lists.now.frozen.now.entries es
         → PartNotOpened
         (values_of shape.now (page_at (B.state board.old).pages)
-        (held_limits root.now) (owned_blocks pool.now) [] es)
+        (held_limits named.now.root.now) (owned_blocks named.now.pool.now) [] es)
         (B.state board.old) (B.state board.new) e) }
 
     // Either way nothing but reads was done.
@@ -98,7 +96,7 @@ pub fn read_values<B: Nand, A: Region>(
         match walk.next(board, lists.arena, lists.levels, lists.active, lists.frozen) {
             Ok(Some(Entry::Put { key, page, len })) => {
                 let place = Place { page, len };
-                match accept_value(board, shape, root, pool, live, spaces, &key, place, buf) {
+                match accept_value(board, shape, named, live, spaces, &key, place, buf) {
                     Ok(()) => {}
                     Err(error) => return Err(OpenError::from(error)),
                 }

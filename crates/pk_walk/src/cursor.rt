@@ -203,8 +203,8 @@ impl<A: Allocator> Cursor<A> {
         // The page.
         ensures loads { OnOk result (Loads run.now p (B.state board.old) (B.state board.new)
             self.old self.new) }
-        ensures page { OnOk result (slice_get run.now.leases p ≡ None → page_at (B.state board.old).pages
-            (page_of run.now p) ≡ whole self.new.bytes) }
+        ensures page { OnOk result (slice_get run.now.leases p ≡ None
+            → page_at (B.state board.old).pages (page_of run.now p) ≡ whole self.new.bytes) }
 
         // Only a read fails.
         ensures fails { OnErr result (FailsToLoad run.now p (B.state board.old)

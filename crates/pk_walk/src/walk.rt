@@ -104,7 +104,8 @@ impl<A: Region> Walk<A> {
 
     /// Begins a walk at the first key that is not below this one, or at the first of all.
     pub fn start(&mut self, from: Option<&Key>)
-        ensures walk_begun { self.new ≡ walk_begun self.old (first_position (option_copied from.entry)) }
+        ensures walk_begun { self.new ≡ walk_begun self.old
+            (first_position (option_copied from.entry)) }
         ensures left { (flash : Flash) (arena : Frames) (runs : List Kept)
             (active frozen : List EntrySpec) (ess : List (List EntrySpec))
             → RunsOnFlash flash arena runs ess

@@ -4,17 +4,18 @@ use Rattle.pk_scan.proofs.accept.accept_value.Goals as goal
 
 pub returns-then-not-take_value-clause-err : goal.returns-then-not-take_value-clause-err
 returns-then-not-take_value-clause-err g c taken lives uses =
-    refused_untaken c.args.shape.now (held_limits c.args.root.now) (owned_blocks c.args.pool.now) taken c.args.key.now c.args.place (g.B.Nand.state c.args.board.now)
+    refused_untaken c.args.shape.now (held_limits c.args.named.now.root.now) (owned_blocks c.args.named.now.pool.now) taken c.args.key.now c.args.place (g.B.Nand.state c.args.board.now)
     (sym c.if-not-take_value.true ∙ c.take_value.ensures.fits taken lives uses)
 
 pub returns-in-Ok-clause-accepted : goal.returns-in-Ok-clause-accepted
 returns-in-Ok-clause-accepted g c taken lives uses =
-    accepted c.args.shape.now (held_limits c.args.root.now) (owned_blocks c.args.pool.now) taken c.args.key.now c.args.place (g.B.Nand.state c.args.board.now).pages
+    accepted c.args.shape.now (held_limits c.args.named.now.root.now) (owned_blocks c.args.named.now.pool.now) taken c.args.key.now c.args.place (g.B.Nand.state c.args.board.now).pages
     (sym (c.take_value.ensures.fits taken lives uses) ∙ c.if-not-take_value.false) c.in-Ok.ensures.value
 
 pub returns-in-Err-clause-err : goal.returns-in-Err-clause-err
 returns-in-Err-clause-err g c taken lives uses =
-    refused_value c.args.shape.now (held_limits c.args.root.now) (owned_blocks c.args.pool.now) taken c.args.key.now c.args.place (g.B.Nand.state c.args.board.now) (g.B.Nand.state c.check_value.new.board) c.in-Err.error
+    refused_value c.args.shape.now (held_limits c.args.named.now.root.now) (owned_blocks c.args.named.now.pool.now) taken c.args.key.now c.args.place
+    (g.B.Nand.state c.args.board.now) (g.B.Nand.state c.check_value.new.board) c.in-Err.error
     (sym (c.take_value.ensures.fits taken lives uses) ∙ c.if-not-take_value.false) c.in-Err.ensures.err
 
 pub returns-in-Ok-clause-used : goal.returns-in-Ok-clause-used

@@ -1,0 +1,15 @@
+use Rattle.std.proofs.Common.{ℕ, subst, Option}
+use Rattle.pk_base.specs.Seen.{entry as seen}
+use Rattle.pk_meta.proofs.FindLemmas.{there}
+use Rattle.pk_run.{specs.Search.IsPlaceBefore, proofs.Numbered.none_single}
+use Rattle.pk_run.proofs.frame.find_single.Goals as goal
+
+pub returns-in-Some : goal.returns-in-Some
+returns-in-Some c level index entries is =
+    let at = subst (λ (o : Option ℕ). IsPlaceBefore c.args.page.now c.args.key.now c.args.number o) c.in-Some.is c.place_before.ensures in
+    there c.args.shape.now c.args.page.now c.args.key.now c.known.ensures c.in-Some.place (seen c.entry.result) at.0 at.1 level index entries is (c.entry.ensures level index entries is)
+
+pub returns-in-None : goal.returns-in-None
+returns-in-None c level index entries is =
+    let other = subst (λ (o : Option ℕ). IsPlaceBefore c.args.page.now c.args.key.now c.args.number o) c.in-None.is c.place_before.ensures in
+    none_single c.args.shape.now c.args.page.now c.known.ensures c.requires.sized c.requires.decodes c.args.key.now c.args.number c.requires.number c.requires.single other level index entries is
