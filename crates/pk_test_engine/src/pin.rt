@@ -31,7 +31,10 @@ fn leases(alloc: Global) -> bool {
 
 const PAGE: &[u8; 512] = &[7; 512];
 
-// 64 frames of 512 bytes take 32,768 bytes and one more for each frame, and no call takes any.
+// The bytes that an arena of 64 frames takes: of their pages, whether each is used, and the tables of 33 homes of two bytes.
+const ARENA_BYTES: usize = 64 * (512 + 1 + 33 * 2);
+
+// An arena takes its bytes once, and no call takes any.
 fn takes_once(heap: &LocalHeap) -> bool {
     let Ok(mut arena) = PinArena::new(heap, 64, 512) else {
         return false;
@@ -44,7 +47,7 @@ fn takes_once(heap: &LocalHeap) -> bool {
     let is_filled = arena.bytes(&lease)[511] == 7;
     let free = arena.free();
     arena.give(lease);
-    is_filled && (free, arena.frames()) == (63, 64) && used == 64 * 512 + 64 && heap.used() == used
+    is_filled && (free, arena.frames()) == (63, 64) && used == ARENA_BYTES && heap.used() == used
 }
 
 fn memory(alloc: Global) -> bool {
