@@ -206,7 +206,7 @@ class Layout:
         """The bytes that the drive asks for when it is opened with so many frames, and keeps; docs/BOARDS.md says what for."""
         p, n, m = self.shape.page_bytes, self.shape.block_pages, self.shape.blocks
         runs = 72 * sum(self.caps) + 4 * sum(units(cap, n) for cap in self.caps)
-        frame = p + 1 + 2 * min(p // 16 + 1, 65535)  # the page, whether it is taken, its table of homes
+        frame = p + 1 + 2 * min(p // 8 + 1, 65535)  # the page, whether it is taken, its table of homes
         return 2 * self.shape.pages + 7 * m + runs + 9 * p + 264 * self.page_entries + 72 * n + frames * frame
 
     def program_memory(self, frames: int) -> int:

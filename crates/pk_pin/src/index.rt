@@ -13,8 +13,9 @@ use pk_homes::{add, hash_cell, home};
 const TOO_MANY_ENTRIES: usize = 32_767;
 
 const MOST_HOMES: usize = 65_535;
-/// The bytes of a page for each home: there are about two homes for an entry.
-const HOME_BYTES: usize = 16;
+/// The bytes of a page for each home: there are about four homes for an entry, so that few entries
+/// share one.
+const HOME_BYTES: usize = 8;
 
 /// How many homes the table of a page of this many bytes has.
 pub fn homes_for(page_bytes: usize) -> usize

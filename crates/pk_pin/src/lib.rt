@@ -128,7 +128,7 @@ fn put_piece(bytes: &mut [u8], page: usize, n: usize, i: usize, from: &[u8])
 
 impl<A: Allocator + Clone> PinArena<A> {
     /// An arena of `frames` frames of this many bytes, all free. All its memory is taken here: the
-    /// bytes of the frames, one byte for each frame, and an eighth of its size for its table.
+    /// bytes of the frames, one byte for each frame, and a quarter of its size for its table.
     pub fn new(alloc: A, frames: u32, page_bytes: u32) -> Result<PinArena<A>, AllocError>
         ensures page { IfOk result (λ a. a.page_bytes ≡ page_bytes) }
         ensures free { IfOk result (λ a. a.used ≡ replicate frames false) }

@@ -31,8 +31,8 @@ fn leases(alloc: Global) -> bool {
 
 const PAGE: &[u8; 512] = &[7; 512];
 
-// The bytes that an arena of 64 frames takes: of their pages, whether each is used, and the tables of 33 homes of two bytes.
-const ARENA_BYTES: usize = 64 * (512 + 1 + 33 * 2);
+// The bytes that an arena of 64 frames takes: of their pages, whether each is used, and the tables of 65 homes of two bytes.
+const ARENA_BYTES: usize = 64 * (512 + 1 + 65 * 2);
 
 // An arena takes its bytes once, and no call takes any.
 fn takes_once(heap: &LocalHeap) -> bool {
@@ -51,7 +51,7 @@ fn takes_once(heap: &LocalHeap) -> bool {
 }
 
 fn memory(alloc: Global) -> bool {
-    match LocalHeap::new(alloc, 40000) {
+    match LocalHeap::new(alloc, 48000) {
         Ok(heap) => takes_once(&heap),
         Err(_) => false,
     }
