@@ -1,11 +1,9 @@
-use Rattle.std.proofs.Common.{◌≡◌, ◌∙◌, rules, refl, sym, ap}
+use Rattle.std.proofs.Common.{◌∙◌, rules, refl, sym, ap}
 use Rattle.pk_base.specs.Map.{Map}
 use Rattle.pk_model.{specs.Reading.Holds, specs.Spaces.in_space}
 use Rattle.pk_port.{proofs.Stepping.part_of, specs.Steps.Standing, specs.Steps.standing}
 use Rattle.pk_wordrun.proofs.Opening.{fits-somehow}
-use Rattle.pk_mirror.proofs.PairLemmas.{on_ok_map}
 use Rattle.pk_mirrorwords.specs.PairTasks.{seen}
-use Rattle.pk_mirrorrun.specs.PairTold.{IsServing}
 use Rattle.pk_mirrorrun.proofs.Lending.{serving, told_serving, walk_of, second_walk_of, said_lent, ends_back, posts_back, told_back}
 use Rattle.pk_mirrorrun.proofs.PairTelling.{Walked, begins_as, tells-halted, tells-said, faults-never}
 use Rattle.pk_mirrorrun.proofs.pair_speaker.PairSpeaker.run.{Given.Over, Goals.After-answer_pair-answered}
@@ -32,15 +30,26 @@ answer_pair-answered-requires-clause-pair g c = told_serving c.args.self _ c.sel
 
 -- ---- both drives before the commands, and after them
 
+-- what is known of each port before the commands, and after them
+abbrev first_before : (g : Over) (c : After-answer_pair-answered g) → Standing
+first_before g c = standing (g.B.Nand.state c.args.first.now) (g.D.Engine.sight c.args.first_drive.now) c.new-first_tally.result.faults c.new-first_tally.result.halt
+
+abbrev first_after : (g : Over) (c : After-answer_pair-answered g) → Standing
+first_after g c =
+    let port = c.answer_pair-answered.new.first in
+    standing (g.B.Nand.state port.board.now) (g.D.Engine.sight port.drive.now) port.tally.now.faults port.tally.now.halt
+
+abbrev second_before : (g : Over) (c : After-answer_pair-answered g) → Standing
+second_before g c = standing (g.C.Nand.state c.args.second.now) (g.E.Engine.sight c.args.second_drive.now) c.new-second_tally.result.faults c.new-second_tally.result.halt
+
+abbrev second_after : (g : Over) (c : After-answer_pair-answered g) → Standing
+second_after g c =
+    let port = c.answer_pair-answered.new.second in
+    standing (g.C.Nand.state port.board.now) (g.E.Engine.sight port.drive.now) port.tally.now.faults port.tally.now.halt
+
 walked : (g : Over) (c : After-answer_pair-answered g) (m other : Map)
     → Holds c.args.self (g.B.Nand.state c.args.first.now).pages m → Holds c.args.self (g.C.Nand.state c.args.second.now).pages other
-    → Walked (seen c.args.task) c.args.self m other
-    (standing (g.B.Nand.state c.args.first.now) (g.D.Engine.sight c.args.first_drive.now) c.new-first_tally.result.faults c.new-first_tally.result.halt)
-    (standing (g.B.Nand.state c.answer_pair-answered.new.first.board.now) (g.D.Engine.sight c.answer_pair-answered.new.first.drive.now)
-    c.answer_pair-answered.new.first.tally.now.faults c.answer_pair-answered.new.first.tally.now.halt)
-    (standing (g.C.Nand.state c.args.second.now) (g.E.Engine.sight c.args.second_drive.now) c.new-second_tally.result.faults c.new-second_tally.result.halt)
-    (standing (g.C.Nand.state c.answer_pair-answered.new.second.board.now) (g.E.Engine.sight c.answer_pair-answered.new.second.drive.now)
-    c.answer_pair-answered.new.second.tally.now.faults c.answer_pair-answered.new.second.tally.now.halt)
+    → Walked (seen c.args.task) c.args.self m other (first_before g c) (first_after g c) (second_before g c) (second_after g c)
 walked g c m other held also =
     let one = serving _ _ _ c.requires.first_ready c.requires.first_runs c.requires.first_none c.requires.first_stands in
     let two = serving _ _ _ c.requires.second_ready c.requires.second_runs c.requires.second_none c.requires.second_stands in
@@ -55,15 +64,8 @@ walked g c m other held also =
       begun' = begins_as c.args.self other _ _ _ _ two also;
       going = one.runs;
       going' = two.runs;
-      walk = walk_of c.args.self _ c.self.view_is _
-          (standing (g.B.Nand.state c.args.first.now) (g.D.Engine.sight c.args.first_drive.now) c.new-first_tally.result.faults c.new-first_tally.result.halt)
-          (standing (g.B.Nand.state c.answer_pair-answered.new.first.board.now) (g.D.Engine.sight c.answer_pair-answered.new.first.drive.now)
-          c.answer_pair-answered.new.first.tally.now.faults c.answer_pair-answered.new.first.tally.now.halt) first.0 first.1 first.2.5;
-      too = second_walk_of c.args.self _ c.self.view_is _
-          (standing (g.B.Nand.state c.args.first.now) (g.D.Engine.sight c.args.first_drive.now) c.new-first_tally.result.faults c.new-first_tally.result.halt)
-          (standing (g.C.Nand.state c.args.second.now) (g.E.Engine.sight c.args.second_drive.now) c.new-second_tally.result.faults c.new-second_tally.result.halt)
-          (standing (g.C.Nand.state c.answer_pair-answered.new.second.board.now) (g.E.Engine.sight c.answer_pair-answered.new.second.drive.now)
-          c.answer_pair-answered.new.second.tally.now.faults c.answer_pair-answered.new.second.tally.now.halt) second.0 second.1 second.2.5;
+      walk = walk_of c.args.self _ c.self.view_is _ (first_before g c) (first_after g c) first.0 first.1 first.2.5;
+      too = second_walk_of c.args.self _ c.self.view_is _ (first_before g c) (second_before g c) (second_after g c) second.0 second.1 second.2.5;
       first = c.new-first_tally.ensures.halt;
       second = c.new-second_tally.ensures.halt;
     }
