@@ -16,10 +16,11 @@ use Rattle.pk_port.{proofs.Stepping.part_of, proofs.Stepping.part_held, specs.Ch
 use Rattle.pk_port.{specs.declared.halt.Halt.TheVariants.Stopped, specs.declared.halt.Halt.TheVariants.Worn as UsedUp, proofs.Growing.asked-posts, proofs.Growing.asked-post_failed}
 use Rattle.pk_port.proofs.Chaining.{chained}
 use Rattle.pk_wordrun.{specs.Ends.end_of, specs.Told.KeepsInput, specs.declared.end.WordEnd.WordEnd, specs.declared.end.WordEnd.TheVariants.Done, specs.declared.end.WordEnd.TheVariants.Output}
+use Rattle.pk_wordrun.specs.declared.end.WordEnd.TheVariants.{Flash as FlashFailed, Worn}
 use Rattle.pk_wordrun.{proofs.Telling.keeps-flash}
 use Rattle.pk_mirrorwords.specs.PairTasks.{PairTask, map_left}
 use Rattle.pk_mirrorwords.specs.PairAnswers.{PairSaid, PairFault, AreOfWord, AreOfPair, AsksSecond}
-use Rattle.pk_mirrorrun.specs.PairTold.{IsServing, EitherUnread, text_by, Walk, BothWalked, end_by, KeptFirst, KeptSecond, PairAnswered, PairEnds, most_pair_roots, UsedRoots, PairTold}
+use Rattle.pk_mirrorrun.specs.PairTold.{IsServing, EitherUnread, text_by, Walk, BothWalked, end_by, PostsText, KeptFirst, KeptSecond, PairAnswered, PairEnds, most_pair_roots, UsedRoots, PairTold}
 use Rattle.pk_mirrorrun.specs.PairTold.{ServedUnworn, WornBefore, PairWorn, OnSecond, WholeOnSecond}
 use Rattle.pk_mirrorrun.proofs.Commands.{ran_first, ran_second, kept_first, kept_second, change_keeps_others, part_left, same_parts, first_installs, second_installs}
 use Rattle.pk_mirrorrun.proofs.Unworn.{all_unworn, worn_before}
@@ -356,21 +357,29 @@ module _ {task : PairTask} {shape : Shape} {m other : Map} {p p' q q' : Standing
       )
   unworn none nor text (inr unread) = inr unread
 
-  pub tells-posted : end_by p'.halt q'.halt ≡ None → (text : List ℕ)
-      → PairSaid (BothWalked task shape p p' q q') task (seen shape p.on p.faults) (seen shape p'.on p'.faults) (seen shape q.on q.faults) (seen shape q'.on q'.faults) (in_space 1 m) text
-      → (last : BoardState) → last ≡ after_post p'.on.board text → PairTold task shape m other p.on.board last q.on.board q'.on.board Done
-  tells-posted by text said last is =
-      let (none, nor) = both_none p'.halt q'.halt by in
-      told-posted task shape m other h.walk.0 h.too.0 p p' q q' h.walk.1 of_second h.begun h.begun' one two (all_served shape m h.walk.0 p p' h.first none one)
-      (all_served shape other h.too.0 q q' h.second nor two) text (unworn none nor text said) (one_unworn none) (two_unworn nor) last is
+  -- no drive halted, and this was said
+  module _ (by : end_by p'.halt q'.halt ≡ None) (text : List ℕ)
+      (said : PairSaid (BothWalked task shape p p' q q') task (seen shape p.on p.faults)
+      (seen shape p'.on p'.faults) (seen shape q.on q.faults) (seen shape q'.on q'.faults) (in_space 1 m) text) where
+    none : p'.halt ≡ None
+    none = (both_none p'.halt q'.halt by).0
 
-  pub tells-unposted : end_by p'.halt q'.halt ≡ None → (text : List ℕ)
-      → PairSaid (BothWalked task shape p p' q q') task (seen shape p.on p.faults) (seen shape p'.on p'.faults) (seen shape q.on q.faults) (seen shape q'.on q'.faults) (in_space 1 m) text
-      → (last : BoardState) → PostFailed p'.on.board last text → PairTold task shape m other p.on.board last q.on.board q'.on.board Output
-  tells-unposted by text said last failed =
-      let (none, nor) = both_none p'.halt q'.halt by in
-      told-unposted task shape m other h.walk.0 h.too.0 p p' q q' h.walk.1 of_second h.begun h.begun' one two (all_served shape m h.walk.0 p p' h.first none one)
-      (all_served shape other h.too.0 q q' h.second nor two) text (unworn none nor text said) (one_unworn none) (two_unworn nor) last failed
+    nor : q'.halt ≡ None
+    nor = (both_none p'.halt q'.halt by).1
+
+    first_served : AllServed shape m h.walk.0 p p'
+    first_served = all_served shape m h.walk.0 p p' h.first none one
+
+    second_served : AllServed shape other h.too.0 q q'
+    second_served = all_served shape other h.too.0 q q' h.second nor two
+
+    pub tells-said : (last : BoardState) (end : WordEnd) → PostsText p'.on.board last text end → PairTold task shape m other p.on.board last q.on.board q'.on.board end
+    tells-said last Done posted = told-posted task shape m other h.walk.0 h.too.0 p p' q q' h.walk.1 of_second h.begun h.begun' one two first_served second_served
+        text (unworn none nor text said) (one_unworn none) (two_unworn nor) last posted
+    tells-said last Output failed = told-unposted task shape m other h.walk.0 h.too.0 p p' q q' h.walk.1 of_second h.begun h.begun' one two first_served second_served
+        text (unworn none nor text said) (one_unworn none) (two_unworn nor) last failed
+    tells-said last FlashFailed never = absurd never
+    tells-said last Worn never = absurd never
 
   pub faults-never : end_by p'.halt q'.halt ≡ None → p.faults ≡ 0 → q.faults ≡ 0
       → PairFault (seen shape p.on p.faults) (seen shape p'.on p'.faults) (seen shape q.on q.faults) (seen shape q'.on q'.faults) → ⊥

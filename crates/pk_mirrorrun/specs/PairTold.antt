@@ -2,7 +2,7 @@
 use Rattle.std.specs.Prelude.{◌≡◌, ◌≢◌, ◌⊎◌, ℕ, ◌+◌, ◌*◌, ◌≤◌, List, [], ◌∷◌, ◌++◌, Option, Some, None, true, false}
 use Rattle.std.specs.FinMap.{len}
 use Rattle.pk_base.{specs.Shape.Shape, specs.Page.Flash, specs.Map.Map}
-use Rattle.pk_nand.{specs.BoardState.BoardState, specs.Calls.Rose, specs.Calls.longer}
+use Rattle.pk_nand.{specs.BoardState.BoardState, specs.Calls.Rose, specs.Calls.longer, specs.Operations.after_post, specs.Operations.PostFailed}
 use Rattle.pk_nvme.{specs.Command.Command, specs.declared.limits.TheConstants.NAMESPACE}
 use Rattle.pk_model.{specs.Growth.Goes, specs.Spaces.limits_at, specs.Spaces.limit_of, specs.Spaces.in_space, specs.Reading.Holds, specs.Run.Exchange}
 use Rattle.pk_model.specs.Wear.{is_worn, roots}
@@ -49,6 +49,13 @@ abbrev pub end_by : Option Halt → Option Halt → Option WordEnd
 end_by None None = None
 end_by None (Some halt) = Some (end_of halt)
 end_by (Some halt) second = Some (end_of halt)
+
+-- the board posted this text, or its output failed
+abbrev pub PostsText : BoardState → BoardState → List ℕ → WordEnd → Type 0
+PostsText old new text Done = new ≡ after_post old text
+PostsText old new text Output = PostFailed old new text
+PostsText old new text FlashFailed = ⊥
+PostsText old new text Worn = ⊥
 
 -- a drive that is not stopped, on a board of this shape that holds a map
 pub record IsServing (shape : Shape) (board : BoardState) (drive : Sight) : Type 0 where

@@ -4,8 +4,7 @@
 //! the first holds the map before the word or the one after it, and the second holds a map.
 #![tactic(auto)]
 
-mod asking;
+mod ending;
 mod pair_speaker;
-mod telling;
 
 pub use pair_speaker::PairSpeaker;

@@ -1,5 +1,5 @@
 //! What the words that ask a pair of drives need.
-ghost use Rattle.std.specs.Prelude.{◌≡◌, [], false, IfOk};
+ghost use Rattle.std.specs.Prelude.{◌≡◌, [], false, true, IfOk};
 ghost use Rattle.pk_base.specs.Map.{Map};
 ghost use Rattle.pk_nand.specs.Calls.{IsReady};
 ghost use Rattle.pk_call.specs.Drive.{HoldsMap};
@@ -8,14 +8,15 @@ ghost use Rattle.pk_port.specs.Steps.{mount};
 ghost use Rattle.pk_mirrorwords.specs.PairTasks.{seen, IsAllowed};
 ghost use Rattle.pk_mirrorrun.specs.PairTold.{first_limit, PairTold};
 
-use crate::telling::tell;
+use crate::ending::{end_by, post};
 use pk_base::Shape;
 use pk_drive::Engine;
 use pk_mirror::Mirror;
-use pk_mirrorwords::{PairRoom, PairTask};
+use pk_mirrorwords::{PairRoom, PairTask, answer_pair};
 use pk_model::laws::held_map;
 use pk_nand::Board;
 use pk_nvme::limits::MOST_LIST_BYTES;
+use pk_port::{DrivePort, Tally};
 use pk_wordrun::WordEnd;
 use std::alloc::{AllocError, Global};
 use std::marker::Model;
@@ -124,17 +125,31 @@ impl PairSpeaker {
             mut first_buffer,
             mut second_buffer,
         } = self;
-        tell(
-            &mut mirror,
-            &mut room,
-            shape,
-            first_drive,
-            first,
-            first_buffer.as_mut_slice(),
-            second_drive,
-            second,
-            second_buffer.as_mut_slice(),
-            &task,
-        )
+        let mut first_tally = Tally::new();
+        let mut second_tally = Tally::new();
+        let answered = {
+            let mut one = DrivePort {
+                drive: first_drive,
+                board: first,
+                tally: &mut first_tally,
+                buffer: first_buffer.as_mut_slice(),
+                shape,
+            };
+            let mut two = DrivePort {
+                drive: second_drive,
+                board: second,
+                tally: &mut second_tally,
+                buffer: second_buffer.as_mut_slice(),
+                shape,
+            };
+            answer_pair(&mut mirror, &mut one, &mut two, &mut room, &task)
+        };
+        match end_by(first_tally.halt, second_tally.halt) {
+            Some(end) => end,
+            None => match answered {
+                Ok(()) => post(first, room.text()),
+                Err(_) => unreachable!(),
+            },
+        }
     }
 }
