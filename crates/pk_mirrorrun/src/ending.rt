@@ -20,7 +20,7 @@ pub fn end_by(first: Option<Halt>, second: Option<Halt>) -> Option<WordEnd>
     }
 }
 
-/// PostsText the text of a word that was answered.
+/// Posts the text of a word that was answered.
 pub fn post<B: Board>(board: &mut B, text: &[u8]) -> WordEnd
     ensures { PostsText (B.state board.old) (B.state board.new) text.now result }
 {
