@@ -64,7 +64,7 @@ docs/crates.py --check 2>>"$faults"
 docs/wrong_bodies.py --check 2>>"$faults"
 
 [ "$(wc -l <README.md)" -le 100 ] || fault "README.md: more than 100 lines"
-LC_ALL=C.UTF-8 awk '{ gsub(/[\200-\277]/, "") } length($0) > 100 { print "README.md:" FNR ": wider than 100 columns" }' README.md >>"$faults"
+LC_ALL=C awk '{ gsub(/[\200-\277]/, "") } length($0) > 100 { print "README.md:" FNR ": wider than 100 columns" }' README.md >>"$faults"
 
 # Numbers that README and TESTS repeat: the lines of the definitions, the wrong bodies, the tests of the gate.
 lines=$(sed -n 's/^| 1 | .* | \([0-9]*\) | [0-9]* |$/\1/p' docs/DEFINITIONS.md)
