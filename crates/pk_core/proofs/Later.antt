@@ -8,8 +8,8 @@ use Rattle.pk_model.{specs.Crashes.CrashFinds, specs.Crashes.commit, specs.Crash
 use Rattle.pk_parts.{specs.Parts.Parts, specs.Parts.frames_of, specs.Moves.StandsBetween, proofs.Halves.between}
 use Rattle.pk_background.{specs.Emptying.StepOrRead, specs.Emptying.OnRunning, specs.Spacing.SameMapAll}
 use Rattle.pk_background.{proofs.ReadSteps.Passes, proofs.ReadSteps.reading_then, proofs.ReadSteps.running_says, proofs.SameMaps.SameMap-then}
-use Rattle.pk_changes.{specs.Changes.StaysBetween, proofs.Putting.later_reaches, proofs.Putting.later_goes, proofs.Putting.room_after}
-use Rattle.pk_core.specs.Whole.{MayStore, SameMapBetween, ChangesAll, FailsToChange, ChangesOrReads, StoresWhole, CanStore}
+use Rattle.pk_changes.{specs.Changes.StaysBetween, specs.Changes.ChangesAll, specs.Changes.FailsToChange, proofs.Putting.later_reaches, proofs.Putting.later_goes, proofs.Putting.room_after}
+use Rattle.pk_core.specs.Whole.{MayStore, SameMapBetween, ChangesOrReads, StoresWhole, CanStore}
 
 -- Such a part, with at most n reads and n roots: no pair is half made after it, and the drive runs as before.
 pub record Leads (a b : Parts) (n : ℕ) (s0 s1 : BoardState) : Type 0 where

@@ -19,10 +19,10 @@ use Rattle.pk_background.{specs.Emptying.OnRunning, specs.Reclaiming.CannotRead,
 use Rattle.pk_background.specs.Spacing.{SameMapAll, MovesOrReads, StaysSame, needs}
 use Rattle.pk_background.proofs.ReadSteps.{passes_none, read_cuts, reading_then, reading_failed, running_says}
 use Rattle.pk_background.proofs.SameMaps.{same_of, same_unread, passes_moved}
-use Rattle.pk_changes.{specs.Changes.MayPut, specs.Changes.CanPut, specs.Changes.PutsAll, specs.Changes.FailsToPut, specs.Changes.PutsOrReads, specs.Changes.StaysBetween, proofs.Changing.kept_goes}
+use Rattle.pk_changes.{specs.Changes.MayPut, specs.Changes.CanPut, specs.Changes.ChangesAll, specs.Changes.FailsToChange, specs.Changes.PutsOrReads, specs.Changes.StaysBetween, proofs.Changing.kept_goes}
 use Rattle.pk_core.{specs.Programming.ReadsNone, proofs.Amounts.store_few, proofs.Amounts.numbers_last}
 use Rattle.pk_core.proofs.Later.{Leads, changes_later, can_store_later}
-use Rattle.pk_core.specs.Whole.{MayStore, SameMapBetween, ChangesAll, FailsToChange, StoresWhole, CanStore, store_most}
+use Rattle.pk_core.specs.Whole.{MayStore, SameMapBetween, StoresWhole, CanStore, store_most}
 
 -- ---- a lookup finds the former value
 
@@ -245,10 +245,12 @@ module _ (d : Parts) (s0 : BoardState) (key : Key) (value : List ℕ) (p : Optio
 
   pub put_stores : (r : Result Unit Fault) (c : Parts) (s2 : BoardState) (n most : ℕ) → n ≤ most → PutsOrReads d c n s0 s2 key value p r → StoresWhole d c most s0 s2 key value r
   put_stores r c s2 n most few step =
-      reading_then r (λ (x : Unit). PutsAll d c s0 s2 key value p) (λ (x : Unit). ChangesAll (λ shape m. MayStore d shape s0.pages m key value) (λ m. insert m key value) c s0 s2)
-      (KeepsAll d c s0 s2) (SameMapBetween d c s0 s2) (FailsToPut d s0 s2 key value p) (FailsToChange (λ shape m. MayStore d shape s0.pages m key value) (λ m. insert m key value) s0 s2)
-      d.log.shape 0 n most s0 s0 s2 (omega (arith, few)) (passes_none s0) (λ x puts shape m may. puts shape m (put_may shape m may))
-      (λ keeps. same_whole d c s0 s2 was_whole (same_of d c s0 s2 keeps)) (λ fails shape m may. fails shape m (put_may shape m may)) step
+      let put : Map → Map = λ m. insert m key value in
+      let May : Shape → Map → Type 0 = λ shape m. MayPut d shape s0.pages m key value p in
+      let Store : Shape → Map → Type 0 = λ shape m. MayStore d shape s0.pages m key value in
+      reading_then r (λ (x : Unit). ChangesAll May put c s0 s2) (λ (x : Unit). ChangesAll Store put c s0 s2) (KeepsAll d c s0 s2) (SameMapBetween d c s0 s2)
+      (FailsToChange May put s0 s2) (FailsToChange Store put s0 s2) d.log.shape 0 n most s0 s0 s2 (omega (arith, few)) (passes_none s0)
+      (λ x puts shape m may. puts shape m (put_may shape m may)) (λ keeps. same_whole d c s0 s2 was_whole (same_of d c s0 s2 keeps)) (λ fails shape m may. fails shape m (put_may shape m may)) step
 
 pub reads_if_room : (r : Result Unit Fault) (d : Parts) (key : Key) (count : ℕ) (old new : BoardState)
     → OnOk r (needs_freeze d.log key ≡ false → new.reads ≡ old.reads) → OnOk r (ReadsNone d key count old new)

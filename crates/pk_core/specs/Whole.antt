@@ -5,10 +5,10 @@ use Rattle.pk_base.{specs.Entry.Place, specs.Fields.AreBytes, specs.Key.Key, spe
 use Rattle.pk_base.specs.Map.{Map}
 use Rattle.pk_nand.{specs.BoardState.BoardState, specs.declared.types.Fault.Fault, specs.Calls.IsReady}
 use Rattle.pk_law_work.specs.Calls.{room_calls, space_calls}
-use Rattle.pk_model.{specs.Spaces.limits_at, specs.Growth.Goes, specs.Crashes.CrashFinds, specs.Crashes.change}
+use Rattle.pk_model.{specs.Spaces.limits_at, specs.Crashes.change}
 use Rattle.pk_law_steps.specs.Under.{places}
 use Rattle.pk_parts.{specs.Parts.Parts, specs.Parts.pages_for, specs.Moves.StandsBetween, specs.Staying.StaysOrOpens, specs.Staying.IsNoted, specs.Stopping.StoppedOn}
-use Rattle.pk_changes.specs.Changes.{Changes, HasRoomFor, StaysBetween}
+use Rattle.pk_changes.specs.Changes.{HasRoomFor, StaysBetween, ChangesAll, FailsToChange}
 use Rattle.pk_background.{specs.Costs.Spends, specs.Emptying.StepOrRead, specs.Emptying.OnRunning, specs.Spacing.SameMap}
 
 -- A key may get a value: there is room for it.
@@ -28,14 +28,6 @@ pub record MayTakeBetween (d : Parts) (shape : Shape) (flash : Flash) (m : Map) 
 
 abbrev pub SameMapBetween : Parts → Parts → BoardState → BoardState → Type 0
 SameMapBetween before after old new = (shape : Shape) (m : Map) → StandsBetween before shape old.pages m → SameMap after shape m old new
-
--- the map changes so, wherever it may
-abbrev pub ChangesAll : (Shape → Map → Type 0) → (Map → Map) → Parts → BoardState → BoardState → Type 0
-ChangesAll May changed after old new = (shape : Shape) (m : Map) → May shape m → Changes after shape m (changed m) old new
-
--- the same of a call that stopped the drive
-abbrev pub FailsToChange : (Shape → Map → Type 0) → (Map → Map) → BoardState → BoardState → Type 0
-FailsToChange May changed old new = (shape : Shape) (m : Map) → May shape m → Goes shape old new (CrashFinds shape (change (changed m)) old.pages m)
 
 -- ---- steps
 

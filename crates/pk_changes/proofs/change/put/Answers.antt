@@ -1,9 +1,9 @@
-use Rattle.std.proofs.Common.{◌∙◌, sym, ap, length, arith}
+use Rattle.std.{proofs.Common.◌∙◌, proofs.Common.sym, proofs.Common.ap, proofs.Common.length, proofs.Common.arith, specs.FinMap.insert}
 use Rattle.pk_base.specs.Shape.{charge}
 use Rattle.pk_parts.{specs.Parts.Parts, specs.Moves.KeepsAll, specs.Staying.Stays, specs.Staying.StaysOrOpens, proofs.Staying.stays_opens, proofs.Staying.opens_put}
 use Rattle.pk_parts.proofs.Stopping.{fails_stopped}
-use Rattle.pk_changes.{specs.Changes.StaysBetween, proofs.Quieted.put_reads_none, proofs.Programming.put_idle, proofs.StoreCalls.spends_put}
-use Rattle.pk_changes.proofs.Following.{can_put_after, still_room, step_puts_later, stays_then, stays_failed, put_failed_before}
+use Rattle.pk_changes.{specs.Changes.StaysBetween, specs.Changes.MayPut, proofs.Quieted.put_reads_none, proofs.Programming.put_idle, proofs.StoreCalls.spends_put}
+use Rattle.pk_changes.proofs.Following.{can_put_after, still_room, step_puts_later, stays_then, stays_failed, failed_before}
 use Rattle.pk_background.{proofs.ReadSteps.running_ok, proofs.ReadSteps.running_failed, proofs.Halted.fails_running, proofs.Halted.fails_step}
 use Rattle.pk_background.proofs.Callings.{spends_still, spends_within}
 use Rattle.pk_changes.proofs.change.put.Goals as goal
@@ -56,8 +56,9 @@ pub returns-in-Err-clause-step : goal.returns-in-Err-clause-step
 returns-in-Err-clause-step g c =
     fails_step c.in-Err.fault c.fail.result c.make_room.new.parts c.fail.new.self c.fail.ensures.same c.fail.ensures.rest _ _
     (λ e. KeepsAll c.args.parts.now e (g.B.Nand.state c.args.board.now) (g.B.Nand.state c.make_room.new.board)) _ _ _ _ _
-    (put_failed_before c.in-Err.fault c.args.parts.now c.make_room.new.parts _ (g.B.Nand.state c.args.board.now)
-    (g.B.Nand.state c.make_room.new.board) c.requires.can.0.ready c.in-Err.ensures.step c.args.key c.args.value.now c.args.old)
+    (failed_before c.in-Err.fault c.args.parts.now c.make_room.new.parts _ (g.B.Nand.state c.args.board.now)
+    (g.B.Nand.state c.make_room.new.board) c.requires.can.0.ready c.in-Err.ensures.step (λ m. insert m c.args.key c.args.value.now)
+    (λ shape m. MayPut c.args.parts.now shape (g.B.Nand.state c.args.board.now).pages m c.args.key c.args.value.now c.args.old) (λ shape m may. may.stands))
 
 pub returns-in-Err-clause-stays : goal.returns-in-Err-clause-stays
 returns-in-Err-clause-stays g c =
