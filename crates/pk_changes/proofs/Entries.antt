@@ -147,14 +147,16 @@ module _ (d : Parts) (flash : Flash) (m : Map) (key : Key) (value : List ℕ) (p
         unnamed (λ k is is_value. p.written.apart st.top st.found st.without m st.with k is is_value)
         (omega (arith, most, same)) few.1 few.0
 
-    under_now : LogOnFlash (pushed d.log e) flash st.top st.found → length (firsts (st.found.newest ++ (d.log.pending ++ e ∷ []))) ≤ buffer d.log.shape → IsUnder d.log.shape flash (d.log.pending ++ e ∷ []) st.top st.found (insert m key value)
+    under_now : LogOnFlash (pushed d.log e) flash st.top st.found → length (firsts (st.found.newest ++ (d.log.pending ++ e ∷ []))) ≤ buffer d.log.shape
+        → IsUnder d.log.shape flash (d.log.pending ++ e ∷ []) st.top st.found (insert m key value)
     under_now logs room =
         let limits = limits_under d.log.shape flash st.top st.with.committed.is_top in
         let own = subst (λ (ls : List ℕ). live d.log.shape (in_space (space_of key) (insert m key value)) ≤ limit_of ls (space_of key)) limits p.may.room.own in
         let within = within_put d.log.shape (page_at flash) (page_sizes d d.log.shape flash st.top st.found st.without m st.with) (some_bytes d d.log.shape flash st.top st.found st.without m st.with)
         (named st.top.1) es m (map_reads d d.log.shape flash st.top st.found st.without m st.with) key place value p.written.there (root_limits d.log.shape st.top.1)
         (places_within d d.log.shape flash st.top st.found st.without m st.with) own in
-        stores d.log.shape flash d.log.pending st.top st.found m key place value st.with.pending (subst (λ (ls : List ℕ). space_of key ≤ length ls) limits p.may.room.spaced) p.written.there room fit_now within
+        stores d.log.shape flash d.log.pending st.top st.found m key place value st.with.pending (subst (λ (ls : List ℕ). space_of key ≤ length ls) limits p.may.room.spaced)
+        p.written.there room fit_now within
 
     -- a reclaim that runs copies other values than that one
     reclaims_now : ReclaimOnFlash d.log.shape d.reclaim values.live d.pool flash (put key_cmp key place es)
@@ -203,17 +205,18 @@ put_stands_at : (d : Parts) (flash : Flash) (m : Map) (key : Key) (value : List 
 unfolding puts_moves
 put_stands_at d flash m key value page old p log values spaces o n noted o_is n_is space_is moved used_is =
     let e : Entry = (key, Some (placed_at page (length value))) in
+    let st = p.may.stands in
     let placed_now = moved (puts_moves d flash m key value page old p o n o_is n_is) in
     let space_now = subst (λ (x : Span). values ≡ with_head (with_heads d.values (heads_without o d.values.live.heads)) x.page x.count) n_is space_is in
     let used : Use = used_after d.spaces (space_of key) (pages_at d.log.shape old) (charge d.log.shape (length value)) in
     let P : LogState → Use → Type 0 = λ l u. StandsFor (record d { log = l; values = values; spaces = u }) d.log.shape flash (insert m key value) in
-    let logs : LogOnFlash (pushed d.log e) flash p.may.stands.top p.may.stands.found = subst (λ (l : LogState). LogOnFlash l flash p.may.stands.top p.may.stands.found) noted.pushed_is (noted.stands flash p.may.stands.top p.may.stands.found p.may.stands.with.index.logs) in
+    let logs : LogOnFlash (pushed d.log e) flash st.top st.found = subst (λ (l : LogState). LogOnFlash l flash st.top st.found) noted.pushed_is (noted.stands flash st.top st.found st.with.index.logs) in
     let there : P (pushed d.log e) used = record {
-      top = p.may.stands.top;
-      found = p.may.stands.found;
-      without = p.may.stands.without;
-      with = put_agrees d flash m key value page old p values placed_now o space_now logs (noted.fits_in flash p.may.stands.top p.may.stands.found p.may.stands.with.index.logs);
-      whole = whole_like d (record d { log = pushed d.log e; values = values; spaces = used }) refl (λ none. none) refl refl p.may.stands.whole;
+      top = st.top;
+      found = st.found;
+      without = st.without;
+      with = put_agrees d flash m key value page old p values placed_now o space_now logs (noted.fits_in flash st.top st.found st.with.index.logs);
+      whole = whole_like d (record d { log = pushed d.log e; values = values; spaces = used }) refl (λ none. none) refl refl st.whole;
     } in
     subst (λ (l : LogState). P l spaces) (sym noted.pushed_is) (subst (λ (u : Use). P (pushed d.log e) u) (sym used_is) there)
 
@@ -242,7 +245,9 @@ put_moves d flash m key value page len old is_len p o n o_is n_is =
 -- the key is of a namespace that the root has
 pub puts_spaced : (d : Parts) (flash : Flash) (m : Map) (key : Key) (value : List ℕ) (page : ℕ) (old : Option Place) → Puts d d.log.shape flash m key value page old
     → space_of key ≤ root_spaces d.log.shape d.log.root
-puts_spaced d flash m key value page old p = subst (λ (limits : List ℕ). space_of key ≤ length limits) (limits_with d d.log.shape flash p.may.stands.top p.may.stands.found p.may.stands.without m p.may.stands.with) p.may.room.spaced
+puts_spaced d flash m key value page old p =
+    let st = p.may.stands in
+    subst (λ (limits : List ℕ). space_of key ≤ length limits) (limits_with d d.log.shape flash st.top st.found st.without m st.with) p.may.room.spaced
 
 pub drops_spaced : (d : Parts) (flash : Flash) (m : Map) (key : Key) (old : Place) → MayTake d d.log.shape flash m key old → space_of key ≤ root_spaces d.log.shape d.log.root
 drops_spaced d flash m key old p = subst (λ (limits : List ℕ). space_of key ≤ length limits) (limits_with d d.log.shape flash p.stands.top p.stands.found p.stands.without m p.stands.with) p.spaced
@@ -319,11 +324,13 @@ module _ (d : Parts) (flash : Flash) (m : Map) (key : Key) (old : Place) (p : Ma
     former_read = p.stands.with.former_read;
     reclaim =
         let R : Values → List (Key × Place) → Type 0 = λ l es. ReclaimOnFlash d.log.shape d.reclaim l d.pool flash es in
-        let now = reclaim_gone d.log.shape d.reclaim d.values.live d.pool flash values_before key (slice_set d.values.live.heads at 0) p.stands.with.reclaim (λ k. zero_fewer d.values.live.heads at k) in
+        let now = reclaim_gone d.log.shape d.reclaim d.values.live d.pool flash values_before key (slice_set d.values.live.heads at 0)
+        p.stands.with.reclaim (λ k. zero_fewer d.values.live.heads at k) in
         subst (λ (es : List (Key × Place)). R values.live es) (sym places_gone) (subst (λ (l : Values). R l (without key values_before)) (sym (ap (λ (x : ValuesState). x.live) space_is)) now);
     uses =
         subst (IsUseOf d.log.shape used_then) (sym places_gone)
-        (use_of_gone d.log.shape (shape_is d d.log.shape flash p.stands.top p.stands.found p.stands.without m p.stands.with) d.spaces values_before key (own_space d.log.shape d.log.pending gone logs.pending_are)
+        (use_of_gone d.log.shape (shape_is d d.log.shape flash p.stands.top p.stands.found p.stands.without m p.stands.with) d.spaces values_before key
+        (own_space d.log.shape d.log.pending gone logs.pending_are)
         (places_rise d d.log.shape flash p.stands.top p.stands.found p.stands.without m p.stands.with) (Some old) p.old_is p.stands.with.uses);
   }
 
@@ -335,14 +342,15 @@ gone_stands_at : (d : Parts) (flash : Flash) (m : Map) (key : Key) (old : Place)
 unfolding drops_held
 gone_stands_at d flash m key old p log values n noted n_is space_is removed =
     let e : Entry = (key, None) in
+    let st = p.stands in
     let placed_now = removed (drops_held d flash m key old p n n_is) in
-    let logs : LogOnFlash (pushed d.log e) flash p.stands.top p.stands.found = subst (λ (l : LogState). LogOnFlash l flash p.stands.top p.stands.found) noted.pushed_is (noted.stands flash p.stands.top p.stands.found p.stands.with.index.logs) in
+    let logs : LogOnFlash (pushed d.log e) flash st.top st.found = subst (λ (l : LogState). LogOnFlash l flash st.top st.found) noted.pushed_is (noted.stands flash st.top st.found st.with.index.logs) in
     let there : StandsFor (record d { log = pushed d.log e; values = values; spaces = used_after d.spaces (space_of key) (charge d.log.shape old.len) 0 }) d.log.shape flash (remove m key) = record {
-      top = p.stands.top;
-      found = p.stands.found;
-      without = p.stands.without;
-      with = gone_agrees d flash m key old p values placed_now n.page space_is logs (noted.fits_in flash p.stands.top p.stands.found p.stands.with.index.logs);
-      whole = whole_like d (record d { log = pushed d.log e; values = values; spaces = used_after d.spaces (space_of key) (charge d.log.shape old.len) 0 }) refl (λ none. none) refl refl p.stands.whole;
+      top = st.top;
+      found = st.found;
+      without = st.without;
+      with = gone_agrees d flash m key old p values placed_now n.page space_is logs (noted.fits_in flash st.top st.found st.with.index.logs);
+      whole = whole_like d (record d { log = pushed d.log e; values = values; spaces = used_after d.spaces (space_of key) (charge d.log.shape old.len) 0 }) refl (λ none. none) refl refl st.whole;
     } in
     subst (λ (l : LogState). StandsFor (record d { log = l; values = values; spaces = used_after d.spaces (space_of key) (charge d.log.shape old.len) 0 }) d.log.shape flash (remove m key)) (sym noted.pushed_is) there
 

@@ -1,13 +1,13 @@
 -- A change of the map: a key gets a value, or loses its own.
-use Rattle.std.specs.Prelude.{◌≡◌, ◌≤◌, ◌<◌, ℕ, List, length, Option, Some, Result}
+use Rattle.std.specs.Prelude.{◌≡◌, ◌≤◌, ◌<◌, ℕ, List, length, Option, Some, Result, OnOk}
 use Rattle.std.{specs.FinMap.insert, specs.FinMap.remove, specs.FinMap.Entries.find}
 use Rattle.pk_base.{specs.Entry.Place, specs.Fields.AreBytes, specs.Key.Key, specs.Key.key_cmp, specs.Key.space_of, specs.Page.Flash, specs.Map.Map, specs.Map.live}
 use Rattle.pk_base.specs.Shape.{Shape, limit, greatest, page_entries}
 use Rattle.pk_nand.{specs.BoardState.BoardState, specs.declared.types.Fault.Fault, specs.Calls.IsReady}
 use Rattle.pk_model.{specs.Steps.Step, specs.Spaces.in_space, specs.Spaces.limit_of, specs.Spaces.limits_at, specs.Growth.Reaches, specs.Growth.Goes, specs.Crashes.CrashFinds, specs.Crashes.change}
 use Rattle.pk_law_steps.specs.Under.{places}
-use Rattle.pk_parts.{specs.Parts.Parts, specs.Parts.frames_of, specs.Moves.StandsFor, specs.Moves.KeepsAll}
-use Rattle.pk_background.specs.Emptying.{StepOrRead}
+use Rattle.pk_parts.{specs.Parts.Parts, specs.Parts.frames_of, specs.Moves.StandsFor, specs.Moves.KeepsAll, specs.Staying.StaysOrOpens, specs.Staying.IsNoted, specs.Stopping.StoppedOn}
+use Rattle.pk_background.specs.Emptying.{StepOrRead, OnRunning}
 
 -- There is room for a value of a key: the key is of a namespace of the drive, whose live pages are within its limit with the value, and all
 -- live pages are within theirs.
@@ -92,3 +92,11 @@ pub record StaysBetween (before after : Parts) : Type 0 where
   pub stopped : after.stopped ≡ before.stopped
   pub same_shape : after.log.shape ≡ before.log.shape
   pub few : length after.log.pending < page_entries before.log.shape
+
+-- What a put of a value of n pages leaves of a drive beside its map: the drive runs as before, the value is in the open block or in one that
+-- was opened, or reclaims made room, the key's entry is noted, and a failure that is not a read stopped the drive.
+pub record PutLeaves (before after : Parts) (key : Key) (count : ℕ) (result : Result Unit Fault) : Type 0 where
+  pub stays : OnRunning (StaysBetween before after) result
+  pub opens : OnRunning (StaysOrOpens before after count) result
+  pub noted : OnOk result (IsNoted after key)
+  pub stops : StoppedOn after result

@@ -12,14 +12,15 @@ use Rattle.pk_law_work.specs.Calls.{room_calls}
 use Rattle.pk_law_steps.specs.Under.{places}
 use Rattle.pk_log.specs.State.{needs_freeze}
 use Rattle.pk_values.specs.State.{fits_open}
-use Rattle.pk_parts.{specs.Parts.Parts, specs.Parts.counts_of, specs.Parts.most_looks, specs.Parts.is_half, specs.Agreeing.DriveOnFlash, specs.Moves.StandsFor, specs.Moves.MayStep, specs.Moves.KeepsAll}
-use Rattle.pk_parts.{specs.Moves.BreaksAll, proofs.Halves.between, proofs.Halves.is_whole, proofs.Halves.stands as whole_stands, proofs.Standing.found_once, proofs.Standing.agrees_between}
+use Rattle.pk_parts.{specs.Parts.Parts, specs.Parts.counts_of, specs.Parts.most_looks, specs.Parts.is_half, specs.Agreeing.DriveOnFlash, specs.Moves.StandsFor, specs.Moves.MayStep}
+use Rattle.pk_parts.{specs.Moves.KeepsAll, specs.Moves.BreaksAll, proofs.Halves.between, proofs.Halves.is_whole, proofs.Halves.stands as whole_stands, proofs.Standing.found_once, proofs.Standing.agrees_between}
 use Rattle.pk_parts.{specs.Staying.StaysFresh, specs.Staying.StaysOrOpens, specs.Quiet.ReadsOnly, specs.Quiet.ReadsFailing, specs.Quiet.Looks, proofs.Keeping.board_has, proofs.Staying.fresh_then}
 use Rattle.pk_background.{specs.Emptying.OnRunning, specs.Reclaiming.CannotRead, proofs.SpaceSteps.wanted_full, proofs.Stored.blocks_most, proofs.Stored.blocks_at}
 use Rattle.pk_background.specs.Spacing.{SameMapAll, MovesOrReads, StaysSame, needs}
 use Rattle.pk_background.proofs.ReadSteps.{passes_none, read_cuts, reading_then, reading_failed, running_says}
 use Rattle.pk_background.proofs.SameMaps.{same_of, same_unread, passes_moved}
-use Rattle.pk_changes.{specs.Changes.MayPut, specs.Changes.CanPut, specs.Changes.ChangesAll, specs.Changes.FailsToChange, specs.Changes.PutsOrReads, specs.Changes.StaysBetween, proofs.Changing.kept_goes}
+use Rattle.pk_changes.{specs.Changes.MayPut, specs.Changes.CanPut, specs.Changes.ChangesAll, specs.Changes.FailsToChange, specs.Changes.PutsOrReads, specs.Changes.StaysBetween}
+use Rattle.pk_changes.proofs.Changing.{kept_goes}
 use Rattle.pk_core.{specs.Programming.ReadsNone, proofs.Amounts.store_few, proofs.Amounts.numbers_last}
 use Rattle.pk_core.proofs.Later.{Leads, changes_later, can_store_later}
 use Rattle.pk_core.specs.Whole.{MayStore, SameMapBetween, StoresWhole, CanStore, store_most}

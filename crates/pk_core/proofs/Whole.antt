@@ -181,21 +181,14 @@ module _ {a b : Parts} {s0 s1 : BoardState} (w : Wholes a b s0 s1) where
       spends_then pair_calls (calls a.log.shape) (pair_calls + calls a.log.shape) 0 k k s0 s1 s2 (omega arith) (omega arith)
       (record { calls = w.calls; installs = omega (arith, same) }) (subst (λ (s : Shape). Spends (calls s) k s1 s2) w.leads.same_shape second)
 
-  put_spends : (s2 : BoardState) (len : ℕ) → Spends (space_and_put_calls b.log.shape (charge b.log.shape len)) store_roots s1 s2
-      → Spends (pair_calls + space_and_put_calls a.log.shape (charge a.log.shape len)) store_roots s0 s2
-  put_spends s2 len = spends_whole (λ s. space_and_put_calls s (charge s len)) store_roots s2
-
   -- the key gets its value after it
   pub stores_whole : (key : Key) (value : List ℕ) (c : Parts) (s2 : BoardState) (r : Result Unit Fault)
       → StoresWithin (store_most b.log.shape) (space_and_put_calls b.log.shape (pages_for b value)) store_roots b c s1 s2 key value r
       → StoresWithin (store_most a.log.shape) (pair_calls + space_and_put_calls a.log.shape (pages_for a value)) store_roots a c s0 s2 key value r
   stores_whole key value c s2 r e = record {
     step = stores_later w.leads key value r c s2 (λ s. store_most s) (store_most a.log.shape) (omega arith) e.step;
-    stays = stays_later w.leads r c e.stays;
-    opens = opens_whole r c (length value) e.opens;
-    noted = e.noted;
-    spends = put_spends s2 (length value) e.spends;
-    stops = e.stops;
+    leaves = record { stays = stays_later w.leads r c e.leaves.stays; opens = opens_whole r c (length value) e.leaves.opens; noted = e.leaves.noted; stops = e.leaves.stops };
+    spends = spends_whole (λ s. space_and_put_calls s (charge s (length value))) store_roots s2 e.spends;
   }
 
   pub take_spends : (s2 : BoardState) → Spends (room_calls b.log.shape + commit_calls) room_roots s1 s2 → Spends (pair_calls + (room_calls a.log.shape + commit_calls)) room_roots s0 s2

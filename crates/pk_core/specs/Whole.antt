@@ -1,5 +1,5 @@
 -- Changes of the map, before which a pair may be half made.
-use Rattle.std.specs.Prelude.{◌≡◌, ◌+◌, ◌≤◌, ◌<◌, ℕ, List, length, Option, Some, Result, OnOk}
+use Rattle.std.specs.Prelude.{◌≡◌, ◌+◌, ◌≤◌, ◌<◌, ℕ, List, length, Option, Some, Result}
 use Rattle.std.{specs.FinMap.insert, specs.FinMap.remove, specs.FinMap.Entries.find}
 use Rattle.pk_base.{specs.Entry.Place, specs.Fields.AreBytes, specs.Key.Key, specs.Key.key_cmp, specs.Key.space_of, specs.Shape.Shape, specs.Shape.greatest, specs.Shape.page_entries, specs.Page.Flash}
 use Rattle.pk_base.specs.Map.{Map}
@@ -7,9 +7,9 @@ use Rattle.pk_nand.{specs.BoardState.BoardState, specs.declared.types.Fault.Faul
 use Rattle.pk_law_work.specs.Calls.{room_calls, space_calls}
 use Rattle.pk_model.{specs.Spaces.limits_at, specs.Crashes.change}
 use Rattle.pk_law_steps.specs.Under.{places}
-use Rattle.pk_parts.{specs.Parts.Parts, specs.Parts.pages_for, specs.Moves.StandsBetween, specs.Staying.StaysOrOpens, specs.Staying.IsNoted, specs.Stopping.StoppedOn}
-use Rattle.pk_changes.specs.Changes.{HasRoomFor, StaysBetween, ChangesAll, FailsToChange}
-use Rattle.pk_background.{specs.Costs.Spends, specs.Emptying.StepOrRead, specs.Emptying.OnRunning, specs.Spacing.SameMap}
+use Rattle.pk_parts.{specs.Parts.Parts, specs.Parts.pages_for, specs.Moves.StandsBetween}
+use Rattle.pk_changes.specs.Changes.{HasRoomFor, PutLeaves, ChangesAll, FailsToChange}
+use Rattle.pk_background.{specs.Costs.Spends, specs.Emptying.StepOrRead, specs.Spacing.SameMap}
 
 -- A key may get a value: there is room for it.
 pub record MayStore (d : Parts) (shape : Shape) (flash : Flash) (m : Map) (key : Key) (value : List ℕ) : Type 0 where
@@ -46,15 +46,11 @@ abbrev pub TakesWhole : Parts → Parts → ℕ → BoardState → BoardState �
 TakesWhole before after most old new key place result =
     ChangesOrReads (λ shape m. MayTakeBetween before shape old.pages m key place) (λ m. remove m key) before after most old new result
 
--- What a Store did inside a command, with at most this many reads, flash operations and roots: to the map, and to the drive itself, which
--- runs as before, has the key's entry in its active buffer, and is stopped by a failure that is not a read.
+-- What a Store did inside a command, with at most this many reads, flash operations and roots: to the map, and to the drive itself.
 pub record StoresWithin (most calls most_roots : ℕ) (before after : Parts) (old new : BoardState) (key : Key) (value : List ℕ) (result : Result Unit Fault) : Type 0 where
   pub step : StoresWhole before after most old new key value result
-  pub stays : OnRunning (StaysBetween before after) result
-  pub opens : OnRunning (StaysOrOpens before after (pages_for before value)) result
-  pub noted : OnOk result (IsNoted after key)
+  pub leaves : PutLeaves before after key (pages_for before value) result
   pub spends : Spends calls most_roots old new
-  pub stops : StoppedOn after result
 
 -- most reads and roots of it: a lookup after the reclaims, and room for the entry
 abbrev pub store_most : Shape → ℕ

@@ -4,7 +4,8 @@ use Rattle.pk_nand.specs.Calls.{IsReady}
 use Rattle.pk_model.proofs.Steps.{Step-broken}
 use Rattle.pk_parts.{specs.Parts.Parts, specs.Parts.frames_of, specs.Moves.KeepsAll, specs.Moves.BreaksAll, proofs.Stopping.breaks_step, proofs.Stopping.fails_stopped}
 use Rattle.pk_parts.proofs.Staying.{opens_then, opens_then_ok}
-use Rattle.pk_changes.{specs.Noting.IsPlaced, specs.Changes.MayPut, specs.Changes.ChangesAll, specs.Changes.FailsToChange, proofs.Following.stays_committed, proofs.Noted.noted_after_ok, proofs.Programming.put_programs}
+use Rattle.pk_changes.{specs.Noting.IsPlaced, specs.Changes.MayPut, specs.Changes.ChangesAll, specs.Changes.FailsToChange}
+use Rattle.pk_changes.{proofs.Following.stays_committed, proofs.Noted.noted_after_ok, proofs.Programming.put_programs}
 use Rattle.pk_changes.proofs.Putting.{some_puts, put_noted_so, some_changed, change_made, change_failed, change_broken}
 use Rattle.pk_background.{proofs.Steps.later, proofs.Callings.few_within, proofs.Callings.few_then}
 use Rattle.pk_changes.proofs.change.put_with_room.Goals as goal
@@ -71,7 +72,8 @@ returns-in-Err-clause-step g c =
     let a = c.args.parts.now in
     let may : Shape → Map → Type 0 = λ shape m. MayPut a shape s0.pages m c.args.key c.args.value.now c.args.old in
     let put : Map → Map = λ m. insert m c.args.key c.args.value.now in
-    breaks_step c.in-Err.fault c.fail.result c.place_value.new.parts c.fail.new.self c.fail.ensures.same c.fail.ensures.rest (λ (u : Unit). ChangesAll may put c.place_value.new.parts s0 s1) _ _ _ _ _ _
+    breaks_step c.in-Err.fault c.fail.result c.place_value.new.parts c.fail.new.self c.fail.ensures.same c.fail.ensures.rest
+    (λ (u : Unit). ChangesAll may put c.place_value.new.parts s0 s1) _ _ _ _ _ _
     (Step-broken _ (λ page. IsPlaced a c.place_value.new.parts s0 s1 c.args.key c.args.value.now page) (λ (u : Unit). ChangesAll may put c.place_value.new.parts s0 s1)
     (BreaksAll a s0 s1) (FailsToChange may put s0 s1) a.log.shape 0 0 s0 s1 (omega arith)
     (change_broken a c.place_value.new.parts s0 s1 c.requires.can.0.ready put may (λ shape m x. x.stands)) c.in-Err.ensures.step)

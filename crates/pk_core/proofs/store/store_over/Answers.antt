@@ -40,7 +40,7 @@ returns-in-None-clause-executes g c = λ into.
     let e = c.put_whole-answer.ensures.stores in
     store_came c.args.value.now c.requires.looked_up c.requires.opcode c.requires.whole c.known.ensures.key c.known.ensures.bytes (sym c.fault_of_store.ensures ∙ c.in-None.is)
     c.put_whole-answer.result c.put_whole-answer.new.parts (g.B.Nand.state c.put_whole-answer.new.board) _ into c.changed.result _ e.step e.spends.installs
-    (record { up = e.step.reads.up; few = c.reads_since-in-None.ensures.count }) e.stays e.stops c.changed.ensures
+    (record { up = e.step.reads.up; few = c.reads_since-in-None.ensures.count }) e.leaves.stays e.leaves.stops c.changed.ensures
 
 pub returns-in-None-clause-stores : goal.returns-in-None-clause-stores
 returns-in-None-clause-stores g c =
@@ -48,7 +48,7 @@ returns-in-None-clause-stores g c =
     let can = (can_put c.args.value.now c.requires.looked_up c.requires.opcode c.requires.whole c.known.ensures.key c.known.ensures.bytes (sym c.fault_of_store.ensures ∙ c.in-None.is)).can in
     let whole = makes_whole c.put_whole-answer.result (λ shape m. MayStore c.args.parts.now shape (g.B.Nand.state c.args.board.now).pages m c.args.key c.args.value.now)
     (λ m. insert m c.args.key c.args.value.now) _ _ _ _ _ can.may.0 can.may.1 can.may.1.stands e.stores.step in
-    stores_came c.put_whole-answer.result _ c.changed.ensures c.requires.whole whole e.stores.opens e.stores.noted e.programs e.quiet
+    stores_came c.put_whole-answer.result _ c.changed.ensures c.requires.whole whole e.stores.leaves.opens e.stores.leaves.noted e.programs e.quiet
 
 pub returns-in-Some-clause-spends : goal.returns-in-Some-clause-spends
 returns-in-Some-clause-spends g c = spends_same _ _ _ _ refl

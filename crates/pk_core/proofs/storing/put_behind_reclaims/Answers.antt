@@ -40,13 +40,15 @@ returns-in-Ok g c =
     let step = stores_later leads c.args.key c.args.value.now c.put_found.result c.put_found.new.parts (g.B.Nand.state c.put_found.new.board) (λ s. 4 + room_calls s) _ (omega arith) p.step in
     record {
       step = step;
-      stays = stays_later leads c.put_found.result c.put_found.new.parts p.stays;
-      opens = opens_behind c.args.parts.now (g.B.Nand.state c.args.board.now) c.args.key c.args.value.now (charge c.args.parts.now.log.shape (length c.args.value.now))
-          c.requires.can.0 c.requires.whole c.requires.no_room c.put_found.result c.put_found.new.parts (g.B.Nand.state c.put_found.new.board) _ step
-          (fresh_behind c.put_found.result c.args.parts.now c.make_space.new.parts c.put_found.new.parts _ e.stays p.opens);
-      noted = p.noted;
+      leaves = record {
+        stays = stays_later leads c.put_found.result c.put_found.new.parts p.leaves.stays;
+        opens = opens_behind c.args.parts.now (g.B.Nand.state c.args.board.now) c.args.key c.args.value.now (charge c.args.parts.now.log.shape (length c.args.value.now))
+            c.requires.can.0 c.requires.whole c.requires.no_room c.put_found.result c.put_found.new.parts (g.B.Nand.state c.put_found.new.board) _ step
+            (fresh_behind c.put_found.result c.args.parts.now c.make_space.new.parts c.put_found.new.parts _ e.stays p.leaves.opens);
+        noted = p.leaves.noted;
+        stops = p.leaves.stops;
+      };
       spends = spends_behind _ _ _ _ _ e.stays.same_shape (length c.args.value.now) c.make_space.ensures.spends p.spends;
-      stops = p.stops;
     }
 
 pub returns-in-Err : goal.returns-in-Err
@@ -56,13 +58,15 @@ returns-in-Err g c =
     (space_calls c.args.parts.now.log.shape) (store_most c.args.parts.now.log.shape) c.args.key c.args.value.now c.requires.can.0 c.requires.whole (omega arith) e.step in
     record {
       step = step;
-      stays = stays_failed c.in-Err.fault c.args.parts.now c.make_space.new.parts (g.B.Nand.state c.args.board.now) c.args.key c.args.value.now c.requires.can.0 e.stays e.none;
-      opens = opens_behind c.args.parts.now (g.B.Nand.state c.args.board.now) c.args.key c.args.value.now (charge c.args.parts.now.log.shape (length c.args.value.now))
-          c.requires.can.0 c.requires.whole c.requires.no_room _ c.make_space.new.parts (g.B.Nand.state c.make_space.new.board) _ step
-          (fresh_failed c.in-Err.fault c.args.parts.now c.make_space.new.parts e.stays);
-      noted = tt;
+      leaves = record {
+        stays = stays_failed c.in-Err.fault c.args.parts.now c.make_space.new.parts (g.B.Nand.state c.args.board.now) c.args.key c.args.value.now c.requires.can.0 e.stays e.none;
+        opens = opens_behind c.args.parts.now (g.B.Nand.state c.args.board.now) c.args.key c.args.value.now (charge c.args.parts.now.log.shape (length c.args.value.now))
+            c.requires.can.0 c.requires.whole c.requires.no_room _ c.make_space.new.parts (g.B.Nand.state c.make_space.new.board) _ step
+            (fresh_failed c.in-Err.fault c.args.parts.now c.make_space.new.parts e.stays);
+        noted = tt;
+        stops = search rules;
+      };
       spends = spends_within _ _ _ _ _ _ (omega arith) (omega arith) c.make_space.ensures.spends;
-      stops = search rules;
     }
 
 pub make_space-requires-clause-some : goal.make_space-requires-clause-some

@@ -49,10 +49,7 @@ returns-in-Err g c =
       stores = record {
         step = unmade failed.1 (λ shape m. MayStore c.args.parts.now shape (g.B.Nand.state c.args.board.now).pages m c.args.key c.args.value.now)
             (λ m. insert m c.args.key c.args.value.now) (λ shape m may. may.stands) c.make_whole.new.parts _ c.in-Err.fault failed.0;
-        stops = search rules;
-        stays = running_stopped Unit _ c.in-Err.fault failed.0;
-        opens = running_stopped Unit _ c.in-Err.fault failed.0;
-        noted = tt;
+        leaves = record { stays = running_stopped Unit _ c.in-Err.fault failed.0; opens = running_stopped Unit _ c.in-Err.fault failed.0; noted = tt; stops = search rules };
         spends = unmade_spends failed.1 _ _ (omega arith);
       };
       programs = λ _. tt;

@@ -20,11 +20,8 @@ returns-else-needs_space-clause-stores g c =
     record {
       step = put_stores c.args.parts.now (g.B.Nand.state c.args.board.now) c.args.key c.args.value.now c.args.old c.requires.can.0 c.put.result c.put.new.parts
           (g.B.Nand.state c.put.new.board) (room_calls c.args.parts.now.log.shape) _ (omega arith) e.step;
-      stays = e.stays;
-      opens = e.opens;
-      noted = e.noted;
+      leaves = e.leaves;
       spends = spends_within _ _ _ _ _ _ (omega arith) (omega arith) e.spends;
-      stops = e.stops;
     }
 
 pub returns-else-needs_space-clause-quiet : goal.returns-else-needs_space-clause-quiet
