@@ -1,5 +1,5 @@
 -- A change of the map after a part of a command that keeps it, and of which no call failed.
-use Rattle.std.proofs.Common.{◌≡◌, ℕ, ◌+◌, ◌≤◌, sym, ap, subst, ◌∙◌, List, length, Some, Result}
+use Rattle.std.proofs.Common.{◌≡◌, ℕ, ◌+◌, ◌≤◌, ◌<◌, sym, ap, subst, ◌∙◌, List, length, Some, Result}
 use Rattle.std.specs.FinMap.{insert}
 use Rattle.pk_base.{specs.Key.Key, specs.Map.Map}
 use Rattle.pk_base.specs.Shape.{Shape, greatest, page_entries}

@@ -1,5 +1,5 @@
 -- A key gets a value, wherever that has room.
-use Rattle.std.proofs.Common.{◌≡◌, inr, ℕ, ◌+◌, ◌-◌, ◌≤◌, ◌<◌, Bool, true, false, List, [], length, refl, sym, ap, subst, ◌∙◌, arith, nat_le, Option, Result, Ok, Err}
+use Rattle.std.proofs.Common.{◌≡◌, inl, inr, ℕ, ◌+◌, ◌-◌, ◌≤◌, ◌<◌, Bool, true, false, List, [], length, refl, sym, ap, subst, ◌∙◌, arith, nat_le, Option, Result, Ok, Err}
 use Rattle.std.{specs.Prelude.◌&&◌, specs.Prelude.not, specs.Prelude.OnOk, specs.FinMap.insert, specs.FinMap.Entries.find}
 use Rattle.pk_base.{specs.Entry.Entry, specs.Entry.Place, specs.Key.Key, specs.Key.key_cmp, specs.Page.Flash, specs.Map.Map, proofs.ShapeLemmas.entries_some}
 use Rattle.pk_base.specs.Shape.{Shape, IsShape, data_blocks, charge, page_entries}

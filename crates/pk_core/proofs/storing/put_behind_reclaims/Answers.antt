@@ -1,4 +1,4 @@
-use Rattle.std.proofs.Common.{length, arith, rules, sym, ap, ◌∙◌}
+use Rattle.std.proofs.Common.{◌+◌, length, arith, rules, sym, ap, ◌∙◌}
 use Rattle.pk_base.{specs.Shape.charge, proofs.ShapeLemmas.charge_most}
 use Rattle.pk_law_work.specs.Calls.{room_calls, space_calls}
 use Rattle.pk_background.{specs.Spacing.needs, proofs.Callings.spends_within}
