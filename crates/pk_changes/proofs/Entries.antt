@@ -23,7 +23,7 @@ use Rattle.pk_gc.specs.Standing.{ReclaimOnFlash}
 use Rattle.pk_parts.{specs.Parts.Parts, specs.Parts.frames_of, specs.Parts.index_of, specs.Parts.outputs_of, specs.Agreeing.DriveOnFlashWith, specs.Moves.StandsFor, proofs.Halves.whole_like}
 use Rattle.pk_parts.{proofs.Reclaiming.reclaim_stored, proofs.Reclaiming.reclaim_gone, proofs.Reclaiming.zero_fewer, proofs.Reclaiming.replaced_fewer, proofs.OwnLimits.limits_with}
 use Rattle.pk_parts.proofs.MapValues.{page_sizes, places_rise, some_bytes, map_reads, places_within}
-use Rattle.pk_changes.{specs.Noting.Puts, specs.Noting.Drops, specs.Noting.pages_at, proofs.Using.can_leave, proofs.Using.use_few, proofs.Using.use_of_put, proofs.Using.use_of_gone}
+use Rattle.pk_changes.{specs.Changes.MayTake, specs.Noting.Puts, specs.Noting.pages_at, proofs.Using.can_leave, proofs.Using.use_few, proofs.Using.use_of_put, proofs.Using.use_of_gone}
 use Rattle.pk_scan.{specs.Used.IsUseOf, proofs.Using.value_count_most}
 use Rattle.pk_space.specs.Uses.{Use, IsSpace, CanLeave, space_live, space_keys, value_count, used_after}
 use Rattle.pk_schedule.proofs.Keeping.{index_pushed}
@@ -70,6 +70,9 @@ own_space shape [] e all = let is = key_is_key shape e all.0.0 in (is.space_some
 own_space shape (x ∷ es) e all = own_space shape es e all.1
 
 module _ (d : Parts) (flash : Flash) (m : Map) (key : Key) (value : List ℕ) (page : ℕ) (old : Option Place) (p : Puts d d.log.shape flash m key value page old) where
+  abbrev st : StandsFor d d.log.shape flash m
+  st = p.may.stands
+
   abbrev place : Place
   place = record { page = page; len = length value }
 
@@ -77,7 +80,7 @@ module _ (d : Parts) (flash : Flash) (m : Map) (key : Key) (value : List ℕ) (p
   e = (key, Some place)
 
   abbrev es : List (Key × Place)
-  es = places p.found d.log.pending
+  es = places st.found d.log.pending
 
   pub puts_moves : (o : Option Span) (n : Span) → o ≡ span_if_some d.log.shape old → n ≡ span_of d.log.shape place → ValueMoves d.values o n
   puts_moves o n o_is n_is = record {
@@ -88,14 +91,14 @@ module _ (d : Parts) (flash : Flash) (m : Map) (key : Key) (value : List ℕ) (p
     es = es;
     key = key;
     place = place;
-    placed = p.with.placed;
-    rising = places_rise d d.log.shape flash p.top p.found p.without m p.with;
-    old_is = ap (span_if_some d.log.shape) p.old_is ∙ sym o_is;
+    placed = st.with.placed;
+    rising = places_rise d d.log.shape flash st.top st.found st.without m st.with;
+    old_is = ap (span_if_some d.log.shape) p.may.old_is ∙ sym o_is;
     new_is = sym n_is;
     even = p.place.even;
     short = p.place.short;
     in_open = p.in_open;
-    free = λ k is is_value. p.written.apart p.top p.found p.without m p.with k is is_value;
+    free = λ k is is_value. p.written.apart st.top st.found st.without m st.with k is is_value;
   }
 
   -- what each namespace uses then
@@ -104,15 +107,15 @@ module _ (d : Parts) (flash : Flash) (m : Map) (key : Key) (value : List ℕ) (p
 
   -- what the key had may go
   pub puts_leave : IsSpace (space_of key) → CanLeave d.spaces (space_of key) (pages_at d.log.shape old)
-  puts_leave own = can_leave d.log.shape (shape_is d d.log.shape flash p.top p.found p.without m p.with) d.spaces es key own
-      (places_rise d d.log.shape flash p.top p.found p.without m p.with) old p.old_is p.with.uses
+  puts_leave own = can_leave d.log.shape (shape_is d d.log.shape flash st.top st.found st.without m st.with) d.spaces es key own
+      (places_rise d d.log.shape flash st.top st.found st.without m st.with) old p.may.old_is st.with.uses
 
   -- what is used then fits its numbers
   pub puts_fit : IsSpace (space_of key) → (space_live d.spaces (space_of key) - pages_at d.log.shape old + charge d.log.shape (length value) < 2 ^ 32)
       × (space_keys d.spaces (space_of key) - value_count (pages_at d.log.shape old) + value_count (charge d.log.shape (length value)) < 2 ^ 32)
   puts_fit own =
-      let is = shape_is d d.log.shape flash p.top p.found p.without m p.with in
-      let small = spaces_small d d.log.shape flash p.top p.found p.without m p.with (space_of key) own in
+      let is = shape_is d d.log.shape flash st.top st.found st.without m st.with in
+      let small = spaces_small d d.log.shape flash st.top st.found st.without m st.with (space_of key) own in
       let live = small.0 in
       let keys = small.1 in
       let most = charge_most d.log.shape (length value) is p.place.short in
@@ -120,64 +123,66 @@ module _ (d : Parts) (flash : Flash) (m : Map) (key : Key) (value : List ℕ) (p
       let one = value_count_most (charge d.log.shape (length value)) in
       (omega (arith, live, most, block), omega (arith, keys, one))
 
-  places_are : places p.found (d.log.pending ++ e ∷ []) ≡ put key_cmp key place es
-  places_are = ap (λ xs. placed (firsts xs)) (entries_in_order-push p.found d.log.pending e)
-      ∙ placed-put key place (counting p.found d.log.pending) (firsts_sorted (entries_in_order p.found d.log.pending))
+  places_are : places st.found (d.log.pending ++ e ∷ []) ≡ put key_cmp key place es
+  places_are = ap (λ xs. placed (firsts xs)) (entries_in_order-push st.found d.log.pending e)
+      ∙ placed-put key place (counting st.found d.log.pending) (firsts_sorted (entries_in_order st.found d.log.pending))
 
   module _ (values : ValuesState) (placed_now : ValuesOnFlash d.log.shape values d.pool (outputs_of d) flash (put key_cmp key place es)) (o : Option Span)
       (space_is : values ≡ with_head (with_heads d.values (heads_without o d.values.live.heads)) page (charge d.log.shape (length value))) where
     -- no page of the value is in a block that the root names
-    unnamed : (k : ℕ) → IsPageOf d.log.shape k place → AnyByRecursion (λ b. k / d.log.shape.block_pages ≡ b) (named p.top.1) → ⊥
+    unnamed : (k : ℕ) → IsPageOf d.log.shape k place → AnyByRecursion (λ b. k / d.log.shape.block_pages ≡ b) (named st.top.1) → ⊥
     unnamed k is in_named =
         let held : HoldsValues d.pool (k / d.log.shape.block_pages) = placed_now.owned k (found_page d.log.shape key place (put key_cmp key place es) k (found_put key place es) is) in
-        elim (named_owner d d.log.shape flash p.top p.found p.without m p.with (k / d.log.shape.block_pages) in_named) [
+        elim (named_owner d d.log.shape flash st.top st.found st.without m st.with (k / d.log.shape.block_pages) in_named) [
           | inl journal ↦ journal_or_values d.pool (k / d.log.shape.block_pages) journal held
           | inr meta ↦ meta_or_values d.pool (k / d.log.shape.block_pages) meta held
         ]
 
-    fit_now : fits d.log.shape (named p.top.1) (all_pages d.log.shape (put key_cmp key place es)) ≡ true
+    fit_now : fits d.log.shape (named st.top.1) (all_pages d.log.shape (put key_cmp key place es)) ≡ true
     fit_now =
         let few = lie_in_few d.log.shape values d.pool (outputs_of d) flash (put key_cmp key place es) placed_now in
-        let most = p.room.all in
-        let same = live_put d d.log.shape flash p.top p.found p.without m p.with key place value p.written.there in
-        fits_more d.log.shape (named p.top.1) (value_blocks d.pool (outputs_of d)) es key place (fit d d.log.shape flash p.top p.found p.without m p.with)
-        unnamed (λ k is is_value. p.written.apart p.top p.found p.without m p.with k is is_value)
+        let most = p.may.room.all in
+        let same = live_put d d.log.shape flash st.top st.found st.without m st.with key place value p.written.there in
+        fits_more d.log.shape (named st.top.1) (value_blocks d.pool (outputs_of d)) es key place (fit d d.log.shape flash st.top st.found st.without m st.with)
+        unnamed (λ k is is_value. p.written.apart st.top st.found st.without m st.with k is is_value)
         (omega (arith, most, same)) few.1 few.0
 
-    under_now : LogOnFlash (pushed d.log e) flash p.top p.found → length (firsts (p.found.newest ++ (d.log.pending ++ e ∷ []))) ≤ buffer d.log.shape → IsUnder d.log.shape flash (d.log.pending ++ e ∷ []) p.top p.found (insert m key value)
+    under_now : LogOnFlash (pushed d.log e) flash st.top st.found → length (firsts (st.found.newest ++ (d.log.pending ++ e ∷ []))) ≤ buffer d.log.shape
+        → IsUnder d.log.shape flash (d.log.pending ++ e ∷ []) st.top st.found (insert m key value)
     under_now logs room =
-        let limits = limits_under d.log.shape flash p.top p.with.committed.is_top in
-        let own = subst (λ (ls : List ℕ). live d.log.shape (in_space (space_of key) (insert m key value)) ≤ limit_of ls (space_of key)) limits p.room.own in
-        let within = within_put d.log.shape (page_at flash) (page_sizes d d.log.shape flash p.top p.found p.without m p.with) (some_bytes d d.log.shape flash p.top p.found p.without m p.with)
-        (named p.top.1) es m (map_reads d d.log.shape flash p.top p.found p.without m p.with) key place value p.written.there (root_limits d.log.shape p.top.1)
-        (places_within d d.log.shape flash p.top p.found p.without m p.with) own in
-        stores d.log.shape flash d.log.pending p.top p.found m key place value p.with.pending (subst (λ (ls : List ℕ). space_of key ≤ length ls) limits p.room.spaced) p.written.there room fit_now within
+        let limits = limits_under d.log.shape flash st.top st.with.committed.is_top in
+        let own = subst (λ (ls : List ℕ). live d.log.shape (in_space (space_of key) (insert m key value)) ≤ limit_of ls (space_of key)) limits p.may.room.own in
+        let within = within_put d.log.shape (page_at flash) (page_sizes d d.log.shape flash st.top st.found st.without m st.with) (some_bytes d d.log.shape flash st.top st.found st.without m st.with)
+        (named st.top.1) es m (map_reads d d.log.shape flash st.top st.found st.without m st.with) key place value p.written.there (root_limits d.log.shape st.top.1)
+        (places_within d d.log.shape flash st.top st.found st.without m st.with) own in
+        stores d.log.shape flash d.log.pending st.top st.found m key place value st.with.pending (subst (λ (ls : List ℕ). space_of key ≤ length ls) limits p.may.room.spaced)
+        p.written.there room fit_now within
 
     -- a reclaim that runs copies other values than that one
     reclaims_now : ReclaimOnFlash d.log.shape d.reclaim values.live d.pool flash (put key_cmp key place es)
     reclaims_now =
         let heads : List ℕ = slice_set (heads_without o d.values.live.heads) page (charge d.log.shape (length value)) in
-        let now = reclaim_stored d.log.shape d.reclaim d.values d.pool flash es key place heads p.with.reclaim p.with.placed p.in_open
-        (charge_some d.log.shape (shape_is d d.log.shape flash p.top p.found p.without m p.with) (length value))
+        let now = reclaim_stored d.log.shape d.reclaim d.values d.pool flash es key place heads st.with.reclaim st.with.placed p.in_open
+        (charge_some d.log.shape (shape_is d d.log.shape flash st.top st.found st.without m st.with) (length value))
         (λ k other. replaced_fewer o d.values.live.heads page (charge d.log.shape (length value)) k other) in
         subst (λ (l : Values). ReclaimOnFlash d.log.shape d.reclaim l d.pool flash (put key_cmp key place es)) (sym (ap (λ (x : ValuesState). x.live) space_is)) now
 
-    pub put_agrees : LogOnFlash (pushed d.log e) flash p.top p.found → length (firsts (p.found.newest ++ (d.log.pending ++ e ∷ []))) ≤ buffer d.log.shape
-        → DriveOnFlashWith (record d { log = pushed d.log e; values = values; spaces = used_now }) d.log.shape flash p.top p.found p.without (insert m key value)
+    pub put_agrees : LogOnFlash (pushed d.log e) flash st.top st.found → length (firsts (st.found.newest ++ (d.log.pending ++ e ∷ []))) ≤ buffer d.log.shape
+        → DriveOnFlashWith (record d { log = pushed d.log e; values = values; spaces = used_now }) d.log.shape flash st.top st.found st.without (insert m key value)
     put_agrees logs room = record {
       shape_is = refl;
-      is_flash = p.with.is_flash;
-      index = index_pushed (index_of d) (frames_of d) flash p.top p.found e p.with.index logs;
-      committed = p.with.committed;
+      is_flash = st.with.is_flash;
+      index = index_pushed (index_of d) (frames_of d) flash st.top st.found e st.with.index logs;
+      committed = st.with.committed;
       pending = under_now logs room;
       placed = subst (λ (xs : List (Key × Place)). ValuesOnFlash d.log.shape values d.pool (outputs_of d) flash xs) (sym places_are) placed_now;
-      former = p.with.former;
-      former_read = p.with.former_read;
+      former = st.with.former;
+      former_read = st.with.former_read;
       reclaim = subst (λ (xs : List (Key × Place)). ReclaimOnFlash d.log.shape d.reclaim values.live d.pool flash xs) (sym places_are) reclaims_now;
       uses =
           subst (IsUseOf d.log.shape used_now) (sym places_are)
-          (use_of_put d.log.shape (shape_is d d.log.shape flash p.top p.found p.without m p.with) d.spaces es key (own_space d.log.shape d.log.pending e logs.pending_are)
-          (places_rise d d.log.shape flash p.top p.found p.without m p.with) old p.old_is p.with.uses place);
+          (use_of_put d.log.shape (shape_is d d.log.shape flash st.top st.found st.without m st.with) d.spaces es key (own_space d.log.shape d.log.pending e logs.pending_are)
+          (places_rise d d.log.shape flash st.top st.found st.without m st.with) old p.may.old_is st.with.uses place);
     }
 
 -- what the calls of the parts say of one entry more
@@ -200,17 +205,18 @@ put_stands_at : (d : Parts) (flash : Flash) (m : Map) (key : Key) (value : List 
 unfolding puts_moves
 put_stands_at d flash m key value page old p log values spaces o n noted o_is n_is space_is moved used_is =
     let e : Entry = (key, Some (placed_at page (length value))) in
+    let st = p.may.stands in
     let placed_now = moved (puts_moves d flash m key value page old p o n o_is n_is) in
     let space_now = subst (λ (x : Span). values ≡ with_head (with_heads d.values (heads_without o d.values.live.heads)) x.page x.count) n_is space_is in
     let used : Use = used_after d.spaces (space_of key) (pages_at d.log.shape old) (charge d.log.shape (length value)) in
     let P : LogState → Use → Type 0 = λ l u. StandsFor (record d { log = l; values = values; spaces = u }) d.log.shape flash (insert m key value) in
-    let logs : LogOnFlash (pushed d.log e) flash p.top p.found = subst (λ (l : LogState). LogOnFlash l flash p.top p.found) noted.pushed_is (noted.stands flash p.top p.found p.with.index.logs) in
+    let logs : LogOnFlash (pushed d.log e) flash st.top st.found = subst (λ (l : LogState). LogOnFlash l flash st.top st.found) noted.pushed_is (noted.stands flash st.top st.found st.with.index.logs) in
     let there : P (pushed d.log e) used = record {
-      top = p.top;
-      found = p.found;
-      without = p.without;
-      with = put_agrees d flash m key value page old p values placed_now o space_now logs (noted.fits_in flash p.top p.found p.with.index.logs);
-      whole = whole_like d (record d { log = pushed d.log e; values = values; spaces = used }) refl (λ none. none) refl refl p.whole;
+      top = st.top;
+      found = st.found;
+      without = st.without;
+      with = put_agrees d flash m key value page old p values placed_now o space_now logs (noted.fits_in flash st.top st.found st.with.index.logs);
+      whole = whole_like d (record d { log = pushed d.log e; values = values; spaces = used }) refl (λ none. none) refl refl st.whole;
     } in
     subst (λ (l : LogState). P l spaces) (sym noted.pushed_is) (subst (λ (u : Use). P (pushed d.log e) u) (sym used_is) there)
 
@@ -222,7 +228,7 @@ pub put_stands : (d : Parts) (shape : Shape) (flash : Flash) (m : Map) (key : Ke
     → spaces ≡ used_after d.spaces (space_of key) (pages_at d.log.shape old) (charge d.log.shape len)
     → StandsFor (record d { log = log; values = values; spaces = spaces }) shape flash (insert m key value)
 put_stands d shape flash m key value page len old is_len p log values spaces o n noted o_is n_is space_is moved used_is =
-    let is : d.log.shape ≡ shape = p.with.shape_is in
+    let is : d.log.shape ≡ shape = p.may.stands.with.shape_is in
     let own : Puts d d.log.shape flash m key value page old = subst (λ (s : Shape). Puts d s flash m key value page old) (sym is) p in
     let noted' : Noted d (key, Some (placed_at page (length value))) log = subst (λ (l : ℕ). Noted d (key, Some (placed_at page l)) log) (sym is_len) noted in
     let n_is' : n ≡ span_of d.log.shape (placed_at page (length value)) = subst (λ (l : ℕ). n ≡ span_of d.log.shape (placed_at page l)) (sym is_len) n_is in
@@ -239,25 +245,27 @@ put_moves d flash m key value page len old is_len p o n o_is n_is =
 -- the key is of a namespace that the root has
 pub puts_spaced : (d : Parts) (flash : Flash) (m : Map) (key : Key) (value : List ℕ) (page : ℕ) (old : Option Place) → Puts d d.log.shape flash m key value page old
     → space_of key ≤ root_spaces d.log.shape d.log.root
-puts_spaced d flash m key value page old p = subst (λ (limits : List ℕ). space_of key ≤ length limits) (limits_with d d.log.shape flash p.top p.found p.without m p.with) p.room.spaced
+puts_spaced d flash m key value page old p =
+    let st = p.may.stands in
+    subst (λ (limits : List ℕ). space_of key ≤ length limits) (limits_with d d.log.shape flash st.top st.found st.without m st.with) p.may.room.spaced
 
-pub drops_spaced : (d : Parts) (flash : Flash) (m : Map) (key : Key) (old : Place) → Drops d d.log.shape flash m key old → space_of key ≤ root_spaces d.log.shape d.log.root
-drops_spaced d flash m key old p = subst (λ (limits : List ℕ). space_of key ≤ length limits) (limits_with d d.log.shape flash p.top p.found p.without m p.with) p.spaced
+pub drops_spaced : (d : Parts) (flash : Flash) (m : Map) (key : Key) (old : Place) → MayTake d d.log.shape flash m key old → space_of key ≤ root_spaces d.log.shape d.log.root
+drops_spaced d flash m key old p = subst (λ (limits : List ℕ). space_of key ≤ length limits) (limits_with d d.log.shape flash p.stands.top p.stands.found p.stands.without m p.stands.with) p.spaced
 
 -- the length of the value that a key had
 pub old_short : (d : Parts) (flash : Flash) (m : Map) (key : Key) (value : List ℕ) (page : ℕ) (old : Option Place) → Puts d d.log.shape flash m key value page old
     → MatchOption old (Unit {0}) (λ p. p.len ≤ greatest d.log.shape)
 old_short d flash m key value page None p = tt
-old_short d flash m key value page (Some q) p = (found_place d.log.shape key q (places p.found d.log.pending) p.with.placed.places p.old_is).short
+old_short d flash m key value page (Some q) p = (found_place d.log.shape key q (places p.may.stands.found d.log.pending) p.may.stands.with.placed.places p.may.old_is).short
 
 -- ---- a key loses its value
 
-module _ (d : Parts) (flash : Flash) (m : Map) (key : Key) (old : Place) (p : Drops d d.log.shape flash m key old) where
+module _ (d : Parts) (flash : Flash) (m : Map) (key : Key) (old : Place) (p : MayTake d d.log.shape flash m key old) where
   abbrev gone : Entry
   gone = (key, None)
 
   abbrev values_before : List (Key × Place)
-  values_before = places p.found d.log.pending
+  values_before = places p.stands.found d.log.pending
 
   pub drops_held : (n : Span) → n ≡ span_of d.log.shape old → ValueHeld d.values n
   drops_held n n_is = record {
@@ -268,25 +276,25 @@ module _ (d : Parts) (flash : Flash) (m : Map) (key : Key) (old : Place) (p : Dr
     es = values_before;
     key = key;
     place = old;
-    placed = p.with.placed;
-    rising = places_rise d d.log.shape flash p.top p.found p.without m p.with;
+    placed = p.stands.with.placed;
+    rising = places_rise d d.log.shape flash p.stands.top p.stands.found p.stands.without m p.stands.with;
     found = p.old_is;
     span_is = sym n_is;
   }
 
   pub gone_short : old.len ≤ greatest d.log.shape
-  gone_short = (found_place d.log.shape key old values_before p.with.placed.places p.old_is).short
+  gone_short = (found_place d.log.shape key old values_before p.stands.with.placed.places p.old_is).short
 
   -- what the key had may go
   pub drops_leave : IsSpace (space_of key) → CanLeave d.spaces (space_of key) (charge d.log.shape old.len)
-  drops_leave own = can_leave d.log.shape (shape_is d d.log.shape flash p.top p.found p.without m p.with) d.spaces values_before key own
-      (places_rise d d.log.shape flash p.top p.found p.without m p.with) (Some old) p.old_is p.with.uses
+  drops_leave own = can_leave d.log.shape (shape_is d d.log.shape flash p.stands.top p.stands.found p.stands.without m p.stands.with) d.spaces values_before key own
+      (places_rise d d.log.shape flash p.stands.top p.stands.found p.stands.without m p.stands.with) (Some old) p.old_is p.stands.with.uses
 
   -- what is used then fits its numbers
   pub drops_fit : IsSpace (space_of key) → (space_live d.spaces (space_of key) - charge d.log.shape old.len + 0 < 2 ^ 32)
       × (space_keys d.spaces (space_of key) - value_count (charge d.log.shape old.len) + value_count 0 < 2 ^ 32)
   drops_fit own =
-      let small = spaces_small d d.log.shape flash p.top p.found p.without m p.with (space_of key) own in
+      let small = spaces_small d d.log.shape flash p.stands.top p.stands.found p.stands.without m p.stands.with (space_of key) own in
       let live = small.0 in
       let keys = small.1 in
       (omega (arith, live), omega (arith, keys))
@@ -295,36 +303,38 @@ module _ (d : Parts) (flash : Flash) (m : Map) (key : Key) (old : Place) (p : Dr
   abbrev used_then : Use
   used_then = used_after d.spaces (space_of key) (charge d.log.shape old.len) 0
 
-  places_gone : places p.found (d.log.pending ++ gone ∷ []) ≡ without key values_before
-  places_gone = ap (λ xs. placed (firsts xs)) (entries_in_order-push p.found d.log.pending gone)
-      ∙ placed-gone key (counting p.found d.log.pending) (firsts_sorted (entries_in_order p.found d.log.pending))
+  places_gone : places p.stands.found (d.log.pending ++ gone ∷ []) ≡ without key values_before
+  places_gone = ap (λ xs. placed (firsts xs)) (entries_in_order-push p.stands.found d.log.pending gone)
+      ∙ placed-gone key (counting p.stands.found d.log.pending) (firsts_sorted (entries_in_order p.stands.found d.log.pending))
 
   pub gone_agrees : (values : ValuesState) → ValuesOnFlash d.log.shape values d.pool (outputs_of d) flash (without key values_before)
-      → (at : ℕ) → values ≡ with_head d.values at 0 → LogOnFlash (pushed d.log gone) flash p.top p.found
-      → length (firsts (p.found.newest ++ (d.log.pending ++ gone ∷ []))) ≤ buffer d.log.shape
-      → DriveOnFlashWith (record d { log = pushed d.log gone; values = values; spaces = used_then }) d.log.shape flash p.top p.found p.without (remove m key)
+      → (at : ℕ) → values ≡ with_head d.values at 0 → LogOnFlash (pushed d.log gone) flash p.stands.top p.stands.found
+      → length (firsts (p.stands.found.newest ++ (d.log.pending ++ gone ∷ []))) ≤ buffer d.log.shape
+      → DriveOnFlashWith (record d { log = pushed d.log gone; values = values; spaces = used_then }) d.log.shape flash p.stands.top p.stands.found p.stands.without (remove m key)
   gone_agrees values placed_now at space_is logs room = record {
     shape_is = refl;
-    is_flash = p.with.is_flash;
-    index = index_pushed (index_of d) (frames_of d) flash p.top p.found gone p.with.index logs;
-    committed = p.with.committed;
+    is_flash = p.stands.with.is_flash;
+    index = index_pushed (index_of d) (frames_of d) flash p.stands.top p.stands.found gone p.stands.with.index logs;
+    committed = p.stands.with.committed;
     pending =
-        deletes d.log.shape flash d.log.pending p.top p.found m key p.with.pending
-        (subst (λ (ls : List ℕ). space_of key ≤ length ls) (limits_under d.log.shape flash p.top p.with.committed.is_top) p.spaced) room;
+        deletes d.log.shape flash d.log.pending p.stands.top p.stands.found m key p.stands.with.pending
+        (subst (λ (ls : List ℕ). space_of key ≤ length ls) (limits_under d.log.shape flash p.stands.top p.stands.with.committed.is_top) p.spaced) room;
     placed = subst (λ (xs : List (Key × Place)). ValuesOnFlash d.log.shape values d.pool (outputs_of d) flash xs) (sym places_gone) placed_now;
-    former = p.with.former;
-    former_read = p.with.former_read;
+    former = p.stands.with.former;
+    former_read = p.stands.with.former_read;
     reclaim =
         let R : Values → List (Key × Place) → Type 0 = λ l es. ReclaimOnFlash d.log.shape d.reclaim l d.pool flash es in
-        let now = reclaim_gone d.log.shape d.reclaim d.values.live d.pool flash values_before key (slice_set d.values.live.heads at 0) p.with.reclaim (λ k. zero_fewer d.values.live.heads at k) in
+        let now = reclaim_gone d.log.shape d.reclaim d.values.live d.pool flash values_before key (slice_set d.values.live.heads at 0)
+        p.stands.with.reclaim (λ k. zero_fewer d.values.live.heads at k) in
         subst (λ (es : List (Key × Place)). R values.live es) (sym places_gone) (subst (λ (l : Values). R l (without key values_before)) (sym (ap (λ (x : ValuesState). x.live) space_is)) now);
     uses =
         subst (IsUseOf d.log.shape used_then) (sym places_gone)
-        (use_of_gone d.log.shape (shape_is d d.log.shape flash p.top p.found p.without m p.with) d.spaces values_before key (own_space d.log.shape d.log.pending gone logs.pending_are)
-        (places_rise d d.log.shape flash p.top p.found p.without m p.with) (Some old) p.old_is p.with.uses);
+        (use_of_gone d.log.shape (shape_is d d.log.shape flash p.stands.top p.stands.found p.stands.without m p.stands.with) d.spaces values_before key
+        (own_space d.log.shape d.log.pending gone logs.pending_are)
+        (places_rise d d.log.shape flash p.stands.top p.stands.found p.stands.without m p.stands.with) (Some old) p.old_is p.stands.with.uses);
   }
 
-gone_stands_at : (d : Parts) (flash : Flash) (m : Map) (key : Key) (old : Place) → Drops d d.log.shape flash m key old
+gone_stands_at : (d : Parts) (flash : Flash) (m : Map) (key : Key) (old : Place) → MayTake d d.log.shape flash m key old
     → (log : LogState) (values : ValuesState) (n : Span) → Noted d (key, None) log → n ≡ span_of d.log.shape old
     → values ≡ with_head d.values n.page 0
     → ((h : ValueHeld d.values n) → ValuesOnFlash h.shape values h.pool h.outputs h.flash (without h.key h.es))
@@ -332,25 +342,26 @@ gone_stands_at : (d : Parts) (flash : Flash) (m : Map) (key : Key) (old : Place)
 unfolding drops_held
 gone_stands_at d flash m key old p log values n noted n_is space_is removed =
     let e : Entry = (key, None) in
+    let st = p.stands in
     let placed_now = removed (drops_held d flash m key old p n n_is) in
-    let logs : LogOnFlash (pushed d.log e) flash p.top p.found = subst (λ (l : LogState). LogOnFlash l flash p.top p.found) noted.pushed_is (noted.stands flash p.top p.found p.with.index.logs) in
+    let logs : LogOnFlash (pushed d.log e) flash st.top st.found = subst (λ (l : LogState). LogOnFlash l flash st.top st.found) noted.pushed_is (noted.stands flash st.top st.found st.with.index.logs) in
     let there : StandsFor (record d { log = pushed d.log e; values = values; spaces = used_after d.spaces (space_of key) (charge d.log.shape old.len) 0 }) d.log.shape flash (remove m key) = record {
-      top = p.top;
-      found = p.found;
-      without = p.without;
-      with = gone_agrees d flash m key old p values placed_now n.page space_is logs (noted.fits_in flash p.top p.found p.with.index.logs);
-      whole = whole_like d (record d { log = pushed d.log e; values = values; spaces = used_after d.spaces (space_of key) (charge d.log.shape old.len) 0 }) refl (λ none. none) refl refl p.whole;
+      top = st.top;
+      found = st.found;
+      without = st.without;
+      with = gone_agrees d flash m key old p values placed_now n.page space_is logs (noted.fits_in flash st.top st.found st.with.index.logs);
+      whole = whole_like d (record d { log = pushed d.log e; values = values; spaces = used_after d.spaces (space_of key) (charge d.log.shape old.len) 0 }) refl (λ none. none) refl refl st.whole;
     } in
     subst (λ (l : LogState). StandsFor (record d { log = l; values = values; spaces = used_after d.spaces (space_of key) (charge d.log.shape old.len) 0 }) d.log.shape flash (remove m key)) (sym noted.pushed_is) there
 
-pub gone_stands : (d : Parts) (shape : Shape) (flash : Flash) (m : Map) (key : Key) (old : Place) → Drops d shape flash m key old
+pub gone_stands : (d : Parts) (shape : Shape) (flash : Flash) (m : Map) (key : Key) (old : Place) → MayTake d shape flash m key old
     → (log : LogState) (values : ValuesState) (spaces : Use) (n : Span) → Noted d (key, None) log → n ≡ span_of d.log.shape old
     → values ≡ with_head d.values n.page 0
     → ((h : ValueHeld d.values n) → ValuesOnFlash h.shape values h.pool h.outputs h.flash (without h.key h.es))
     → spaces ≡ used_after d.spaces (space_of key) (charge d.log.shape old.len) 0
     → StandsFor (record d { log = log; values = values; spaces = spaces }) shape flash (remove m key)
 gone_stands d shape flash m key old p log values spaces n noted n_is space_is removed used_is =
-    let is : d.log.shape ≡ shape = p.with.shape_is in
-    let own = gone_stands_at d flash m key old (subst (λ (s : Shape). Drops d s flash m key old) (sym is) p) log values n noted n_is space_is removed in
+    let is : d.log.shape ≡ shape = p.stands.with.shape_is in
+    let own = gone_stands_at d flash m key old (subst (λ (s : Shape). MayTake d s flash m key old) (sym is) p) log values n noted n_is space_is removed in
     subst (λ (s : Shape). StandsFor (record d { log = log; values = values; spaces = spaces }) s flash (remove m key)) is
     (subst (λ (u : Use). StandsFor (record d { log = log; values = values; spaces = u }) d.log.shape flash (remove m key)) (sym used_is) own)

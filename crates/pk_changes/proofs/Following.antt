@@ -3,13 +3,13 @@ use Rattle.std.proofs.Common.{◌≡◌, ℕ, ◌<◌, ◌≤◌, sym, ap, subst
 use Rattle.std.specs.{Prelude.IfErr, Prelude.OnOk, FinMap.insert, FinMap.remove}
 use Rattle.pk_base.{specs.Entry.Place, specs.Shape.Shape, specs.Shape.charge, specs.Shape.greatest, specs.Shape.page_entries, specs.Key.Key, specs.Map.Map}
 use Rattle.pk_nand.{specs.declared.types.Fault.Fault, specs.declared.types.Fault.TheVariants.Reading, specs.declared.types.Fault.TheVariants.Stopped, specs.BoardState.BoardState, specs.Calls.IsReady}
-use Rattle.pk_model.{specs.Steps.Step, specs.Growth.Goes, specs.Crashes.CrashFinds, specs.Crashes.change}
+use Rattle.pk_model.{specs.Crashes.change}
 use Rattle.pk_parts.{specs.Parts.Parts, specs.Parts.frames_of, specs.Moves.KeepsAll, specs.Moves.BreaksAll, specs.Moves.OnlyCommits, specs.Moves.LeavesValues, specs.Moves.StandsFor}
 use Rattle.pk_parts.{specs.Moves.Keeps, proofs.Keeping.board_has}
 use Rattle.pk_background.{specs.Emptying.StepOrRead, specs.Emptying.KeepsOrReads, specs.Emptying.OnRunning, specs.Spacing.needs, proofs.Steps.shape_committed}
 use Rattle.pk_background.proofs.ReadSteps.{Passes, reading_passes, reads_nothing, reading_failed, reading_then, running_ok}
-use Rattle.pk_changes.specs.Changes.{MayPut, MayTake, Changes, PutsAll, FailsToPut, TakesAll, FailsToTake, CanPut, CanTake, StepPuts, StepTakes, PutsOrReads, TakesOrReads, StaysBetween}
-use Rattle.pk_changes.proofs.Putting.{may_put_after, may_take_after, reclaim_same, put_broken, take_broken, later_reaches, later_goes}
+use Rattle.pk_changes.specs.Changes.{MayPut, MayTake, ChangesAll, FailsToChange, StepChanges, StepsChange, CanPut, CanTake, StepPuts, StepTakes, PutsOrReads, TakesOrReads, StaysBetween}
+use Rattle.pk_changes.proofs.Putting.{may_put_after, may_take_after, reclaim_same, change_broken, later_reaches, later_goes}
 
 -- ---- what a drive runs by
 
@@ -99,31 +99,25 @@ module _ {a b : Parts} {n : ℕ} {s0 s1 : BoardState} {u : Unit {0}} (leaves : L
     -- a change of the map, by what it asks before the step that keeps it, and what after
     module _ (changed : Map → Map) (Before After : Shape → Map → Type 0) (stands : (shape : Shape) (m : Map) → Before shape m → StandsFor a shape s0.pages m)
         (after : (shape : Shape) (m : Map) → s0.shape ≡ Some shape → Before shape m → Keeps a b shape m s0 s1 → After shape m) where
-      abbrev AllMade : (Shape → Map → Type 0) → BoardState → Type 0
-      AllMade May s = (shape : Shape) (m : Map) → May shape m → Changes e shape m (changed m) s s2
-
-      abbrev AllFail : (Shape → Map → Type 0) → BoardState → Type 0
-      AllFail May s = (shape : Shape) (m : Map) → May shape m → Goes shape s s2 (CrashFinds shape (change (changed m)) s.pages m)
-
-      change_made : AllMade After s1 → AllMade Before s0
-      change_made changes shape m may =
+      made_later : ChangesAll After changed e s1 s2 → ChangesAll Before changed e s0 s2
+      made_later changes shape m may =
           let one = keeps shape m (stands shape m may) in
           let has = board_has a s0 shape m ready (stands shape m may) in
           let later = changes shape m (after shape m has may one) in
           record { stands = later.stands; cuts = later_reaches shape s0 s1 has m (changed m) one.cuts one.still s2 later.cuts }
 
-      change_failed : AllFail After s1 → AllFail Before s0
-      change_failed fails shape m may =
+      failed_later : FailsToChange After changed s1 s2 → FailsToChange Before changed s0 s2
+      failed_later fails shape m may =
           let one = keeps shape m (stands shape m may) in
           let has = board_has a s0 shape m ready (stands shape m may) in
           later_goes shape s0 s1 has m (changed m) one.cuts one.still s2 (fails shape m (after shape m has may one))
 
-      step_later : Step (λ (x : Unit). AllMade After s1) (AllFail After s1) b.log.shape 0 s1 s2 r → StepOrRead (λ (x : Unit). AllMade Before s0) (KeepsAll a e s0 s2) (AllFail Before s0) a.log.shape n s0 s2 r
+      step_later : StepChanges After changed b e 0 s1 s2 r → StepsChange Before changed a e n s0 s2 r
       step_later second =
-          reading_then r (λ (x : Unit). AllMade After s1) (λ (x : Unit). AllMade Before s0) ⊥ (KeepsAll a e s0 s2) (AllFail After s1) (AllFail Before s0)
-          a.log.shape n 0 n s0 s1 s2 (omega arith) made (λ x. change_made) (λ none. absurd none) change_failed
-          (subst (λ (s : Shape). StepOrRead (λ (x : Unit). AllMade After s1) ⊥ (AllFail After s1) s 0 s1 s2 r) leaves.same_shape
-          (reads_nothing r (λ (x : Unit). AllMade After s1) ⊥ (AllFail After s1) b.log.shape 0 s1 s2 second))
+          reading_then r (λ (x : Unit). ChangesAll After changed e s1 s2) (λ (x : Unit). ChangesAll Before changed e s0 s2) ⊥ (KeepsAll a e s0 s2)
+          (FailsToChange After changed s1 s2) (FailsToChange Before changed s0 s2) a.log.shape n 0 n s0 s1 s2 (omega arith) made (λ x. made_later) (λ none. absurd none) failed_later
+          (subst (λ (s : Shape). StepOrRead (λ (x : Unit). ChangesAll After changed e s1 s2) ⊥ (FailsToChange After changed s1 s2) s 0 s1 s2 r) leaves.same_shape
+          (reads_nothing r (λ (x : Unit). ChangesAll After changed e s1 s2) ⊥ (FailsToChange After changed s1 s2) b.log.shape 0 s1 s2 second))
 
     pub step_puts_later : (key : Key) (value : List ℕ) (place : Option Place) → StepPuts b e 0 s1 s2 key value place r → PutsOrReads a e n s0 s2 key value place r
     step_puts_later key value place =
@@ -137,14 +131,8 @@ module _ {a b : Parts} {n : ℕ} {s0 s1 : BoardState} {u : Unit {0}} (leaves : L
 
 -- ---- room could not be made
 
-module _ (e : Fault) (a b : Parts) (n : ℕ) (s0 s1 : BoardState) (ready : IsReady s0 a.log.shape) (step : KeepsOrReads {T = Unit {0}} a b n s0 s1 (Err e)) where
-  pub put_failed_before : (key : Key) (value : List ℕ) (place : Option Place) → PutsOrReads a b n s0 s1 key value place (Err e)
-  put_failed_before key value place =
-      reading_failed e (λ (x : Unit). KeepsAll a b s0 s1) (λ (x : Unit). PutsAll a b s0 s1 key value place)
-      (KeepsAll a b s0 s1) (KeepsAll a b s0 s1) (BreaksAll a s0 s1) (FailsToPut a s0 s1 key value place)
-      a.log.shape n n s0 s1 (omega arith) (λ kept. kept) (put_broken a s0 s1 key value place ready) step
-
-  pub take_failed_before : (key : Key) (place : Place) → TakesOrReads a b n s0 s1 key place (Err e)
-  take_failed_before key place =
-      reading_failed e (λ (x : Unit). KeepsAll a b s0 s1) (λ (x : Unit). TakesAll a b s0 s1 key place) (KeepsAll a b s0 s1) (KeepsAll a b s0 s1) (BreaksAll a s0 s1) (FailsToTake a s0 s1 key place)
-      a.log.shape n n s0 s1 (omega arith) (λ kept. kept) (take_broken a s0 s1 key place ready) step
+pub failed_before : (e : Fault) (a b : Parts) (n : ℕ) (s0 s1 : BoardState) → IsReady s0 a.log.shape → KeepsOrReads {T = Unit {0}} a b n s0 s1 (Err e)
+    → (changed : Map → Map) (May : Shape → Map → Type 0) → ((shape : Shape) (m : Map) → May shape m → StandsFor a shape s0.pages m) → StepsChange May changed a b n s0 s1 (Err e)
+failed_before e a b n s0 s1 ready step changed May stands =
+    reading_failed e (λ (x : Unit). KeepsAll a b s0 s1) (λ (x : Unit). ChangesAll May changed b s0 s1) (KeepsAll a b s0 s1) (KeepsAll a b s0 s1) (BreaksAll a s0 s1) (FailsToChange May changed s0 s1)
+    a.log.shape n n s0 s1 (omega arith) (λ kept. kept) (change_broken a b s0 s1 ready changed May stands) step

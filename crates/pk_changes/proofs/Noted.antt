@@ -31,11 +31,11 @@ pub put_noted : (d : Parts) (flash : Flash) (m : Map) (k : Key) (value : List �
     → log' ≡ pushed d.log (k, Some (record { page = page; len = len })) → space'.open_block ≡ d.values.open_block → IsNoted (record d { log = log'; values = space'; spaces = spaces' }) k
 put_noted d flash m k value page len old log' space' spaces' is_len p is same =
     let T : LogState → Type 0 = λ l. IsNoted (record d { log = l; values = space'; spaces = spaces' }) k in
-    let some = charge_some d.log.shape p.with.placed.is_shape (length value) in
+    let some = charge_some d.log.shape p.may.stands.with.placed.is_shape (length value) in
     subst T (sym is) (record {
       place = record { page = page; len = len };
       found = found_in k (record { page = page; len = len }) d.log.active.entries;
-      in_open = ap block_if_open same ∙ open_is d.log.shape d.pool flash d.values.open_block page (charge d.log.shape (length value)) p.with.placed.open_is p.in_open some;
+      in_open = ap block_if_open same ∙ open_is d.log.shape d.pool flash d.values.open_block page (charge d.log.shape (length value)) p.may.stands.with.placed.open_is p.in_open some;
     })
   where
     found_in : (k : Key) (place : Place) (es : List Entry) → find key_cmp k (put key_cmp k (Some place) es) ≡ Some (Some place)

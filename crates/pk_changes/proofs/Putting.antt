@@ -1,17 +1,17 @@
 -- A key gets a value, or loses its own: the steps of that, one after another.
-use Rattle.std.proofs.Common.{◌≡◌, inl, inr, ℕ, ◌≤◌, refl, sym, ap, subst, ◌∙◌, List, [], ◌++◌, length, Bool, Option, Some, Result, Ok, Err}
-use Rattle.std.{specs.Prelude.OnOk, specs.Prelude.OnErr, specs.FinMap.insert, specs.FinMap.remove, specs.FinMap.Entries.find}
+use Rattle.std.proofs.Common.{◌≡◌, inl, inr, ℕ, ◌≤◌, refl, sym, ap, subst, ◌∙◌, List, [], ◌++◌, length, Bool, Option, Some}
+use Rattle.std.{specs.FinMap.insert, specs.FinMap.Entries.find}
 use Rattle.pk_base.{specs.Entry.Place, specs.Key.Key, specs.Key.key_cmp, specs.Key.space_of, specs.Shape.Shape, specs.Shape.charge, specs.Page.Flash, specs.EntryChecks.IsPlace, specs.Mark.all_posted}
 use Rattle.pk_base.specs.Map.{Map, live}
 use Rattle.pk_plan.specs.declared.owner.Owner.TheVariants.{Values as for_values}
-use Rattle.pk_nand.{specs.declared.types.Fault.Fault, specs.BoardState.BoardState, specs.Calls.IsReady}
+use Rattle.pk_nand.{specs.BoardState.BoardState, specs.Calls.IsReady}
 use Rattle.pk_pool.specs.Blocks.{used_by}
 use Rattle.pk_model.{specs.Growth.Reaches, specs.Growth.Goes, specs.Crashes.CrashFinds, specs.Crashes.commit, specs.Crashes.change}
 use Rattle.pk_model.{specs.Spaces.in_space, specs.Spaces.limit_of, specs.Spaces.limits_at, proofs.Growing.at_end, proofs.Growing.Reaches-then, proofs.Growing.Goes-then, proofs.Growing.reached_limits}
 use Rattle.pk_values.{specs.State.needs_reclaim, specs.Entries.IsInOpen}
 use Rattle.pk_parts.{specs.Parts.Parts, specs.Moves.StandsFor, specs.Moves.Keeps, specs.Moves.KeepsAll, specs.Moves.BreaksAll, specs.Moves.IsWritten, proofs.Keeping.board_has}
-use Rattle.pk_changes.{specs.Noting.Puts, specs.Noting.Drops, proofs.Changing.IsStill, proofs.Changing.kept_reaches, proofs.Changing.kept_goes, proofs.Changing.taken_reaches, proofs.Changing.taken_goes}
-use Rattle.pk_changes.specs.Changes.{HasRoomFor, MayPut, MayTake, PutsAll, FailsToPut, TakesAll, FailsToTake}
+use Rattle.pk_changes.{specs.Noting.Puts, proofs.Changing.IsStill, proofs.Changing.kept_reaches, proofs.Changing.kept_goes, proofs.Changing.taken_reaches, proofs.Changing.taken_goes}
+use Rattle.pk_changes.specs.Changes.{HasRoomFor, MayPut, MayTake, ChangesAll, FailsToChange}
 
 -- ---- a step that keeps the map leaves what a change requires
 
@@ -81,112 +81,54 @@ module _ (shape : Shape) (s0 s1 : BoardState) (has : s0.shape ≡ Some shape) (m
   pub change_goes : (s2 : BoardState) → Goes shape s1 s2 (CrashFinds shape commit s1.pages m') → Goes shape s0 s2 (CrashFinds shape (change m') s0.pages m)
   change_goes s2 second = later_goes s2 (taken_goes shape s1 s2 m m' second)
 
--- the step that was to keep the map stopped the drive
-pub put_broken : (a : Parts) (s0 s1 : BoardState) (key : Key) (value : List ℕ) (place : Option Place) → IsReady s0 a.log.shape → BreaksAll a s0 s1 → FailsToPut a s0 s1 key value place
-put_broken a s0 s1 key value place ready breaks shape m may = kept_goes shape s0 s1 (board_has a s0 shape m ready may.stands) m (insert m key value) (breaks shape m may.stands)
+-- ---- a change of the map, by what it asks
 
-pub take_broken : (a : Parts) (s0 s1 : BoardState) (key : Key) (place : Place) → IsReady s0 a.log.shape → BreaksAll a s0 s1 → FailsToTake a s0 s1 key place
-take_broken a s0 s1 key place ready breaks shape m may = kept_goes shape s0 s1 (board_has a s0 shape m ready may.stands) m (remove m key) (breaks shape m may.stands)
+module _ (a b : Parts) (s0 s1 : BoardState) (ready : IsReady s0 a.log.shape) (changed : Map → Map) (May : Shape → Map → Type 0)
+    (stands : (shape : Shape) (m : Map) → May shape m → StandsFor a shape s0.pages m) where
+  -- the step that was to keep the map stopped the drive
+  pub change_broken : BreaksAll a s0 s1 → FailsToChange May changed s0 s1
+  change_broken breaks shape m may = let was = stands shape m may in kept_goes shape s0 s1 (board_has a s0 shape m ready was) m (changed m) (breaks shape m was)
+
+  -- a step that keeps the map, the change in memory, and a step that keeps the map after it
+  module _ (c : Parts) (s2 : BoardState) (keeps : KeepsAll a b s0 s1) (noted : (shape : Shape) (m : Map) → May shape m → StandsFor c shape s1.pages (changed m)) where
+    pub change_made : (e : Parts) → KeepsAll c e s1 s2 → ChangesAll May changed e s0 s2
+    change_made e kept shape m may =
+        let was = stands shape m may in
+        let one = keeps shape m was in
+        let two = kept shape (changed m) (noted shape m may) in
+        record { stands = two.stands; cuts = changes shape s0 s1 (board_has a s0 shape m ready was) m (changed m) one.cuts one.still s2 two.cuts }
+
+    pub change_failed : BreaksAll c s1 s2 → FailsToChange May changed s0 s2
+    change_failed breaks shape m may =
+        let was = stands shape m may in
+        let one = keeps shape m was in
+        change_goes shape s0 s1 (board_has a s0 shape m ready was) m (changed m) one.cuts one.still s2 (breaks shape (changed m) (noted shape m may))
+
+-- for some map
+pub some_changed : (a c : Parts) (s0 : BoardState) (flash : Flash) (changed : Map → Map) (May : Shape → Map → Type 0) → c.log.shape ≡ a.log.shape → (m : Map) × May a.log.shape m
+    → ((shape : Shape) (m : Map) → May shape m → StandsFor c shape flash (changed m)) → (m : Map) × StandsFor c c.log.shape flash m
+some_changed a c s0 flash changed May same may noted = (changed may.0, subst (λ (s : Shape). StandsFor c s flash (changed may.0)) (sym same) (noted a.log.shape may.0 may.1))
 
 -- ---- a value was written, its entry noted, and a commit made if the page is full
 
-pub puts_of : (b : Parts) (its shape : Shape) (flash : Flash) (m : Map) (key : Key) (value : List ℕ) (page : ℕ) (old : Option Place) → its ≡ shape → MayPut b shape flash m key value old
-    → IsWritten b its flash key value page → IsPlace its (record { page = page; len = length value }) → IsInOpen its b.values page (charge its (length value)) → Puts b shape flash m key value page old
-puts_of b its shape flash m key value page old same may written place in_open = record {
-  top = may.stands.top;
-  found = may.stands.found;
-  without = may.stands.without;
-  with = may.stands.with;
-  whole = may.stands.whole;
-  old_is = may.old_is;
-  written = subst (λ (s : Shape). IsWritten b s flash key value page) same written;
-  place = subst (λ (s : Shape). IsPlace s (record { page = page; len = length value })) same place;
-  in_open = subst (λ (s : Shape). IsInOpen s b.values page (charge s (length value))) same in_open;
-  bytes = may.bytes;
-  room = may.room;
-}
-
-pub drops_of : (d : Parts) (shape : Shape) (flash : Flash) (m : Map) (key : Key) (old : Place) → MayTake d shape flash m key old → Drops d shape flash m key old
-drops_of d shape flash m key old may = record {
-  top = may.stands.top;
-  found = may.stands.found;
-  without = may.stands.without;
-  with = may.stands.with;
-  whole = may.stands.whole;
-  old_is = may.old_is;
-  bytes = may.bytes;
-  spaced = may.spaced;
-}
-
--- for some map
-pub some_puts : (a b : Parts) (s0 s1 : BoardState) (key : Key) (value : List ℕ) (page : ℕ) (old : Option Place) → IsReady s0 a.log.shape
-    → (m : Map) × MayPut a a.log.shape s0.pages m key value old → KeepsAll a b s0 s1 → b.log.shape ≡ a.log.shape
-    → IsWritten b a.log.shape s1.pages key value page → IsPlace a.log.shape (record { page = page; len = length value }) → IsInOpen a.log.shape b.values page (charge a.log.shape (length value))
-    → (flash : Flash) × (m : Map) × (x : List ℕ) × (length x ≡ length value) × Puts b b.log.shape flash m key x page old
-some_puts a b s0 s1 key value page old ready may keeps same written place in_open =
-    let mid = may_put_after a b a.log.shape may.0 s0 s1 key value old ready.shape_is may.1 (keeps a.log.shape may.0 may.1.stands) in (
-      s1.pages,
-      may.0,
-      value,
-      refl,
-      subst (λ (s : Shape). Puts b s s1.pages may.0 key value page old) (sym same)
-          (puts_of b a.log.shape a.log.shape s1.pages may.0 key value page old refl mid written place in_open),
-    )
-
-pub some_drops : (a : Parts) (s0 : BoardState) (key : Key) (old : Place) → (m : Map) × MayTake a a.log.shape s0.pages m key old → (flash : Flash) × (m : Map) × Drops a a.log.shape flash m key old
-some_drops a s0 key old may = (s0.pages, may.0, drops_of a a.log.shape s0.pages may.0 key old may.1)
-
--- a drive represents some map after the entry
-pub some_put : (a b c : Parts) (s0 s1 : BoardState) (key : Key) (value : List ℕ) (page : ℕ) (old : Option Place) → IsReady s0 a.log.shape
-    → (m : Map) × MayPut a a.log.shape s0.pages m key value old → KeepsAll a b s0 s1 → b.log.shape ≡ a.log.shape → c.log.shape ≡ b.log.shape
-    → IsWritten b a.log.shape s1.pages key value page → IsPlace a.log.shape (record { page = page; len = length value }) → IsInOpen a.log.shape b.values page (charge a.log.shape (length value))
-    → ((shape : Shape) (flash : Flash) (m : Map) → Puts b shape flash m key value page old → StandsFor c shape flash (insert m key value))
-    → (m : Map) × StandsFor c c.log.shape s1.pages m
-some_put a b c s0 s1 key value page old ready may keeps same same' written place in_open noted =
-    let one = keeps a.log.shape may.0 may.1.stands in
-    let mid = may_put_after a b a.log.shape may.0 s0 s1 key value old ready.shape_is may.1 one in (
-      insert may.0 key value,
-      subst (λ (s : Shape). StandsFor c s s1.pages (insert may.0 key value)) (sym same ∙ sym same')
-          (noted a.log.shape s1.pages may.0 (puts_of b a.log.shape a.log.shape s1.pages may.0 key value page old refl mid written place in_open)),
-    )
-
-module _ (a b c : Parts) (s0 s1 : BoardState) (key : Key) (value : List ℕ) (page : ℕ) (old : Option Place) (ready : IsReady s0 a.log.shape) (keeps : KeepsAll a b s0 s1)
+module _ (a b : Parts) (s0 s1 : BoardState) (key : Key) (value : List ℕ) (page : ℕ) (old : Option Place) (ready : IsReady s0 a.log.shape) (keeps : KeepsAll a b s0 s1)
     (written : IsWritten b a.log.shape s1.pages key value page) (place : IsPlace a.log.shape (record { page = page; len = length value }))
-    (in_open : IsInOpen a.log.shape b.values page (charge a.log.shape (length value)))
-    (noted : (shape : Shape) (flash : Flash) (m : Map) → Puts b shape flash m key value page old → StandsFor c shape flash (insert m key value)) where
-  there : (shape : Shape) (m : Map) → MayPut a shape s0.pages m key value old → StandsFor c shape s1.pages (insert m key value)
-  there shape m may =
-      let mid = may_put_after a b shape m s0 s1 key value old (board_has a s0 shape m ready may.stands) may (keeps shape m may.stands) in
-      noted shape s1.pages m (puts_of b a.log.shape shape s1.pages m key value page old may.stands.with.shape_is mid written place in_open)
+    (in_open : IsInOpen a.log.shape b.values page (charge a.log.shape (length value))) where
+  puts : (shape : Shape) (m : Map) → MayPut a shape s0.pages m key value old → Puts b shape s1.pages m key value page old
+  puts shape m may =
+      let same = may.stands.with.shape_is in
+      record {
+        may = may_put_after a b shape m s0 s1 key value old (board_has a s0 shape m ready may.stands) may (keeps shape m may.stands);
+        written = subst (λ (s : Shape). IsWritten b s s1.pages key value page) same written;
+        place = subst (λ (s : Shape). IsPlace s (record { page = page; len = length value })) same place;
+        in_open = subst (λ (s : Shape). IsInOpen s b.values page (charge s (length value))) same in_open;
+      }
 
-  pub put_changed : (r : Result Unit Fault) (e : Parts) (s2 : BoardState) → OnOk r (KeepsAll c e s1 s2) → OnOk r (PutsAll a e s0 s2 key value old)
-  put_changed (Ok x) e s2 kept = λ shape m may.
-      let one = keeps shape m may.stands in
-      let two = kept shape (insert m key value) (there shape m may) in
-      record { stands = two.stands; cuts = changes shape s0 s1 (board_has a s0 shape m ready may.stands) m (insert m key value) one.cuts one.still s2 two.cuts }
-  put_changed (Err f) e s2 kept = tt
+  pub some_puts : (m : Map) × MayPut a a.log.shape s0.pages m key value old → b.log.shape ≡ a.log.shape
+      → (flash : Flash) × (m : Map) × (x : List ℕ) × (length x ≡ length value) × Puts b b.log.shape flash m key x page old
+  some_puts may same = (s1.pages, may.0, value, refl, subst (λ (s : Shape). Puts b s s1.pages may.0 key value page old) (sym same) (puts a.log.shape may.0 may.1))
 
-  pub put_failed : (r : Result Unit Fault) (s2 : BoardState) → OnErr r (BreaksAll c s1 s2) → OnErr r (FailsToPut a s0 s2 key value old)
-  put_failed (Ok x) s2 breaks = tt
-  put_failed (Err f) s2 breaks = λ shape m may.
-      let one = keeps shape m may.stands in
-      change_goes shape s0 s1 (board_has a s0 shape m ready may.stands) m (insert m key value) one.cuts one.still s2 (breaks shape (insert m key value) (there shape m may))
-
--- ---- a key lost its value: only in memory, and a commit if the page is full
-
-module _ (a c : Parts) (s0 : BoardState) (key : Key) (old : Place) (ready : IsReady s0 a.log.shape)
-    (noted : (shape : Shape) (flash : Flash) (m : Map) → Drops a shape flash m key old → StandsFor c shape flash (remove m key)) where
-  pub some_taken : (m : Map) × MayTake a a.log.shape s0.pages m key old → c.log.shape ≡ a.log.shape → (m : Map) × StandsFor c c.log.shape s0.pages m
-  some_taken may same =
-      (remove may.0 key, subst (λ (s : Shape). StandsFor c s s0.pages (remove may.0 key)) (sym same) (noted a.log.shape s0.pages may.0 (drops_of a a.log.shape s0.pages may.0 key old may.1)))
-
-  pub take_changed : (r : Result Unit Fault) (e : Parts) (s2 : BoardState) → OnOk r (KeepsAll c e s0 s2) → OnOk r (TakesAll a e s0 s2 key old)
-  take_changed (Ok x) e s2 kept = λ shape m may.
-      let two = kept shape (remove m key) (noted shape s0.pages m (drops_of a shape s0.pages m key old may)) in
-      record { stands = two.stands; cuts = taken_reaches shape s0 s2 m (remove m key) two.cuts }
-  take_changed (Err f) e s2 kept = tt
-
-  pub take_failed : (r : Result Unit Fault) (s2 : BoardState) → OnErr r (BreaksAll c s0 s2) → OnErr r (FailsToTake a s0 s2 key old)
-  take_failed (Ok x) s2 breaks = tt
-  take_failed (Err f) s2 breaks = λ shape m may.
-      taken_goes shape s0 s2 m (remove m key) (breaks shape (remove m key) (noted shape s0.pages m (drops_of a shape s0.pages m key old may)))
+  -- the drive represents the map after the entry
+  pub put_noted_so : (c : Parts) → ((shape : Shape) (flash : Flash) (m : Map) → Puts b shape flash m key value page old → StandsFor c shape flash (insert m key value))
+      → (shape : Shape) (m : Map) → MayPut a shape s0.pages m key value old → StandsFor c shape s1.pages (insert m key value)
+  put_noted_so c noted shape m may = noted shape s1.pages m (puts shape m may)

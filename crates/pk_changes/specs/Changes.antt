@@ -1,13 +1,13 @@
 -- A change of the map: a key gets a value, or loses its own.
-use Rattle.std.specs.Prelude.{◌≡◌, ◌≤◌, ◌<◌, ℕ, List, length, Option, Some, Result}
+use Rattle.std.specs.Prelude.{◌≡◌, ◌≤◌, ◌<◌, ℕ, List, length, Option, Some, Result, OnOk}
 use Rattle.std.{specs.FinMap.insert, specs.FinMap.remove, specs.FinMap.Entries.find}
 use Rattle.pk_base.{specs.Entry.Place, specs.Fields.AreBytes, specs.Key.Key, specs.Key.key_cmp, specs.Key.space_of, specs.Page.Flash, specs.Map.Map, specs.Map.live}
 use Rattle.pk_base.specs.Shape.{Shape, limit, greatest, page_entries}
 use Rattle.pk_nand.{specs.BoardState.BoardState, specs.declared.types.Fault.Fault, specs.Calls.IsReady}
 use Rattle.pk_model.{specs.Steps.Step, specs.Spaces.in_space, specs.Spaces.limit_of, specs.Spaces.limits_at, specs.Growth.Reaches, specs.Growth.Goes, specs.Crashes.CrashFinds, specs.Crashes.change}
 use Rattle.pk_law_steps.specs.Under.{places}
-use Rattle.pk_parts.{specs.Parts.Parts, specs.Parts.frames_of, specs.Moves.StandsFor, specs.Moves.KeepsAll}
-use Rattle.pk_background.specs.Emptying.{StepOrRead}
+use Rattle.pk_parts.{specs.Parts.Parts, specs.Parts.frames_of, specs.Moves.StandsFor, specs.Moves.KeepsAll, specs.Staying.StaysOrOpens, specs.Staying.IsNoted, specs.Stopping.StoppedOn}
+use Rattle.pk_background.specs.Emptying.{StepOrRead, OnRunning}
 
 -- There is room for a value of a key: the key is of a namespace of the drive, whose live pages are within its limit with the value, and all
 -- live pages are within theirs.
@@ -35,23 +35,13 @@ pub record Changes (after : Parts) (shape : Shape) (m m' : Map) (old new : Board
   pub stands : StandsFor after shape new.pages m'
   pub cuts : Reaches shape old new (CrashFinds shape (change m') old.pages m)
 
--- for every map in which the key may get the value
-abbrev pub PutsAll : Parts → Parts → BoardState → BoardState → Key → List ℕ → Option Place → Type 0
-PutsAll before after old new key value place =
-    (shape : Shape) (m : Map) → MayPut before shape old.pages m key value place → Changes after shape m (insert m key value) old new
+-- the map changes so, wherever it may
+abbrev pub ChangesAll : (Shape → Map → Type 0) → (Map → Map) → Parts → BoardState → BoardState → Type 0
+ChangesAll May changed after old new = (shape : Shape) (m : Map) → May shape m → Changes after shape m (changed m) old new
 
 -- the same of a call that stopped the drive
-abbrev pub FailsToPut : Parts → BoardState → BoardState → Key → List ℕ → Option Place → Type 0
-FailsToPut before old new key value place =
-    (shape : Shape) (m : Map) → MayPut before shape old.pages m key value place → Goes shape old new (CrashFinds shape (change (insert m key value)) old.pages m)
-
--- for every map from which the key may be taken
-abbrev pub TakesAll : Parts → Parts → BoardState → BoardState → Key → Place → Type 0
-TakesAll before after old new key place = (shape : Shape) (m : Map) → MayTake before shape old.pages m key place → Changes after shape m (remove m key) old new
-
--- the same of a call that stopped the drive
-abbrev pub FailsToTake : Parts → BoardState → BoardState → Key → Place → Type 0
-FailsToTake before old new key place = (shape : Shape) (m : Map) → MayTake before shape old.pages m key place → Goes shape old new (CrashFinds shape (change (remove m key)) old.pages m)
+abbrev pub FailsToChange : (Shape → Map → Type 0) → (Map → Map) → BoardState → BoardState → Type 0
+FailsToChange May changed old new = (shape : Shape) (m : Map) → May shape m → Goes shape old new (CrashFinds shape (change (changed m)) old.pages m)
 
 -- ---- steps
 
@@ -68,25 +58,33 @@ pub record CanTake (d : Parts) (board : BoardState) (key : Key) (place : Place) 
   pub may : (m : Map) × MayTake d d.log.shape board.pages m key place
   pub few : length d.log.pending < page_entries d.log.shape
 
--- a step that gives the key its value
+-- A step that changes the map so, or fails by a call that stops the drive.
+abbrev pub StepChanges : (Shape → Map → Type 0) → (Map → Map) → Parts → Parts → ℕ → BoardState → BoardState → Result Unit Fault → Type 0
+StepChanges May changed before after most old new result =
+    Step (λ (u : Unit). ChangesAll May changed after old new) (FailsToChange May changed old new) before.log.shape most old new result
+
+-- Steps that change the map so, or a read of them failed and the map is unchanged.
+abbrev pub StepsChange : (Shape → Map → Type 0) → (Map → Map) → Parts → Parts → ℕ → BoardState → BoardState → Result Unit Fault → Type 0
+StepsChange May changed before after most old new result =
+    StepOrRead (λ (u : Unit). ChangesAll May changed after old new) (KeepsAll before after old new) (FailsToChange May changed old new) before.log.shape most old new result
+
+-- the key gets its value
 abbrev pub StepPuts : Parts → Parts → ℕ → BoardState → BoardState → Key → List ℕ → Option Place → Result Unit Fault → Type 0
 StepPuts before after most old new key value place result =
-    Step (λ (u : Unit). PutsAll before after old new key value place) (FailsToPut before old new key value place) before.log.shape most old new result
+    StepChanges (λ shape m. MayPut before shape old.pages m key value place) (λ m. insert m key value) before after most old new result
 
--- a step that takes it away
-abbrev pub StepTakes : Parts → Parts → ℕ → BoardState → BoardState → Key → Place → Result Unit Fault → Type 0
-StepTakes before after most old new key place result =
-    Step (λ (u : Unit). TakesAll before after old new key place) (FailsToTake before old new key place) before.log.shape most old new result
-
--- Steps that give the key its value, or a read of them failed and the map is unchanged.
 abbrev pub PutsOrReads : Parts → Parts → ℕ → BoardState → BoardState → Key → List ℕ → Option Place → Result Unit Fault → Type 0
 PutsOrReads before after most old new key value place result =
-    StepOrRead (λ (u : Unit). PutsAll before after old new key value place) (KeepsAll before after old new) (FailsToPut before old new key value place) before.log.shape most old new result
+    StepsChange (λ shape m. MayPut before shape old.pages m key value place) (λ m. insert m key value) before after most old new result
 
--- the same of steps that take it away
+-- the key loses it
+abbrev pub StepTakes : Parts → Parts → ℕ → BoardState → BoardState → Key → Place → Result Unit Fault → Type 0
+StepTakes before after most old new key place result =
+    StepChanges (λ shape m. MayTake before shape old.pages m key place) (λ m. remove m key) before after most old new result
+
 abbrev pub TakesOrReads : Parts → Parts → ℕ → BoardState → BoardState → Key → Place → Result Unit Fault → Type 0
 TakesOrReads before after most old new key place result =
-    StepOrRead (λ (u : Unit). TakesAll before after old new key place) (KeepsAll before after old new) (FailsToTake before old new key place) before.log.shape most old new result
+    StepsChange (λ shape m. MayTake before shape old.pages m key place) (λ m. remove m key) before after most old new result
 
 -- the drive runs as before, and fewer entries are pending than a page of the journal takes
 pub record StaysBetween (before after : Parts) : Type 0 where
@@ -94,3 +92,11 @@ pub record StaysBetween (before after : Parts) : Type 0 where
   pub stopped : after.stopped ≡ before.stopped
   pub same_shape : after.log.shape ≡ before.log.shape
   pub few : length after.log.pending < page_entries before.log.shape
+
+-- What a put of a value of n pages leaves of a drive beside its map: the drive runs as before, the value is in the open block or in one that
+-- was opened, or reclaims made room, the key's entry is noted, and a failure that is not a read stopped the drive.
+pub record PutLeaves (before after : Parts) (key : Key) (count : ℕ) (result : Result Unit Fault) : Type 0 where
+  pub stays : OnRunning (StaysBetween before after) result
+  pub opens : OnRunning (StaysOrOpens before after count) result
+  pub noted : OnOk result (IsNoted after key)
+  pub stops : StoppedOn after result

@@ -1,40 +1,21 @@
 -- An entry in memory: what must hold before it, so that the drive represents the map with it afterwards.
 use Rattle.std.specs.Prelude.{◌≡◌, ℕ, ◌/◌, ◌≤◌, List, length, Option, Some, None, Result}
-use Rattle.std.specs.FinMap.Entries.{find}
-use Rattle.pk_base.{specs.Entry.Place, specs.Fields.AreBytes, specs.Key.Key, specs.Key.key_cmp, specs.Key.space_of, specs.Shape.Shape, specs.Shape.charge, specs.Page.Flash, specs.EntryChecks.IsPlace}
+use Rattle.pk_base.{specs.Entry.Place, specs.Key.Key, specs.Shape.Shape, specs.Shape.charge, specs.Page.Flash, specs.EntryChecks.IsPlace}
 use Rattle.pk_base.specs.Map.{Map}
 use Rattle.pk_rootfmt.specs.Root.{Root}
-use Rattle.pk_model.{specs.Found.Found, specs.Spaces.limits_at, specs.Steps.Step}
+use Rattle.pk_model.{specs.Found.Found, specs.Steps.Step}
 use Rattle.pk_law_steps.specs.Under.{places}
 use Rattle.pk_nand.{specs.BoardState.BoardState, specs.declared.types.Fault.Fault}
 use Rattle.pk_values.{specs.Placed.HoldsValues, specs.Entries.IsInOpen}
-use Rattle.pk_parts.{specs.Parts.Parts, specs.Agreeing.DriveOnFlashWith, specs.Agreeing.IsWhole, specs.Moves.KeepsAll, specs.Moves.BreaksAll, specs.Moves.IsWritten}
-use Rattle.pk_changes.specs.Changes.{HasRoomFor}
+use Rattle.pk_parts.{specs.Parts.Parts, specs.Agreeing.DriveOnFlashWith, specs.Moves.KeepsAll, specs.Moves.BreaksAll, specs.Moves.IsWritten}
+use Rattle.pk_changes.specs.Changes.{MayPut}
 
 -- A key is to have a value that was written into the open block and is in no map yet. Until now it had the one at old, or none.
 pub record Puts (d : Parts) (shape : Shape) (flash : Flash) (m : Map) (key : Key) (value : List ℕ) (page : ℕ) (old : Option Place) : Type 0 where
-  pub top : ℕ × Root
-  pub found : Found
-  pub without : Map
-  pub with : DriveOnFlashWith d shape flash top found without m
-  pub whole : IsWhole d
-  pub old_is : find key_cmp key (places found d.log.pending) ≡ old
+  pub may : MayPut d shape flash m key value old
   pub written : IsWritten d shape flash key value page
   pub place : IsPlace shape (record { page = page; len = length value })
   pub in_open : IsInOpen shape d.values page (charge shape (length value))
-  pub bytes : AreBytes key
-  pub room : HasRoomFor shape flash m key value
-
--- The value of a key is at this place, and the key is to be removed.
-pub record Drops (d : Parts) (shape : Shape) (flash : Flash) (m : Map) (key : Key) (old : Place) : Type 0 where
-  pub top : ℕ × Root
-  pub found : Found
-  pub without : Map
-  pub with : DriveOnFlashWith d shape flash top found without m
-  pub whole : IsWhole d
-  pub old_is : find key_cmp key (places found d.log.pending) ≡ Some old
-  pub bytes : AreBytes key
-  pub spaced : space_of key ≤ length (limits_at shape flash)
 
 -- the pages of a value at a place; none if there is none
 abbrev pub pages_at : Shape → Option Place → ℕ

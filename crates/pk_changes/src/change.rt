@@ -5,7 +5,7 @@ ghost use Rattle.pk_background.specs.Costs.{NumbersLast, Spends, place_calls, pu
 ghost use Rattle.pk_log.specs.State.{needs_freeze as needs_freeze_for};
 ghost use Rattle.pk_law_work.specs.Calls.{commit_calls, room_calls, room_roots};
 ghost use Rattle.pk_call.specs.Calling.{FewCalls};
-ghost use Rattle.pk_changes.specs.Changes.{CanPut, CanTake, StepPuts, StepTakes, PutsOrReads, TakesOrReads, StaysBetween};
+ghost use Rattle.pk_changes.specs.Changes.{CanPut, CanTake, StepPuts, StepTakes, PutsOrReads, TakesOrReads, StaysBetween, PutLeaves};
 ghost use Rattle.pk_background.specs.Emptying.{OnRunning};
 ghost use Rattle.pk_background.specs.Spacing.{needs};
 ghost use Rattle.pk_parts.specs.Staying.{Stays, StaysOrOpens, IsNoted};
@@ -82,10 +82,7 @@ pub fn put<B: Nand, A: Region>(
     // The map, and then the drive itself.
     ensures step { PutsOrReads parts.old parts.new (room_calls parts.old.log.shape)
         (B.state board.old) (B.state board.new) key value.now old result }
-    ensures stays { OnRunning (StaysBetween parts.old parts.new) result }
-    ensures opens { OnRunning (StaysOrOpens parts.old parts.new
-        (pages_for parts.old value.now)) result }
-    ensures noted { OnOk result (IsNoted parts.new key) }
+    ensures leaves { PutLeaves parts.old parts.new key (pages_for parts.old value.now) result }
     ensures programs { OnOk result (PutsQuietly parts.old key
         (pages_for parts.old value.now) (B.state board.old)
         (B.state board.new)) }
@@ -94,7 +91,6 @@ pub fn put<B: Nand, A: Region>(
     ensures spends { Spends (put_calls parts.old.log.shape
         (pages_for parts.old value.now)) room_roots (B.state board.old)
         (B.state board.new) }
-    ensures stops { StoppedOn parts.new result }
 {
     match make_room(parts, board, &key) {
         Ok(()) => put_with_room(parts, board, key, value, old, count),

@@ -7,7 +7,8 @@ ghost use Rattle.pk_base.specs.Map.{Map};
 ghost use Rattle.pk_log.specs.State.{needs_freeze as needs_freeze_for, pushed};
 ghost use Rattle.pk_values.specs.Entries.{span_of, span_if_some};
 ghost use Rattle.pk_parts.specs.Moves.{StandsFor};
-ghost use Rattle.pk_changes.specs.Noting.{Puts, Drops, pages_at as pages_at_by};
+ghost use Rattle.pk_changes.specs.Changes.{MayTake};
+ghost use Rattle.pk_changes.specs.Noting.{Puts, pages_at as pages_at_by};
 ghost use Rattle.pk_space.specs.Uses.{used_after};
 ghost use Rattle.pk_base.specs.Key.{space_of};
 ghost use Rattle.pk_parts.specs.Staying.{Stays, IsNoted};
@@ -96,7 +97,7 @@ pub(crate) fn note_gone<A: Region>(parts: &mut Parts<A>, key: Key, old: Place)
     requires room { needs_freeze_for parts.old.log key ≡ false }
     requires few { length parts.old.log.pending < spec.page_entries parts.old.log.shape }
     requires drops { (flash : Flash) × (m : Map)
-        × Drops parts.old parts.old.log.shape flash m key old }
+        × MayTake parts.old parts.old.log.shape flash m key old }
 
     // The parts, and the map that they represent.
     ensures rest { parts.new ≡ record parts.old {
@@ -106,7 +107,7 @@ pub(crate) fn note_gone<A: Region>(parts: &mut Parts<A>, key: Key, old: Place)
           (spec.charge parts.old.log.shape old.len) 0;
     } }
     ensures stands { (shape : spec.Shape) (flash : Flash) (m : Map)
-        → Drops parts.old shape flash m key old → StandsFor parts.new shape flash (remove m key) }
+        → MayTake parts.old shape flash m key old → StandsFor parts.new shape flash (remove m key) }
     ensures moves { Stays parts.old parts.new }
     ensures more { length parts.new.log.pending ≡ length parts.old.log.pending + 1 }
 {

@@ -5,7 +5,7 @@ use Rattle.pk_base.specs.Shape.{Shape, IsShape, page_entries, dense, deepest}
 use Rattle.pk_law_work.{specs.Calls.room_calls, proofs.Emptying.emptying_most}
 use Rattle.pk_nand.specs.BoardState.{BoardState}
 use Rattle.pk_model.specs.Wear.{roots, is_worn}
-use Rattle.pk_core.specs.Spacing.{store_most}
+use Rattle.pk_core.specs.Whole.{store_most}
 
 -- blocks of which each has at most as many pages as one page has entries
 few_pages : (blocks pages e : ℕ) → pages ≤ e → 0 < e → div_ceil (blocks * pages) e ≤ blocks

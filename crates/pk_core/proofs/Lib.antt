@@ -31,6 +31,7 @@ pub mod Steadying
 pub mod Settling
 pub mod Due
 pub mod Advancing
+pub mod Later
 pub mod Stored
 pub mod StoreCalls
 pub mod LookedUp

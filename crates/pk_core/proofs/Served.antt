@@ -21,12 +21,11 @@ use Rattle.pk_parts.{specs.Parts.Parts, specs.Parts.sight_of, specs.Parts.frames
 use Rattle.pk_parts.{specs.Moves.StandsFor, specs.Moves.StandsBetween, specs.Stopping.StoppedOn, specs.Quiet.ReadsOnly, specs.Quiet.Looks, proofs.OwnLimits.limits_on, proofs.Halves.between}
 use Rattle.pk_parts.{proofs.Standing.agrees_so, proofs.Unchanging.own, proofs.Unchanging.looked, proofs.Unchanging.for_its_map, proofs.Unchanging.agrees_ready}
 use Rattle.pk_core.{specs.Done.Does, specs.Done.Executes, specs.Quiet.eleven, specs.Serving.IsServable, specs.Serving.IsCounted, specs.Serving.outcome_for, proofs.Early.told_shape}
-use Rattle.pk_core.specs.Whole.{MayPutBetween, MayStoreBetween, MayTakeBetween, CanPutBetween, CanTakeBetween, SameMapBetween, StoresBetween, FailsToStoreBetween, TakesBetween, FailsToTakeBetween}
-use Rattle.pk_core.specs.Whole.{StoresWhole, TakesWhole}
+use Rattle.pk_core.specs.Whole.{MayStore, MayTakeBetween, CanStoreOver, CanTakeBetween, ChangesOrReads, StoresWhole, TakesWhole}
 use Rattle.pk_core.proofs.Unchanging.{not_read, does_none, served, unread_step, refused_step, key_there, key_missing, value_of, same_early, ok_sound, missing_sound}
 use Rattle.pk_core.{specs.LookedUp.IsLookedUp, proofs.SpaceRoom.has_room_for, proofs.Counting.live_own, proofs.Standing.still_stands, proofs.Statuses.store_refuses, proofs.Stored.reaches_behind}
 use Rattle.pk_core.{proofs.Stored.goes_behind, proofs.Executing.executes_quiet, proofs.Executing.never}
-use Rattle.pk_background.{specs.Emptying.Unread, specs.Emptying.Halts, specs.Emptying.OnRunning, specs.Emptying.StepOrRead, specs.Spacing.SameMap}
+use Rattle.pk_background.{specs.Emptying.Unread, specs.Emptying.Halts, specs.Emptying.OnRunning}
 use Rattle.pk_changes.{specs.Changes.Changes, specs.Changes.StaysBetween, specs.Noting.pages_at}
 use Rattle.pk_space.specs.Uses.{space_live}
 
@@ -133,15 +132,15 @@ module _ {d : Parts} {old : BoardState} {r : Request} (s : IsServable d old r) (
     kept_cut f q (quiet, inl same) = (quiet, inl same)
     kept_cut f q (quiet, inr is) = (quiet, inr (inl is))
 
-    came : (answer : Result Unit Fault) (E : Unit → Type 0) (K B : Type 0) (most : ℕ) (o : Outcome) → ((u : Unit) → E u → Changes e d.log.shape s.agrees.all left old new)
-        → (K → SameMap e d.log.shape s.agrees.all old new) → (B → Goes d.log.shape old new (CrashFinds d.log.shape (change left) old.pages s.agrees.all))
-        → StepOrRead E K B d.log.shape most old new answer → OnRunning (StaysBetween d e) answer → StoppedOn e answer → o ≡ outcome_for answer reads → Done o
-    came (Ok u) E K B most o f g h w stays stops told_is =
-        let c = f u w.came.0 in
+    came : (answer : Result Unit Fault) (May : Shape → Map → Type 0) (changed : Map → Map) → May d.log.shape s.agrees.all → StandsBetween d d.log.shape old.pages s.agrees.all
+        → changed s.agrees.all ≡ left → (most : ℕ) (o : Outcome) → ChangesOrReads May changed d e most old new answer
+        → OnRunning (StaysBetween d e) answer → StoppedOn e answer → o ≡ outcome_for answer reads → Done o
+    came (Ok u) May changed may was is_left most o w stays stops told_is =
+        let c = subst (λ (m : Map). Changes e d.log.shape s.agrees.all m old new) is_left (w.came.0 d.log.shape s.agrees.all may) in
         let step = served d.log.shape (terms_of d) s.agrees.all (command_of r v) passes k eleven (success 0 []) left refl is late makes plain in
         subst Done (sym told_is) (runs_on left 0 w.rest stays c.stands c.cuts step (inl (w.came.1, ok_sound)))
-    came (Err Reading) E K B most o f g h w stays stops told_is =
-        let c = g w.came.0 in
+    came (Err Reading) May changed may was is_left most o w stays stops told_is =
+        let c = w.came.0 d.log.shape s.agrees.all was in
         let cuts : Reaches d.log.shape old new (CrashFinds d.log.shape (change s.agrees.all) old.pages s.agrees.all) = (
           c.cuts.0,
           weaken c.cuts.0 old new (CrashFinds d.log.shape commit old.pages s.agrees.all) (CrashFinds d.log.shape (change s.agrees.all) old.pages s.agrees.all) kept_cut c.cuts.1,
@@ -149,7 +148,9 @@ module _ {d : Parts} {old : BoardState} {r : Request} (s : IsServable d old r) (
         ) in
         subst Done (sym told_is)
         (runs_on s.agrees.all 0x88 w.rest stays c.stands cuts (unread_step d.log.shape (terms_of d) s.agrees.all (command_of r v) passes) (inr (w.came.1, refl)))
-    came (Err Stopped) E K B most o f g h w stays stops told_is = subst Done (sym told_is) (stopped w.rest stops (h w.came.0) w.came.1)
+    came (Err Stopped) May changed may was is_left most o w stays stops told_is =
+        let went = subst (λ (m : Map). Goes d.log.shape old new (CrashFinds d.log.shape (change m) old.pages s.agrees.all)) is_left (w.came.0 d.log.shape s.agrees.all may) in
+        subst Done (sym told_is) (stopped w.rest stops went w.came.1)
 
 -- nothing was read
 none_read : (n : ℕ) → 0 ≡ n - n
@@ -265,20 +266,20 @@ module _ {d : Parts} {old : BoardState} {r : Request} {k : Key} {o : Option Plac
         let put_in = ap (live d.log.shape) (in_space-insert r.namespace all k own_key value) in
         subst (λ (n : ℕ). live d.log.shape (in_space n (insert all k value)) ≤ most) (sym own_key) (omega (arith, few, same, put_in))
 
-    may_put : MayPutBetween d d.log.shape old.pages all k value o
-    may_put =
+    abbrev may_store : MayStore d d.log.shape old.pages all k value
+    may_store =
         let some : 1 ≤ space_of k = subst (λ (n : ℕ). 1 ≤ n) (sym own_key) its_space.some in
-        record { stands = its_drive u; old_is = (placed_there u).placed; bytes = bytes; room = has_room_for d old u.servable.agrees k value some key_within own_room }
+        record { stands = its_drive u; bytes = bytes; room = has_room_for d old u.servable.agrees k value some key_within own_room }
 
-    may_store : MayStoreBetween d d.log.shape old.pages all k value
-    may_store = record { stands = may_put.stands; bytes = may_put.bytes; room = may_put.room }
-
-    pub can_put : CanPutBetween d old k value o
+    pub can_put : CanStoreOver d old k value o
     can_put = record {
-      ready = agrees_ready d old u.servable.agrees;
-      may = (all, may_put);
-      short = let short = store_short (length (drive_limits d)) d.log.shape r op u.servable.passed in omega (arith, short, whole);
-      few = u.servable.few;
+      can = record {
+        ready = agrees_ready d old u.servable.agrees;
+        may = (all, may_store);
+        short = let short = store_short (length (drive_limits d)) d.log.shape r op u.servable.passed in omega (arith, short, whole);
+        few = u.servable.few;
+      };
+      old_is = (placed_there u).placed;
     }
 
     -- the result of putting it
@@ -287,8 +288,7 @@ module _ {d : Parts} {old : BoardState} {r : Request} {k : Key} {o : Option Plac
         → StoppedOn e answer → outcome ≡ outcome_for answer reads → Executes d e old new c outcome into (new.reads - old.reads)
     store_came answer e new most into outcome reads step few count =
         came u.servable value Store (ap op_of op) (λ e. cc) (insert all k value) (sym late_is ∙ passed) (ap (λ q. insert all q value) (sym u.named)) (ap (λ x. most_installs x r.size) op) refl
-        e new few count into reads answer (λ u. StoresBetween d e old new k value) (SameMapBetween d e old new) (FailsToStoreBetween d old new k value) most outcome
-        (λ _ stores. stores d.log.shape all may_store) (λ keeps. keeps d.log.shape all may_store.stands) (λ fails. fails d.log.shape all may_store) step
+        e new few count into reads answer (λ shape m. MayStore d shape old.pages m k value) (λ m. insert m k value) may_store may_store.stands refl most outcome step
 
 -- ---- a Delete
 
@@ -324,8 +324,7 @@ module _ {d : Parts} {old : BoardState} {r : Request} {k : Key} {p : Place} {bef
       let late = key_there d.log.shape (terms_of d) its_map (command_of r v) (same_early (length (drive_limits d)) d.log.shape r v ∙ u.servable.passed)
       Delete there.value refl (subst (λ q. get its_map q ≡ Some there.value) u.named there.is_there) in
       came u.servable v Delete (ap op_of op) (λ e. cc) (remove its_map k) late (ap (λ q. remove its_map q) (sym u.named)) (ap (λ x. most_installs x r.size) op) refl
-      e new few count into reads answer (λ u. TakesBetween d e old new k p) (SameMapBetween d e old new) (FailsToTakeBetween d old new k p) most outcome
-      (λ _ takes. takes d.log.shape its_map may_take) (λ keeps. keeps d.log.shape its_map may_take.stands) (λ fails. fails d.log.shape its_map may_take) step
+      e new few count into reads answer (λ shape m. MayTakeBetween d shape old.pages m k p) (λ m. remove m k) may_take may_take.stands refl most outcome step
 
 -- ---- after the reads of a lookup
 

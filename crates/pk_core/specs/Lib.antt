@@ -5,7 +5,6 @@ pub mod Performing
 pub mod Quiet
 pub mod Stepping
 pub mod Serving
-pub mod Spacing
 pub mod LookedUp
 pub mod Listed
 pub mod Whole

@@ -7,13 +7,12 @@ ghost use Rattle.pk_model.specs.Wear.{is_worn};
 ghost use Rattle.pk_law_work.specs.Calls.{commit_calls, lookup_calls, pair_calls, room_calls, room_roots, store_roots};
 ghost use Rattle.pk_changes.specs.Changes.{CanPut, StaysBetween};
 ghost use Rattle.pk_background.specs.Emptying.{OnRunning};
-ghost use Rattle.pk_parts.specs.Staying.{Stays, StaysOrOpens, IsNoted};
+ghost use Rattle.pk_parts.specs.Staying.{Stays};
 ghost use Rattle.pk_parts.specs.Stopping.{StoppedOn};
-ghost use Rattle.pk_core.specs.Spacing.{CanStore, StoresOrReads, store_most};
 ghost use Rattle.pk_background.specs.Spacing.{needs};
 ghost use Rattle.pk_core.specs.Programming.{ReadsNone};
 ghost use Rattle.pk_changes.specs.Programming.{PutsQuietly, TakesQuietly, ReadsQuietly};
-ghost use Rattle.pk_core.specs.Whole.{CanPutBetween, CanTakeBetween, StoresWhole, TakesWhole};
+ghost use Rattle.pk_core.specs.Whole.{CanStore, CanStoreOver, CanTakeBetween, StoresWithin, TakesWhole, store_most};
 
 use pk_background::{make_space, make_whole, needs_space};
 use pk_base::{Key, Place};
@@ -32,21 +31,14 @@ fn put_found<B: Nand, A: Region>(
 ) -> Result<(), Fault>
     requires can { CanStore parts.old (B.state board.old) key value.now
         × (count ≡ pages_for parts.old value.now) }
+    requires whole { is_half parts.old ≡ false }
     requires room { needs (pages_for parts.old value.now) parts.old ≡ false }
     requires number { NumbersLast (room_calls parts.old.log.shape) (B.state board.old) }
     requires counted { (B.state board.old).reads ≤ last_count }
 
-    // The map, and then the drive itself.
-    ensures step { StoresOrReads parts.old parts.new (4 + room_calls parts.old.log.shape)
-        (B.state board.old) (B.state board.new) key value.now result }
-    ensures stays { OnRunning (StaysBetween parts.old parts.new) result }
-    ensures opens { OnRunning (StaysOrOpens parts.old parts.new
-        (pages_for parts.old value.now)) result }
-    ensures noted { OnOk result (IsNoted parts.new key) }
-    ensures spends { Spends (lookup_calls + put_calls parts.old.log.shape
-        (pages_for parts.old value.now)) room_roots (B.state board.old)
-        (B.state board.new) }
-    ensures stops { StoppedOn parts.new result }
+    ensures { StoresWithin (4 + room_calls parts.old.log.shape) (lookup_calls
+        + put_calls parts.old.log.shape (pages_for parts.old value.now)) room_roots
+        parts.old parts.new (B.state board.old) (B.state board.new) key value.now result }
 {
     let _ = board.read_count();
     let _ = key.bytes();
@@ -67,21 +59,14 @@ fn put_behind_reclaims<B: Nand, A: Region>(
 ) -> Result<(), Fault>
     requires can { CanStore parts.old (B.state board.old) key value.now
         × (count ≡ pages_for parts.old value.now) }
+    requires whole { is_half parts.old ≡ false }
     requires no_room { needs (pages_for parts.old value.now) parts.old
         ≡ true }
     requires unworn { is_worn (B.state board.old) ≡ false }
 
-    // The map, and then the drive itself.
-    ensures step { StoresOrReads parts.old parts.new (store_most parts.old.log.shape)
-        (B.state board.old) (B.state board.new) key value.now result }
-    ensures stays { OnRunning (StaysBetween parts.old parts.new) result }
-    ensures opens { OnRunning (StaysOrOpens parts.old parts.new
-        (pages_for parts.old value.now)) result }
-    ensures noted { OnOk result (IsNoted parts.new key) }
-    ensures spends { Spends (space_and_put_calls parts.old.log.shape
-        (pages_for parts.old value.now)) store_roots (B.state board.old)
-        (B.state board.new) }
-    ensures stops { StoppedOn parts.new result }
+    ensures { StoresWithin (store_most parts.old.log.shape) (space_and_put_calls
+        parts.old.log.shape (pages_for parts.old value.now)) store_roots
+        parts.old parts.new (B.state board.old) (B.state board.new) key value.now result }
 {
     match make_space(parts, board, count) {
         Ok(()) => {
@@ -108,17 +93,9 @@ pub(crate) fn put_with_space<B: Nand, A: Region>(
         × (count ≡ pages_for parts.old value.now) }
     requires unworn { is_worn (B.state board.old) ≡ false }
 
-    // The map, and then the drive itself.
-    ensures step { StoresOrReads parts.old parts.new (store_most parts.old.log.shape)
-        (B.state board.old) (B.state board.new) key value.now result }
-    ensures stays { OnRunning (StaysBetween parts.old parts.new) result }
-    ensures opens { OnRunning (StaysOrOpens parts.old parts.new
-        (pages_for parts.old value.now)) result }
-    ensures noted { OnOk result (IsNoted parts.new key) }
-    ensures spends { Spends (space_and_put_calls parts.old.log.shape
-        (pages_for parts.old value.now)) store_roots (B.state board.old)
-        (B.state board.new) }
-    ensures stops { StoppedOn parts.new result }
+    ensures stores { StoresWithin (store_most parts.old.log.shape) (space_and_put_calls
+        parts.old.log.shape (pages_for parts.old value.now)) store_roots
+        parts.old parts.new (B.state board.old) (B.state board.new) key value.now result }
     ensures programs { OnOk result (PutsQuietly parts.old key
         (pages_for parts.old value.now) (B.state board.old)
         (B.state board.new)) }
@@ -145,21 +122,12 @@ pub(crate) fn put_whole<B: Nand, A: Region>(
     old: Option<Place>,
     count: u32,
 ) -> Result<(), Fault>
-    requires can { CanPutBetween parts.old (B.state board.old) key value.now old
+    requires can { CanStoreOver parts.old (B.state board.old) key value.now old
         × (count ≡ pages_for parts.old value.now) }
     requires unworn { is_worn (B.state board.old) ≡ false }
-
-    // The map, and then the drive itself.
-    ensures step { StoresWhole parts.old parts.new (store_most parts.old.log.shape)
-        (B.state board.old) (B.state board.new) key value.now result }
-    ensures stops { StoppedOn parts.new result }
-    ensures stays { OnRunning (StaysBetween parts.old parts.new) result }
-    ensures opens { OnRunning (StaysOrOpens parts.old parts.new
-        (pages_for parts.old value.now)) result }
-    ensures noted { OnOk result (IsNoted parts.new key) }
-    ensures spends { Spends (pair_calls + space_and_put_calls parts.old.log.shape
-        (pages_for parts.old value.now)) store_roots (B.state board.old)
-        (B.state board.new) }
+    ensures stores { StoresWithin (store_most parts.old.log.shape) (pair_calls
+        + space_and_put_calls parts.old.log.shape (pages_for parts.old value.now)) store_roots
+        parts.old parts.new (B.state board.old) (B.state board.new) key value.now result }
 
     // A Store that waits for nothing.
     ensures programs { is_half parts.old ≡ false → OnOk result (PutsQuietly parts.old key

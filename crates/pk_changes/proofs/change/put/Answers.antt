@@ -1,9 +1,9 @@
-use Rattle.std.proofs.Common.{◌∙◌, sym, ap, length, arith}
+use Rattle.std.{proofs.Common.◌∙◌, proofs.Common.sym, proofs.Common.ap, proofs.Common.length, proofs.Common.arith, specs.FinMap.insert}
 use Rattle.pk_base.specs.Shape.{charge}
 use Rattle.pk_parts.{specs.Parts.Parts, specs.Moves.KeepsAll, specs.Staying.Stays, specs.Staying.StaysOrOpens, proofs.Staying.stays_opens, proofs.Staying.opens_put}
 use Rattle.pk_parts.proofs.Stopping.{fails_stopped}
-use Rattle.pk_changes.{specs.Changes.StaysBetween, proofs.Quieted.put_reads_none, proofs.Programming.put_idle, proofs.StoreCalls.spends_put}
-use Rattle.pk_changes.proofs.Following.{can_put_after, still_room, step_puts_later, stays_then, stays_failed, put_failed_before}
+use Rattle.pk_changes.{specs.Changes.StaysBetween, specs.Changes.MayPut, proofs.Quieted.put_reads_none, proofs.Programming.put_idle, proofs.StoreCalls.spends_put}
+use Rattle.pk_changes.proofs.Following.{can_put_after, still_room, step_puts_later, stays_then, stays_failed, failed_before}
 use Rattle.pk_background.{proofs.ReadSteps.running_ok, proofs.ReadSteps.running_failed, proofs.Halted.fails_running, proofs.Halted.fails_step}
 use Rattle.pk_background.proofs.Callings.{spends_still, spends_within}
 use Rattle.pk_changes.proofs.change.put.Goals as goal
@@ -30,19 +30,6 @@ returns-in-Ok-clause-step g c =
     step_puts_later e.leaves e.pending e.step c.put_with_room.result c.put_with_room.new.parts (g.B.Nand.state c.put_with_room.new.board)
     c.requires.can.0.ready c.args.key c.args.value.now c.args.old c.put_with_room.ensures.step
 
-pub returns-in-Ok-clause-stays : goal.returns-in-Ok-clause-stays
-returns-in-Ok-clause-stays g c =
-    let e = c.put_with_room.ensures in
-    stays_then c.put_with_room.result c.args.parts.now c.make_room.new.parts c.put_with_room.new.parts c.in-Ok.ensures.leaves e.step.stopped e.stays
-
-pub returns-in-Ok-clause-opens : goal.returns-in-Ok-clause-opens
-returns-in-Ok-clause-opens g c =
-    let e = c.in-Ok.ensures in
-    let opens = StaysOrOpens c.args.parts.now c.put_with_room.new.parts (charge c.args.parts.now.log.shape (length c.args.value.now)) in
-    running_ok opens opens c.put_with_room.result (λ is. is) c.put_with_room.ensures.step.stopped
-    (opens_put c.put_with_room.result c.args.parts.now c.make_room.new.parts c.put_with_room.new.parts
-    (length c.args.value.now) e.moves e.leaves.same_shape (ap (λ (d : Parts). d.values) e.leaves.rest) c.put_with_room.ensures.opens)
-
 pub returns-in-Ok-clause-programs : goal.returns-in-Ok-clause-programs
 returns-in-Ok-clause-programs g c =
     put_idle c.put_with_room.result c.args.parts.now c.make_room.new.parts (g.B.Nand.state c.args.board.now) (g.B.Nand.state c.make_room.new.board)
@@ -56,22 +43,9 @@ pub returns-in-Err-clause-step : goal.returns-in-Err-clause-step
 returns-in-Err-clause-step g c =
     fails_step c.in-Err.fault c.fail.result c.make_room.new.parts c.fail.new.self c.fail.ensures.same c.fail.ensures.rest _ _
     (λ e. KeepsAll c.args.parts.now e (g.B.Nand.state c.args.board.now) (g.B.Nand.state c.make_room.new.board)) _ _ _ _ _
-    (put_failed_before c.in-Err.fault c.args.parts.now c.make_room.new.parts _ (g.B.Nand.state c.args.board.now)
-    (g.B.Nand.state c.make_room.new.board) c.requires.can.0.ready c.in-Err.ensures.step c.args.key c.args.value.now c.args.old)
-
-pub returns-in-Err-clause-stays : goal.returns-in-Err-clause-stays
-returns-in-Err-clause-stays g c =
-    fails_running c.in-Err.fault c.fail.result c.make_room.new.parts c.fail.new.self c.fail.ensures.same c.fail.ensures.rest (λ x. StaysBetween c.args.parts.now x)
-    (stays_failed c.in-Err.fault c.args.parts.now c.make_room.new.parts c.requires.can.0.few c.in-Err.ensures.leaves c.in-Err.ensures.pending)
-
-pub returns-in-Err-clause-opens : goal.returns-in-Err-clause-opens
-returns-in-Err-clause-opens g c =
-    let a = c.args.parts.now in
-    let b = c.make_room.new.parts in
-    let count = charge a.log.shape (length c.args.value.now) in
-    fails_running c.in-Err.fault c.fail.result c.make_room.new.parts c.fail.new.self c.fail.ensures.same c.fail.ensures.rest
-    (λ x. StaysOrOpens c.args.parts.now x (charge c.args.parts.now.log.shape (length c.args.value.now)))
-    (running_failed Unit Unit (Stays a b) (StaysOrOpens a b count) c.in-Err.fault (stays_opens a b count) c.in-Err.ensures.moves)
+    (failed_before c.in-Err.fault c.args.parts.now c.make_room.new.parts _ (g.B.Nand.state c.args.board.now)
+    (g.B.Nand.state c.make_room.new.board) c.requires.can.0.ready c.in-Err.ensures.step (λ m. insert m c.args.key c.args.value.now)
+    (λ shape m. MayPut c.args.parts.now shape (g.B.Nand.state c.args.board.now).pages m c.args.key c.args.value.now c.args.old) (λ shape m may. may.stands))
 
 pub returns-in-Ok-clause-spends : goal.returns-in-Ok-clause-spends
 returns-in-Ok-clause-spends g c =
@@ -81,5 +55,33 @@ returns-in-Ok-clause-spends g c =
 pub returns-in-Err-clause-spends : goal.returns-in-Err-clause-spends
 returns-in-Err-clause-spends g c = spends_within _ _ _ _ _ _ (omega arith) (omega arith) c.make_room.ensures.spends
 
-pub returns-in-Err-clause-stops : goal.returns-in-Err-clause-stops
-returns-in-Err-clause-stops g c = fails_stopped c.in-Err.fault c.fail.result c.make_room.new.parts c.fail.new.self c.fail.ensures.same c.fail.ensures.rest
+pub returns-in-Ok-clause-leaves : goal.returns-in-Ok-clause-leaves
+returns-in-Ok-clause-leaves g c =
+    let a = c.args.parts.now in
+    let b = c.make_room.new.parts in
+    let d = c.put_with_room.new.parts in
+    let e = c.in-Ok.ensures in
+    let p = c.put_with_room.ensures in
+    let opens = StaysOrOpens a d (charge a.log.shape (length c.args.value.now)) in
+    record {
+      stays = stays_then c.put_with_room.result a b d e.leaves p.step.stopped p.stays;
+      opens = running_ok opens opens c.put_with_room.result (λ is. is) p.step.stopped
+          (opens_put c.put_with_room.result a b d (length c.args.value.now) e.moves e.leaves.same_shape (ap (λ (x : Parts). x.values) e.leaves.rest) p.opens);
+      noted = p.noted;
+      stops = p.stops;
+    }
+
+pub returns-in-Err-clause-leaves : goal.returns-in-Err-clause-leaves
+returns-in-Err-clause-leaves g c =
+    let a = c.args.parts.now in
+    let b = c.make_room.new.parts in
+    let f = c.fail in
+    let count = charge a.log.shape (length c.args.value.now) in
+    record {
+      stays = fails_running c.in-Err.fault f.result b f.new.self f.ensures.same f.ensures.rest (λ x. StaysBetween a x)
+          (stays_failed c.in-Err.fault a b c.requires.can.0.few c.in-Err.ensures.leaves c.in-Err.ensures.pending);
+      opens = fails_running c.in-Err.fault f.result b f.new.self f.ensures.same f.ensures.rest (λ x. StaysOrOpens a x count)
+          (running_failed Unit Unit (Stays a b) (StaysOrOpens a b count) c.in-Err.fault (stays_opens a b count) c.in-Err.ensures.moves);
+      noted = tt;
+      stops = fails_stopped c.in-Err.fault f.result b f.new.self f.ensures.same f.ensures.rest;
+    }

@@ -1,11 +1,12 @@
-use Rattle.std.proofs.Common.{refl, ap, sym, subst, ◌∙◌, arith, Ok, Err, length}
-use Rattle.pk_base.specs.Shape.{Shape, charge}
-use Rattle.pk_nand.{specs.declared.types.Fault.TheVariants.Stopped, specs.Calls.IsReady}
+use Rattle.std.{proofs.Common.refl, proofs.Common.ap, proofs.Common.sym, proofs.Common.subst, proofs.Common.◌∙◌, proofs.Common.arith, proofs.Common.length, specs.FinMap.insert}
+use Rattle.pk_base.{specs.Shape.Shape, specs.Shape.charge, specs.Map.Map}
+use Rattle.pk_nand.specs.Calls.{IsReady}
 use Rattle.pk_model.proofs.Steps.{Step-broken}
 use Rattle.pk_parts.{specs.Parts.Parts, specs.Parts.frames_of, specs.Moves.KeepsAll, specs.Moves.BreaksAll, proofs.Stopping.breaks_step, proofs.Stopping.fails_stopped}
 use Rattle.pk_parts.proofs.Staying.{opens_then, opens_then_ok}
-use Rattle.pk_changes.{specs.Noting.IsPlaced, specs.Changes.PutsAll, specs.Changes.FailsToPut, proofs.Following.stays_committed, proofs.Noted.noted_after_ok, proofs.Programming.put_programs}
-use Rattle.pk_changes.proofs.Putting.{some_puts, some_put, put_changed, put_failed, put_broken}
+use Rattle.pk_changes.{specs.Noting.IsPlaced, specs.Changes.MayPut, specs.Changes.ChangesAll, specs.Changes.FailsToChange}
+use Rattle.pk_changes.{proofs.Following.stays_committed, proofs.Noted.noted_after_ok, proofs.Programming.put_programs}
+use Rattle.pk_changes.proofs.Putting.{some_puts, put_noted_so, some_changed, change_made, change_failed, change_broken}
 use Rattle.pk_background.{proofs.Steps.later, proofs.Callings.few_within, proofs.Callings.few_then}
 use Rattle.pk_changes.proofs.change.put_with_room.Goals as goal
 
@@ -16,7 +17,7 @@ pub note_put-requires-clause-puts : goal.note_put-requires-clause-puts
 note_put-requires-clause-puts g c =
     let e = c.in-Ok.ensures.step.ended in
     some_puts c.args.parts.now c.place_value.new.parts (g.B.Nand.state c.args.board.now) (g.B.Nand.state c.place_value.new.board) c.args.key c.args.value.now c.in-Ok.page c.args.old
-    c.requires.can.0.ready c.requires.can.0.may e.keeps (ap (λ (d : Parts). d.log.shape) c.place_value.ensures.rest) e.written e.place e.in_open
+    c.requires.can.0.ready e.keeps e.written e.place e.in_open c.requires.can.0.may (ap (λ (d : Parts). d.log.shape) c.place_value.ensures.rest)
 
 pub commit_if_full-requires : goal.commit_if_full-requires
 commit_if_full-requires g c =
@@ -24,12 +25,13 @@ commit_if_full-requires g c =
     let e = step.ended in
     let one = ap (λ (d : Parts). d.log.shape) c.place_value.ensures.rest in
     let two = ap (λ (d : Parts). d.log.shape) c.note_put.ensures.rest in
+    let noted = put_noted_so c.args.parts.now c.place_value.new.parts (g.B.Nand.state c.args.board.now) (g.B.Nand.state c.place_value.new.board) c.args.key c.args.value.now c.in-Ok.page c.args.old
+    c.requires.can.0.ready e.keeps e.written e.place e.in_open c.note_put.new.parts (λ shape flash m p. c.note_put.ensures.stands shape flash m c.args.value.now refl p) in
     record {
       may = record {
         ready = subst (λ (s : Shape). IsReady (g.B.Nand.state c.place_value.new.board) s) (sym (two ∙ one)) step.ready;
-        stands = some_put c.args.parts.now c.place_value.new.parts c.note_put.new.parts (g.B.Nand.state c.args.board.now)
-            (g.B.Nand.state c.place_value.new.board) c.args.key c.args.value.now c.in-Ok.page c.args.old
-            c.requires.can.0.ready c.requires.can.0.may e.keeps one two e.written e.place e.in_open (λ shape flash m p. c.note_put.ensures.stands shape flash m c.args.value.now refl p);
+        stands = some_changed c.args.parts.now c.note_put.new.parts (g.B.Nand.state c.args.board.now) (g.B.Nand.state c.place_value.new.board).pages (λ m. insert m c.args.key c.args.value.now)
+            (λ shape m. MayPut c.args.parts.now shape (g.B.Nand.state c.args.board.now).pages m c.args.key c.args.value.now c.args.old) (two ∙ one) c.requires.can.0.may noted;
       };
     }
 
@@ -45,13 +47,14 @@ returns-in-Ok-clause-step g c =
     let n = c.note_put.new.parts in
     let d = c.commit_if_full.new.parts in
     let same = ap (λ (d : Parts). d.log.shape) c.note_put.ensures.rest ∙ ap (λ (d : Parts). d.log.shape) c.place_value.ensures.rest in
-    later c.commit_if_full.result (λ (u : Unit). KeepsAll n d s1 s2) (λ (u : Unit). PutsAll a d s0 s2 c.args.key c.args.value.now c.args.old)
-    (BreaksAll n s1 s2) (FailsToPut a s0 s2 c.args.key c.args.value.now c.args.old)
+    let noted = put_noted_so c.args.parts.now c.place_value.new.parts (g.B.Nand.state c.args.board.now) (g.B.Nand.state c.place_value.new.board) c.args.key c.args.value.now c.in-Ok.page c.args.old
+    c.requires.can.0.ready e.keeps e.written e.place e.in_open c.note_put.new.parts (λ shape flash m p. c.note_put.ensures.stands shape flash m c.args.value.now refl p) in
+    let may : Shape → Map → Type 0 = λ shape m. MayPut a shape s0.pages m c.args.key c.args.value.now c.args.old in
+    let put : Map → Map = λ m. insert m c.args.key c.args.value.now in
+    later c.commit_if_full.result (λ (u : Unit). KeepsAll n d s1 s2) (λ (u : Unit). ChangesAll may put d s0 s2) (BreaksAll n s1 s2) (FailsToChange may put s0 s2)
     a.log.shape n.log.shape 0 0 0 s0 s1 s2 same (omega arith) step.works step.roots_few
-    (λ u kept. put_changed a b n s0 s1 c.args.key c.args.value.now c.in-Ok.page c.args.old
-    c.requires.can.0.ready e.keeps e.written e.place e.in_open (λ shape flash m p. c.note_put.ensures.stands shape flash m c.args.value.now refl p) (Ok u) d s2 kept)
-    (λ broken. put_failed a b n s0 s1 c.args.key c.args.value.now c.in-Ok.page c.args.old
-    c.requires.can.0.ready e.keeps e.written e.place e.in_open (λ shape flash m p. c.note_put.ensures.stands shape flash m c.args.value.now refl p) (Err Stopped) s2 broken)
+    (λ u. change_made a b s0 s1 c.requires.can.0.ready put may (λ shape m x. x.stands) n s2 e.keeps noted d)
+    (change_failed a b s0 s1 c.requires.can.0.ready put may (λ shape m x. x.stands) n s2 e.keeps noted)
     c.commit_if_full.ensures.step
 
 pub returns-in-Ok-clause-stays : goal.returns-in-Ok-clause-stays
@@ -67,11 +70,13 @@ returns-in-Err-clause-step g c =
     let s0 = (g.B.Nand.state c.args.board.now) in
     let s1 = (g.B.Nand.state c.place_value.new.board) in
     let a = c.args.parts.now in
+    let may : Shape → Map → Type 0 = λ shape m. MayPut a shape s0.pages m c.args.key c.args.value.now c.args.old in
+    let put : Map → Map = λ m. insert m c.args.key c.args.value.now in
     breaks_step c.in-Err.fault c.fail.result c.place_value.new.parts c.fail.new.self c.fail.ensures.same c.fail.ensures.rest
-    (λ (u : Unit). PutsAll a c.place_value.new.parts s0 s1 c.args.key c.args.value.now c.args.old) _ _ _ _ _ _
-    (Step-broken _ (λ page. IsPlaced a c.place_value.new.parts s0 s1 c.args.key c.args.value.now page) (λ (u : Unit). PutsAll a c.place_value.new.parts s0 s1 c.args.key c.args.value.now c.args.old)
-    (BreaksAll a s0 s1) (FailsToPut a s0 s1 c.args.key c.args.value.now c.args.old) a.log.shape 0 0 s0 s1 (omega arith)
-    (λ broken. put_broken a s0 s1 c.args.key c.args.value.now c.args.old c.requires.can.0.ready broken) c.in-Err.ensures.step)
+    (λ (u : Unit). ChangesAll may put c.place_value.new.parts s0 s1) _ _ _ _ _ _
+    (Step-broken _ (λ page. IsPlaced a c.place_value.new.parts s0 s1 c.args.key c.args.value.now page) (λ (u : Unit). ChangesAll may put c.place_value.new.parts s0 s1)
+    (BreaksAll a s0 s1) (FailsToChange may put s0 s1) a.log.shape 0 0 s0 s1 (omega arith)
+    (change_broken a c.place_value.new.parts s0 s1 c.requires.can.0.ready put may (λ shape m x. x.stands)) c.in-Err.ensures.step)
 
 pub returns-in-Ok-clause-opens : goal.returns-in-Ok-clause-opens
 returns-in-Ok-clause-opens g c =

@@ -1,6 +1,6 @@
-use Rattle.std.proofs.Common.{arith}
-use Rattle.pk_changes.{specs.Changes.StaysBetween, proofs.Quieted.put_reads_none, proofs.Programming.take_idle}
-use Rattle.pk_changes.proofs.Following.{can_take_after, step_takes_later, stays_then, stays_failed, take_failed_before}
+use Rattle.std.{proofs.Common.arith, specs.FinMap.remove}
+use Rattle.pk_changes.{specs.Changes.StaysBetween, specs.Changes.MayTake, proofs.Quieted.put_reads_none, proofs.Programming.take_idle}
+use Rattle.pk_changes.proofs.Following.{can_take_after, step_takes_later, stays_then, stays_failed, failed_before}
 use Rattle.pk_parts.{specs.Moves.KeepsAll, specs.Staying.Stays, proofs.Staying.stays_then as stays_twice, proofs.Stopping.fails_stopped}
 use Rattle.pk_background.{proofs.ReadSteps.running_ok, proofs.Halted.fails_running, proofs.Halted.fails_step}
 use Rattle.pk_background.proofs.Callings.{spends_still, spends_within, spends_then}
@@ -46,8 +46,9 @@ pub returns-in-Err-clause-step : goal.returns-in-Err-clause-step
 returns-in-Err-clause-step g c =
     fails_step c.in-Err.fault c.fail.result c.make_room.new.parts c.fail.new.self c.fail.ensures.same c.fail.ensures.rest _ _
     (λ e. KeepsAll c.args.parts.now e (g.B.Nand.state c.args.board.now) (g.B.Nand.state c.make_room.new.board)) _ _ _ _ _
-    (take_failed_before c.in-Err.fault c.args.parts.now c.make_room.new.parts _ (g.B.Nand.state c.args.board.now)
-    (g.B.Nand.state c.make_room.new.board) c.requires.can.ready c.in-Err.ensures.step c.args.key c.args.old)
+    (failed_before c.in-Err.fault c.args.parts.now c.make_room.new.parts _ (g.B.Nand.state c.args.board.now)
+    (g.B.Nand.state c.make_room.new.board) c.requires.can.ready c.in-Err.ensures.step (λ m. remove m c.args.key)
+    (λ shape m. MayTake c.args.parts.now shape (g.B.Nand.state c.args.board.now).pages m c.args.key c.args.old) (λ shape m may. may.stands))
 
 pub returns-in-Err-clause-stays : goal.returns-in-Err-clause-stays
 returns-in-Err-clause-stays g c =

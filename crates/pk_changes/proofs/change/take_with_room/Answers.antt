@@ -1,14 +1,15 @@
-use Rattle.std.proofs.Common.{ap, sym, subst, arith, Ok, Err}
+use Rattle.std.{proofs.Common.refl, proofs.Common.ap, proofs.Common.sym, proofs.Common.subst, proofs.Common.arith, specs.FinMap.remove}
+use Rattle.pk_base.specs.Map.{Map}
 use Rattle.pk_base.specs.Shape.{Shape}
-use Rattle.pk_nand.{specs.declared.types.Fault.TheVariants.Stopped, specs.Calls.IsReady}
+use Rattle.pk_nand.{specs.Calls.IsReady}
 use Rattle.pk_model.{specs.Steps.Step, proofs.Steps.Step-says}
-use Rattle.pk_parts.{specs.Parts.Parts, specs.Parts.frames_of, specs.Moves.KeepsAll, specs.Moves.BreaksAll, proofs.Staying.stays_then_ok}
-use Rattle.pk_changes.{specs.Changes.TakesAll, specs.Changes.FailsToTake, proofs.Putting.some_drops, proofs.Putting.some_taken, proofs.Putting.take_changed, proofs.Putting.take_failed}
+use Rattle.pk_parts.{specs.Parts.Parts, specs.Parts.frames_of, specs.Moves.StandsFor, specs.Moves.KeepsAll, specs.Moves.BreaksAll, proofs.Keeping.KeepsAll-none, proofs.Staying.stays_then_ok}
+use Rattle.pk_changes.{specs.Changes.MayTake, specs.Changes.ChangesAll, specs.Changes.FailsToChange, proofs.Putting.change_made, proofs.Putting.change_failed, proofs.Putting.some_changed}
 use Rattle.pk_changes.{proofs.Following.stays_committed, proofs.Programming.take_programs}
 use Rattle.pk_changes.proofs.change.take_with_room.Goals as goal
 
 pub note_gone-requires-clause-drops : goal.note_gone-requires-clause-drops
-note_gone-requires-clause-drops g c = some_drops c.args.parts.now (g.B.Nand.state c.args.board.now) c.args.key c.args.old c.requires.can.may
+note_gone-requires-clause-drops g c = ((g.B.Nand.state c.args.board.now).pages, c.requires.can.may.0, c.requires.can.may.1)
 
 pub commit_if_full-requires : goal.commit_if_full-requires
 commit_if_full-requires g c =
@@ -16,7 +17,9 @@ commit_if_full-requires g c =
     record {
       may = record {
         ready = subst (λ (s : Shape). IsReady (g.B.Nand.state c.args.board.now) s) (sym same) c.requires.can.ready;
-        stands = some_taken c.args.parts.now c.note_gone.new.parts (g.B.Nand.state c.args.board.now) c.args.key c.args.old c.requires.can.ready c.note_gone.ensures.stands c.requires.can.may same;
+        stands = some_changed c.args.parts.now c.note_gone.new.parts (g.B.Nand.state c.args.board.now) (g.B.Nand.state c.args.board.now).pages (λ m. remove m c.args.key)
+            (λ shape m. MayTake c.args.parts.now shape (g.B.Nand.state c.args.board.now).pages m c.args.key c.args.old) same c.requires.can.may
+            (λ shape m. c.note_gone.ensures.stands shape (g.B.Nand.state c.args.board.now).pages m);
       };
     }
 
@@ -28,10 +31,14 @@ returns-clause-step g c =
     let n = c.note_gone.new.parts in
     let d = c.commit_if_full.new.parts in
     let same = ap (λ (d : Parts). d.log.shape) c.note_gone.ensures.rest in
-    Step-says c.commit_if_full.result (λ (u : Unit). KeepsAll n d s0 s1) (λ (u : Unit). TakesAll a d s0 s1 c.args.key c.args.old)
-    (BreaksAll n s0 s1) (FailsToTake a s0 s1 c.args.key c.args.old) a.log.shape 0 0 s0 s1 (omega arith)
-    (λ u kept. take_changed a n s0 c.args.key c.args.old c.requires.can.ready c.note_gone.ensures.stands (Ok u) d s1 kept)
-    (λ broken. take_failed a n s0 c.args.key c.args.old c.requires.can.ready c.note_gone.ensures.stands (Err Stopped) s1 broken)
+    let may : Shape → Map → Type 0 = λ shape m. MayTake a shape s0.pages m c.args.key c.args.old in
+    let gone : Map → Map = λ m. remove m c.args.key in
+    let kept = KeepsAll-none a a s0 s0 refl refl in
+    let noted : (shape : Shape) (m : Map) → may shape m → StandsFor n shape s0.pages (gone m) = λ shape m. c.note_gone.ensures.stands shape s0.pages m in
+    Step-says c.commit_if_full.result (λ (u : Unit). KeepsAll n d s0 s1) (λ (u : Unit). ChangesAll may gone d s0 s1)
+    (BreaksAll n s0 s1) (FailsToChange may gone s0 s1) a.log.shape 0 0 s0 s1 (omega arith)
+    (λ u. change_made a a s0 s0 c.requires.can.ready gone may (λ shape m x. x.stands) n s1 kept noted d)
+    (change_failed a a s0 s0 c.requires.can.ready gone may (λ shape m x. x.stands) n s1 kept noted)
     (subst (λ (s : Shape). Step (λ (u : Unit). KeepsAll n d s0 s1) (BreaksAll n s0 s1) s 0 s0 s1 c.commit_if_full.result) same c.commit_if_full.ensures.step)
 
 pub returns-clause-stays : goal.returns-clause-stays

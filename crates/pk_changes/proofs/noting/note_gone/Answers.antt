@@ -49,7 +49,7 @@ returns-clause-more g c = rw (← c.parts.view_is) (pushed_more c.parts.inside.l
 pub push-requires-clause-whole : goal.push-requires-clause-whole
 push-requires-clause-whole g c =
     let p = rw (← c.parts.view_is) at c.requires.drops in
-    p.2.whole.epoch
+    p.2.stands.whole.epoch
 
 pub push-requires-clause-spaced : goal.push-requires-clause-spaced
 push-requires-clause-spaced g c =

@@ -66,7 +66,7 @@ returns-clause-more g c = rw (← c.parts.view_is) (pushed_more c.parts.inside.l
 pub push-requires-clause-whole : goal.push-requires-clause-whole
 push-requires-clause-whole g c =
     let p = rw (← c.parts.view_is) at c.requires.puts in
-    p.4.whole.epoch
+    p.4.may.stands.whole.epoch
 
 pub push-requires-clause-spaced : goal.push-requires-clause-spaced
 push-requires-clause-spaced g c =

@@ -1,6 +1,6 @@
-use Rattle.std.proofs.Common.{[], refl, arith, false}
+use Rattle.std.{proofs.Common.[], proofs.Common.refl, proofs.Common.arith, proofs.Common.false, specs.FinMap.remove}
 use Rattle.pk_core.{proofs.LookedUp.deletes_none, proofs.LookedUp.deletes_came, proofs.Amounts.room_few, proofs.Amounts.room_last}
-use Rattle.pk_core.{proofs.Served.can_take, proofs.Served.delete_missing, proofs.Served.delete_came, proofs.Whole.take_makes_whole, proofs.Statuses.told_refused}
+use Rattle.pk_core.{proofs.Served.can_take, proofs.Served.delete_missing, proofs.Served.delete_came, specs.Whole.MayTakeBetween, proofs.Whole.makes_whole, proofs.Statuses.told_refused}
 use Rattle.pk_background.proofs.Callings.{spends_same}
 use Rattle.pk_core.proofs.store.delete_at.Goals as goal
 
@@ -37,7 +37,9 @@ pub returns-in-Some-clause-deletes : goal.returns-in-Some-clause-deletes
 returns-in-Some-clause-deletes g c =
     let e = c.take_whole-answer.ensures in
     let can = can_take [] (rw c.in-Some.is at c.requires.looked_up) c.requires.opcode c.known.ensures.key c.known.ensures.bytes in
-    deletes_came c.take_whole-answer.result _ c.changed.ensures (take_makes_whole _ _ _ _ _ _ _ _ can e.step) e.moves e.programs e.quiet
+    let whole = makes_whole c.take_whole-answer.result (λ shape m. MayTakeBetween c.args.parts.now shape (g.B.Nand.state c.args.board.now).pages m c.args.key c.in-Some.place)
+    (λ m. remove m c.args.key) _ _ _ _ _ can.may.0 can.may.1 can.may.1.stands e.step in
+    deletes_came c.take_whole-answer.result _ c.changed.ensures whole e.moves e.programs e.quiet
 
 pub returns-in-None-clause-spends : goal.returns-in-None-clause-spends
 returns-in-None-clause-spends g c = spends_same _ _ _ _ refl

@@ -1,6 +1,6 @@
-use Rattle.std.proofs.Common.{ap, refl, sym, ◌∙◌, length, is_some, arith, false}
+use Rattle.std.{proofs.Common.ap, proofs.Common.refl, proofs.Common.sym, proofs.Common.◌∙◌, proofs.Common.length, proofs.Common.is_some, proofs.Common.arith, proofs.Common.false, specs.FinMap.insert}
 use Rattle.pk_base.{specs.Shape.charge}
-use Rattle.pk_core.{proofs.LookedUp.stores_none, proofs.LookedUp.stores_came, proofs.Amounts.store_few, proofs.Whole.put_makes_whole}
+use Rattle.pk_core.{proofs.LookedUp.stores_none, proofs.LookedUp.stores_came, proofs.Amounts.store_few, specs.Whole.MayStore, proofs.Whole.makes_whole}
 use Rattle.pk_core.proofs.Served.{short_place, key_within, can_put, store_refused, store_came}
 use Rattle.pk_core.{proofs.Statuses.told_refused, proofs.Statuses.store_refuses, proofs.StoreCalls.spends_stored}
 use Rattle.pk_background.proofs.Callings.{spends_same}
@@ -22,7 +22,7 @@ put_whole-answer-requires-clause-can g c = (
 pub reads_since-requires-in-None-clause-few : goal.reads_since-requires-in-None-clause-few
 reads_since-requires-in-None-clause-few g c =
     let few = store_few c.args.parts.now.log.shape c.requires.looked_up.servable.agrees.with.index.logs.is_shape in
-    let step = c.put_whole-answer.ensures.step.reads.few in
+    let step = c.put_whole-answer.ensures.stores.step.reads.few in
     let found = c.requires.looked_up.since.few in
     omega (arith, few, step, found)
 
@@ -37,24 +37,26 @@ returns-in-Some-clause-stores g c =
 
 pub returns-in-None-clause-executes : goal.returns-in-None-clause-executes
 returns-in-None-clause-executes g c = λ into.
-    let e = c.put_whole-answer.ensures in
+    let e = c.put_whole-answer.ensures.stores in
     store_came c.args.value.now c.requires.looked_up c.requires.opcode c.requires.whole c.known.ensures.key c.known.ensures.bytes (sym c.fault_of_store.ensures ∙ c.in-None.is)
     c.put_whole-answer.result c.put_whole-answer.new.parts (g.B.Nand.state c.put_whole-answer.new.board) _ into c.changed.result _ e.step e.spends.installs
-    (record { up = e.step.reads.up; few = c.reads_since-in-None.ensures.count }) e.stays e.stops c.changed.ensures
+    (record { up = e.step.reads.up; few = c.reads_since-in-None.ensures.count }) e.leaves.stays e.leaves.stops c.changed.ensures
 
 pub returns-in-None-clause-stores : goal.returns-in-None-clause-stores
 returns-in-None-clause-stores g c =
     let e = c.put_whole-answer.ensures in
-    let can = can_put c.args.value.now c.requires.looked_up c.requires.opcode c.requires.whole c.known.ensures.key c.known.ensures.bytes (sym c.fault_of_store.ensures ∙ c.in-None.is) in
-    stores_came c.put_whole-answer.result _ c.changed.ensures c.requires.whole (put_makes_whole _ _ _ _ _ _ _ _ _ can e.step) e.opens e.noted e.programs e.quiet
+    let can = (can_put c.args.value.now c.requires.looked_up c.requires.opcode c.requires.whole c.known.ensures.key c.known.ensures.bytes (sym c.fault_of_store.ensures ∙ c.in-None.is)).can in
+    let whole = makes_whole c.put_whole-answer.result (λ shape m. MayStore c.args.parts.now shape (g.B.Nand.state c.args.board.now).pages m c.args.key c.args.value.now)
+    (λ m. insert m c.args.key c.args.value.now) _ _ _ _ _ can.may.0 can.may.1 can.may.1.stands e.stores.step in
+    stores_came c.put_whole-answer.result _ c.changed.ensures c.requires.whole whole e.stores.leaves.opens e.stores.leaves.noted e.programs e.quiet
 
 pub returns-in-Some-clause-spends : goal.returns-in-Some-clause-spends
 returns-in-Some-clause-spends g c = spends_same _ _ _ _ refl
 
 pub returns-in-None-clause-spends : goal.returns-in-None-clause-spends
 returns-in-None-clause-spends g c =
-    let can = can_put c.args.value.now c.requires.looked_up c.requires.opcode c.requires.whole c.known.ensures.key c.known.ensures.bytes (sym c.fault_of_store.ensures ∙ c.in-None.is) in
-    spends_stored c.args.parts.now.log.shape (length c.args.value.now) _ _ c.requires.looked_up.servable.agrees.with.index.logs.is_shape can.short c.put_whole-answer.ensures.spends
+    let can = (can_put c.args.value.now c.requires.looked_up c.requires.opcode c.requires.whole c.known.ensures.key c.known.ensures.bytes (sym c.fault_of_store.ensures ∙ c.in-None.is)).can in
+    spends_stored c.args.parts.now.log.shape (length c.args.value.now) _ _ c.requires.looked_up.servable.agrees.with.index.logs.is_shape can.short c.put_whole-answer.ensures.stores.spends
 
 pub fault_of_store-requires-clause-counted : goal.fault_of_store-requires-clause-counted
 fault_of_store-requires-clause-counted g c = c.charge-count.ensures.value ∙ ap (λ s. charge s c.args.request.now.size) c.shape.ensures

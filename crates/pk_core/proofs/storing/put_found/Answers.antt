@@ -11,7 +11,7 @@ look-requires-clause-agrees g c = its_drive c.args.parts.now (g.B.Nand.state c.a
 
 pub put-requires-clause-can : goal.put-requires-clause-can
 put-requires-clause-can g c = (
-  found_can c.args.parts.now (g.B.Nand.state c.args.board.now).pages c.args.key c.args.value.now c.in-Ok.old c.in-Ok.ensures.looks c.look.new.self
+  found_can c.args.parts.now (g.B.Nand.state c.args.board.now).pages c.args.key c.args.value.now c.in-Ok.old c.requires.whole c.in-Ok.ensures.looks c.look.new.self
       (g.B.Nand.state c.args.board.now) (g.B.Nand.state c.look.new.board) c.look.ensures.same refl c.look.ensures.pages c.look.ensures.ready c.requires.can.0,
   c.requires.can.1 ∙ ap (λ (d : Parts). charge d.log.shape (length c.args.value.now)) (sym c.look.ensures.same),
 )
@@ -26,21 +26,20 @@ put-requires-clause-number g c = found_numbers c.args.parts.now c.look.new.self 
 pub returns-in-Ok : goal.returns-in-Ok
 returns-in-Ok g c = record {
   step = found_stores c.put.result c.args.parts.now c.look.new.self c.put.new.parts (g.B.Nand.state c.args.board.now) (g.B.Nand.state c.look.new.board) (g.B.Nand.state c.put.new.board)
-      c.args.key c.args.value.now c.in-Ok.old c.look.ensures.same c.in-Ok.ensures.looks c.in-Ok.ensures.reads c.put.ensures.step;
-  stays = rw c.look.ensures.same at c.put.ensures.stays;
-  opens = rw c.look.ensures.same at c.put.ensures.opens;
-  noted = c.put.ensures.noted;
+      c.args.key c.args.value.now c.in-Ok.old c.requires.can.0.ready c.requires.whole c.look.ensures.same c.in-Ok.ensures.looks c.in-Ok.ensures.reads c.put.ensures.step;
+  leaves = rw c.look.ensures.same at c.put.ensures.leaves;
   spends = spends_found _ _ _ _ _ (ap (λ (d : Parts). d.log.shape) c.look.ensures.same) (length c.args.value.now) (spends_reads _ _ _ _ 0 (omega arith) c.in-Ok.ensures.reads) c.put.ensures.spends;
-  stops = c.put.ensures.stops;
 }
 
 pub returns-in-Err : goal.returns-in-Err
 returns-in-Err g c = record {
   step = found_unread c.args.parts.now c.look.new.self (g.B.Nand.state c.args.board.now) (g.B.Nand.state c.look.new.board) _ c.args.key c.args.value.now
-      c.look.ensures.same c.read_count.ensures.faults c.in-Err.ensures.failing c.look.ensures.ready;
-  stays = between_same c.args.parts.now c.look.new.self c.look.ensures.same c.requires.can.0.few;
-  opens = stays_opens _ _ _ (stays_same _ _ c.look.ensures.same);
-  noted = tt;
+      c.look.ensures.same c.read_count.ensures.faults c.in-Err.ensures.failing c.look.ensures.ready c.requires.whole;
+  leaves = record {
+    stays = between_same c.args.parts.now c.look.new.self c.look.ensures.same c.requires.can.0.few;
+    opens = stays_opens _ _ _ (stays_same _ _ c.look.ensures.same);
+    noted = tt;
+    stops = tt;
+  };
   spends = spends_breaks _ _ _ _ _ (omega arith) c.in-Err.ensures.failing;
-  stops = tt;
 }

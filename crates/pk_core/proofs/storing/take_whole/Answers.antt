@@ -1,7 +1,8 @@
-use Rattle.std.{proofs.Common.arith, proofs.Common.rules, specs.Prelude.OnOk}
+use Rattle.std.{proofs.Common.arith, proofs.Common.rules, specs.Prelude.OnOk, specs.FinMap.remove}
 use Rattle.pk_background.{proofs.ReadSteps.running_stopped}
 use Rattle.pk_changes.specs.Programming.{TakesQuietly, ReadsQuietly}
-use Rattle.pk_core.proofs.Whole.{Wholes, wholes, fails_half, numbers_then, can_take_then, takes_whole, stays_whole, moves_whole, take_spends, takes_unmade, unmade_spends, quiet_from}
+use Rattle.pk_core.{specs.Whole.MayTakeBetween, proofs.Later.stays_later, proofs.Whole.Wholes, proofs.Whole.wholes, proofs.Whole.fails_half, proofs.Whole.numbers_then, proofs.Whole.can_take_then}
+use Rattle.pk_core.proofs.Whole.{takes_whole, moves_whole, take_spends, unmade, unmade_spends, quiet_from}
 use Rattle.pk_core.proofs.storing.take_whole.Given.{Over}
 use Rattle.pk_core.proofs.storing.take_whole.Goals.{In-Ok}
 use Rattle.pk_core.proofs.storing.take_whole.Goals as goal
@@ -27,7 +28,7 @@ returns-in-Ok g c =
     record {
       step = takes_whole w c.args.key c.args.old c.take_out.new.parts (g.B.Nand.state c.take_out.new.board) c.take_out.result e.step;
       stops = e.stops;
-      stays = stays_whole w c.take_out.result c.take_out.new.parts e.stays;
+      stays = stays_later w.leads c.take_out.result c.take_out.new.parts e.stays;
       moves = moves_whole w c.take_out.result c.take_out.new.parts e.moves;
       spends = take_spends w (g.B.Nand.state c.take_out.new.board) e.spends;
       programs = λ none.
@@ -45,7 +46,8 @@ returns-in-Err g c =
     let failed = fails_half c.in-Err.fault c.args.parts.now c.make_whole.new.parts (g.B.Nand.state c.args.board.now) (g.B.Nand.state c.make_whole.new.board)
     c.in-Err.ensures.finishes c.in-Err.ensures.rests in
     record {
-      step = takes_unmade failed.1 c.make_whole.new.parts _ c.args.key c.args.old c.in-Err.fault failed.0;
+      step = unmade failed.1 (λ shape m. MayTakeBetween c.args.parts.now shape (g.B.Nand.state c.args.board.now).pages m c.args.key c.args.old)
+          (λ m. remove m c.args.key) (λ shape m may. may.stands) c.make_whole.new.parts _ c.in-Err.fault failed.0;
       stops = search rules;
       stays = running_stopped Unit _ c.in-Err.fault failed.0;
       moves = running_stopped Unit _ c.in-Err.fault failed.0;
