@@ -12,6 +12,8 @@ use std::process::ExitCode;
 const PAIR: &str = "mirror";
 /// The word after the path of an image that has spare blocks.
 const SPARED: &str = "spared";
+/// The word before the frames of a run that serves commands.
+const SERVE: &str = "serve";
 
 /// The words after the program's name; the status if they cannot be had.
 fn words_of(rt: &HostRuntime) -> Result<Vec<String>, Status> {
@@ -52,15 +54,19 @@ impl Syncs {
         }
     }
 
-    /// How an image is kept whose texts leave after its changes.
-    fn gathered(self) -> Keeping {
+    /// How an image is kept whose texts leave after its changes. A run that serves has a log from
+    /// its opening on.
+    fn gathered(self, words: &[&str]) -> Keeping {
+        let is_made_ahead = matches!(words.first(), Some(word) if *word == SERVE);
         match self {
             Syncs::None => Keeping::Rows,
             Syncs::Once => Keeping::Log {
                 from_the_first: false,
+                is_made_ahead,
             },
             Syncs::Twice => Keeping::Log {
                 from_the_first: true,
+                is_made_ahead,
             },
         }
     }
@@ -86,7 +92,7 @@ fn ended(status: Status, end: Result<(), EndFault>) -> Status {
 
 /// Does over the image file of this path what the other words ask for.
 fn run_on<D: OpenDisk>(rt: &HostRuntime, image: &str, words: &[&str], syncs: Syncs) -> Status {
-    let mut board = FileBoard::<D>::with(rt, image, syncs.gathered());
+    let mut board = FileBoard::<D>::with(rt, image, syncs.gathered(words));
     let status = run(rt.alloc(), words, &mut board);
     ended(status, board.finish())
 }
@@ -132,7 +138,7 @@ fn run_on_pair<D: OpenDisk>(
     if image == other || image == PAIR || other == PAIR {
         return Status::WORDS;
     }
-    let mut first = FileBoard::<D>::with(rt, image, syncs.gathered());
+    let mut first = FileBoard::<D>::with(rt, image, syncs.gathered(words));
     let mut second = FileBoard::<D>::with(rt, other, syncs.direct());
     let status = run_pair(rt.alloc(), words, &mut first, &mut second);
     let status = ended(status, second.finish());

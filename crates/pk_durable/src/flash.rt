@@ -81,14 +81,10 @@ impl<D: Disk + Drop> DurableFlash<D> {
             Ok(opened) => opened,
             Err(fault) => return Err(fault),
         };
-        let (count, extent) = (shape.page_count() as usize, shape.page_bytes() as usize);
-        let Ok(extents) = Vec::from_elem(alloc, extent, count) else {
-            return Err(LoadFault::Memory);
-        };
         let Ok(trail) = BoundedTrail::new(alloc, room) else {
             return Err(LoadFault::Memory);
         };
-        let Ok(redo) = RedoLog::new(alloc, log, image, shape, &replay, extents, sizes) else {
+        let Ok(redo) = RedoLog::new(alloc, log, image, shape, &replay, sizes) else {
             return Err(LoadFault::Memory);
         };
         Ok(DurableFlash {

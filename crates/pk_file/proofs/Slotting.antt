@@ -79,13 +79,3 @@ pub same_extent : (slots : List Slot) (i : ℕ) (s : Slot) → i < length slots 
 same_extent [] i s inside is extent own = absurd (omega (arith, inside))
 same_extent (x ∷ slots) zero s inside is extent own = ap (λ (n : ℕ). n ∷ extents_of slots) (own ∙ ap extent_of is)
 same_extent (x ∷ slots) (suc i) s inside is extent own = ap (λ (l : List ℕ). extent_of x ∷ l) (same_extent slots i s (omega (arith, inside)) is extent own)
-
-extents_pushed : (slots : List Slot) (s : Slot) → extents_of (slots ++ s ∷ []) ≡ extents_of slots ++ extent_of s ∷ []
-extents_pushed [] s = refl
-extents_pushed (x ∷ slots) s = ap (λ (l : List ℕ). extent_of x ∷ l) (extents_pushed slots s)
-
--- one more extent
-pub extents_more : (slots : List Slot) (i : ℕ) (s : Slot) → i < length slots → s ≡ get_or slots i s → (extent : ℕ) → extent ≡ extent_of s
-    → (before : List ℕ) → before ≡ extents_of (take i slots) → before ++ extent ∷ [] ≡ extents_of (take (i + 1) slots)
-extents_more slots i s inside is extent own before e =
-    (λ j. e j ++ own j ∷ []) ∙ (sym (extents_pushed (take i slots) s) ∙ ap extents_of ((λ j. take i slots ++ is j ∷ []) ∙ sym (take_more slots i s inside)))

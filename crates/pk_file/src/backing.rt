@@ -13,7 +13,7 @@ use crate::image_log::{ImageLog, new_log};
 use crate::logged::{commit_steps, erase_logged, program_logged};
 use crate::row::{PageWrites, Row};
 use crate::slot::Slot;
-use crate::slots::{erase_slots, extents_in, known, set_slot};
+use crate::slots::{erase_slots, known, set_slot};
 use crate::trimmed::Trimmed;
 use pk_base::Shape;
 use pk_disk::OpenDisk;
@@ -28,11 +28,17 @@ pub enum Keeping {
     Rows,
     /// Each page is written by its program, and is on the disk when this returns or when the system
     /// likes.
-    Direct { is_durable: bool },
+    Direct {
+        is_durable: bool,
+    },
     /// Changes go to a log beside the image, and are on the disk before anything leaves: all of
     /// them, or all but the first ones, which are written to the image, each row synced, as are all
-    /// if no log can be made.
-    Log { from_the_first: bool },
+    /// if no log can be made. A log that is made ahead is made when the image is opened, with all of
+    /// its room, and takes all changes.
+    Log {
+        from_the_first: bool,
+        is_made_ahead: bool,
+    },
 }
 
 /// Changes of a run that are written to the image before a log is made: a run of one word makes
@@ -59,8 +65,17 @@ impl Keeping {
         match self {
             Keeping::Log {
                 from_the_first: true,
+                ..
             } => 0,
             _ => CHANGES_WITHOUT_LOG,
+        }
+    }
+
+    /// Whether a log is made when the image is opened.
+    pub fn is_made_ahead(self) -> bool {
+        match self {
+            Keeping::Log { is_made_ahead, .. } => is_made_ahead,
+            _ => false,
         }
     }
 
@@ -363,14 +378,9 @@ impl<'a, D: OpenDisk> Backing<'a, D> {
     }
 
     /// A log for the image, which has all pages; None if none can be made.
-    fn made_log(&self, shape: &Shape, slots: &Vec<Slot>) -> Option<ImageLog<D>>
-        requires { length slots.now.items ≡ spec.page_count shape.now }
-    {
-        let Ok(extents) = extents_in(self.rt.alloc(), slots) else {
-            return None;
-        };
+    fn made_log(&self, shape: &Shape) -> Option<ImageLog<D>> {
         match &self.file {
-            Some(file) => new_log(self.rt, self.path, file, *shape, extents).ok(),
+            Some(file) => new_log(self.rt, self.path, file, *shape, false).ok(),
             None => None,
         }
     }
@@ -388,7 +398,7 @@ impl<'a, D: OpenDisk> Backing<'a, D> {
         if !write_waiting(&mut self.file, &own, slots, &mut self.row) {
             return false;
         }
-        self.log = self.made_log(shape, slots);
+        self.log = self.made_log(shape);
         self.uses_log = self.log.is_some();
         true
     }
@@ -529,7 +539,20 @@ impl<'a, D: OpenDisk> Backing<'a, D> {
         }
     }
 
-    /// The end of a run: the image alone is the drive, unless the run changed nothing.
+    /// Whether the log is brought into the image at the end: a change was asked for, or this run
+    /// made it.
+    fn ends_log(&self) -> bool {
+        if self.is_changed {
+            return true;
+        }
+        match &self.log {
+            Some(log) => log.is_new(),
+            None => false,
+        }
+    }
+
+    /// The end of a run: the image alone is the drive, unless the run changed nothing of an image
+    /// and its log.
     pub fn end(&mut self, shape: &Option<Shape>, slots: &Vec<Slot>) -> bool
         requires count { length slots.now.items ≡ spec.page_count (shape_or_none shape.now) }
         requires fit { AllFit (shape_or_none shape.now) slots.now.items }
@@ -537,7 +560,7 @@ impl<'a, D: OpenDisk> Backing<'a, D> {
             × (self.new.row.extents ≡ self.old.row.extents) }
     {
         match shape {
-            Some(shape) if self.is_changed => self.end_log(shape, slots),
+            Some(shape) if self.ends_log() => self.end_log(shape, slots),
             _ => true,
         }
     }

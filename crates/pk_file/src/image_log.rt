@@ -1,10 +1,12 @@
 //! The log that lies beside an image file.
-ghost use Rattle.std.specs.Prelude.{◌≡◌, length, true};
+ghost use Rattle.std.specs.Prelude.{◌≡◌, ◌+◌, ◌<◌, ◌≤◌, length, true};
 ghost use Rattle.pk_base.specs.Shape as spec;
+ghost use Rattle.pk_redo.specs.declared.batch.TheConstants.{BATCH_HEAD};
+ghost use Rattle.pk_redo.specs.declared.step.TheConstants.{STEP_BYTES};
 ghost use Rattle.pk_file.specs.Slots.{AllFit};
 
 use crate::image_file::ImageFile;
-use crate::logged::end_logged;
+use crate::logged::{begin_logged, end_logged};
 use crate::slot::Slot;
 use pk_base::Shape;
 use pk_disk::{OpenDisk, Syncs, Unknown, find_log, log_path, make_log, open_disk, remove_log};
@@ -27,6 +29,8 @@ pub struct ImageLog<D: OpenDisk> {
     pub redo: RedoLog<D>,
     pub shape: Shape,
     path: String,
+    /// Whether this run made it.
+    is_new: bool,
     ghost same: { redo.shape ≡ shape },
 }
 
@@ -58,17 +62,26 @@ fn fault_of(fault: LogFault) -> LoadFault {
     }
 }
 
-/// Opens an image and its log as disks, and reads what the log says. The extents say of each page
-/// how many bytes at its place in the image may differ from zero.
+/// How many bytes a log takes: with zeros ahead for all of it at once, or as it needs them.
+fn sizes_of(shape: &Shape, is_ahead: bool) -> LogSizes
+    ensures batch { STEP_BYTES + shape.now.page_bytes ≤ result.batch }
+    ensures blank { BATCH_HEAD + STEP_BYTES + shape.now.page_bytes < result.blank }
+{
+    if is_ahead {
+        LogSizes::ahead(shape)
+    } else {
+        LogSizes::usual(shape)
+    }
+}
+
+/// Opens an image and its log as disks, and reads what the log says.
 pub fn open_log<D: OpenDisk>(
     alloc: Global,
     image: File,
     log: LogFile,
     shape: Shape,
-    extents: Vec<usize>,
-) -> Result<(ImageLog<D>, Replay), LoadFault>
-    requires { length extents.items ≡ spec.page_count shape }
-{
+    is_ahead: bool,
+) -> Result<(ImageLog<D>, Replay), LoadFault> {
     let LogFile { file, path } = log;
     let Ok(mut disk) = D::open(file, true, Syncs::Made) else {
         return Err(LoadFault::Fault);
@@ -80,9 +93,17 @@ pub fn open_log<D: OpenDisk>(
         Ok(replay) => replay,
         Err(fault) => return Err(fault_of(fault)),
     };
-    let sizes = LogSizes::usual(&shape);
-    match RedoLog::new(alloc, disk, image, shape, &replay, extents, sizes) {
-        Ok(redo) => Ok((ImageLog { redo, shape, path }, replay)),
+    let sizes = sizes_of(&shape, is_ahead);
+    match RedoLog::new(alloc, disk, image, shape, &replay, sizes) {
+        Ok(redo) => Ok((
+            ImageLog {
+                redo,
+                shape,
+                path,
+                is_new: false,
+            },
+            replay,
+        )),
         Err(_) => Err(LoadFault::Memory),
     }
 }
@@ -100,22 +121,44 @@ pub fn new_log<D: OpenDisk>(
     path: &str,
     image: &ImageFile,
     shape: Shape,
-    extents: Vec<usize>,
-) -> Result<ImageLog<D>, LoadFault>
-    requires { length extents.items ≡ spec.page_count shape }
-{
+    is_ahead: bool,
+) -> Result<ImageLog<D>, LoadFault> {
     let Ok(file) = image.copy() else {
         return Err(LoadFault::Fault);
     };
     let Ok(log) = new_log_file(rt, path, &file) else {
         return Err(LoadFault::Fault);
     };
-    match open_log(rt.alloc(), file, log, shape, extents) {
-        Ok((log, _)) => Ok(log),
+    match open_log(rt.alloc(), file, log, shape, is_ahead) {
+        Ok((log, _)) => Ok(log.made()),
         Err(fault) => {
             let _ = remove_beside(rt, path);
             Err(fault)
         }
+    }
+}
+
+/// The same with all of its room, before the first change, so that no barrier has to wait for
+/// zeros. None if it cannot be made, or not with this room: then no file is left of it.
+pub fn log_ahead<D: OpenDisk>(
+    rt: &HostRuntime,
+    path: &str,
+    image: &ImageFile,
+    shape: &Shape,
+    slots: &Vec<Slot>,
+) -> Result<Option<ImageLog<D>>, LoadFault>
+    requires count { length slots.now.items ≡ spec.page_count shape.now }
+    requires fit { AllFit shape.now slots.now.items }
+{
+    let Ok(mut log) = new_log::<D>(rt, path, image, *shape, true) else {
+        return Ok(None);
+    };
+    if log.is_of(shape) && begin_logged(&mut log.redo, shape, slots) {
+        return Ok(Some(log));
+    }
+    match image.copy() {
+        Ok(file) if drop_log(rt, path, &file).is_ok() => Ok(None),
+        _ => Err(LoadFault::Fault),
     }
 }
 
@@ -126,6 +169,17 @@ fn remove_beside(rt: &HostRuntime, image: &str) -> io::Result<()> {
 }
 
 impl<D: OpenDisk> ImageLog<D> {
+    /// The same, as a log that this run made.
+    fn made(mut self) -> ImageLog<D> {
+        self.is_new = true;
+        self
+    }
+
+    /// Whether this run made it.
+    pub fn is_new(&self) -> bool {
+        self.is_new
+    }
+
     /// Whether it is the log of an image of this shape.
     pub fn is_of(&self, shape: &Shape) -> bool
         ensures { result ≡ true → self.now.redo.shape ≡ shape.now }
@@ -148,6 +202,7 @@ impl<D: OpenDisk> ImageLog<D> {
             mut redo,
             shape: _,
             path,
+            is_new: _,
         } = self;
         if !end_logged(&mut redo, shape, slots) {
             return Err(io::ErrorKind::Other.into());

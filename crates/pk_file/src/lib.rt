@@ -25,7 +25,9 @@ mod trimmed;
 
 pub use backing::Keeping;
 pub use file_board::{EndFault, FileBoard};
-pub use logged::{SlotPages, commit_steps, end_logged, erase_logged, program_logged, replay_steps};
+pub use logged::{
+    SlotPages, begin_logged, commit_steps, end_logged, erase_logged, program_logged, replay_steps,
+};
 pub use page_reader::copied;
 pub use pk_disk::{DiskFile, OpenDisk, Unknown, Wary};
 pub use slot::Slot;

@@ -8,6 +8,7 @@ ghost use Rattle.pk_redo.specs.Bytes.{bytes_at};
 ghost use Rattle.pk_redo.specs.Steps.{step_mark};
 ghost use Rattle.pk_redo.specs.Kept.{ImageAlone, replay_marks};
 ghost use Rattle.pk_redo.specs.declared.batch.TheConstants.{BATCH_HEAD};
+ghost use Rattle.pk_redo.specs.declared.redo_log.LogState.{LogState};
 ghost use Rattle.pk_file.specs.Slots.{pages_of, AllFit, ErasedRow};
 ghost use Rattle.pk_file.specs.Trims.{bytes_in};
 ghost use Rattle.pk_file.specs.Logged.{KeepsTrail, StillKeepsTrail, ReadsPrefix};
@@ -168,6 +169,33 @@ pub fn erase_logged<D: Disk>(
     let first = block * count;
     erase_slots(slots, first as usize, count as usize);
     Ok(())
+}
+
+/// Makes a log as it was found ready for steps, before the first of them.
+pub fn begin_logged<D: Disk>(redo: &mut RedoLog<D>, shape: &Shape, slots: &Vec<Slot>) -> bool
+    requires count { length slots.now.items ≡ spec.page_count shape.now }
+    requires fit { AllFit shape.now slots.now.items }
+    requires shape { redo.old.shape ≡ shape.now }
+    ensures crash { IsTrue (D.Disk.is_clean redo.new.log)
+        → (start : Flash) (trail : List Mark) (least : ℕ)
+        → KeepsTrail D.Disk redo.old shape.now start trail least (pages_of slots.now.items)
+        → ReadsPrefix D.Disk redo.new shape.now start trail least }
+    ensures keeps { IsTrue (D.Disk.is_clean redo.new.log)
+        → (start : Flash) (trail : List Mark) (least : ℕ)
+        → KeepsTrail D.Disk redo.old shape.now start trail least (pages_of slots.now.items)
+        → StillKeepsTrail D.Disk redo.new shape.now start trail least
+        (pages_of slots.now.items) }
+    ensures ready { result ≡ true → redo.new.state ≡ LogState.Ready }
+    ensures shape { redo.new.shape ≡ redo.old.shape }
+{
+    let pages = SlotPages {
+        shape: *shape,
+        slots,
+    };
+    match redo.begin(&pages) {
+        Ok(()) => true,
+        Err(_) => false,
+    }
 }
 
 /// The barrier: makes the steps that wait durable.

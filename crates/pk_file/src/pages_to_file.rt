@@ -7,7 +7,7 @@ ghost use Rattle.pk_file.specs.FileSteps.{erase_steps};
 
 use crate::backing::Keeping;
 use crate::image_file::{ImageFile, PageFile};
-use crate::image_log::{ImageLog, LogFile, drop_log, log_beside, open_log};
+use crate::image_log::{ImageLog, LogFile, drop_log, log_ahead, log_beside, open_log};
 use crate::logged::replay_steps;
 use crate::opening::{open_alone, sync_folder};
 use crate::page_reader::PageReader;
@@ -151,20 +151,16 @@ fn slots_in(alloc: Global, file: &File, shape: &Shape) -> Result<Vec<Slot>, Load
     }
 }
 
-/// Opens a file and its log, and reads what the log says. What an earlier run left after the pages
-/// of the file is not known.
+/// Opens a file and its log, and reads what the log says.
 fn log_of<D: OpenDisk>(
     alloc: Global,
     file: &File,
     shape: &Shape,
     log: LogFile,
+    keeping: Keeping,
 ) -> Result<(ImageLog<D>, Replay), LoadFault> {
-    let size = shape.page_bytes() as usize;
-    let Ok(extents) = Vec::from_elem(alloc, size, shape.page_count() as usize) else {
-        return Err(LoadFault::Memory);
-    };
     match file.try_clone() {
-        Ok(copy) => open_log(alloc, copy, log, *shape, extents),
+        Ok(copy) => open_log(alloc, copy, log, *shape, keeping.is_made_ahead()),
         Err(_) => Err(LoadFault::Fault),
     }
 }
@@ -175,11 +171,12 @@ fn slots_beside<D: OpenDisk>(
     file: &File,
     shape: &Shape,
     log: LogFile,
+    keeping: Keeping,
 ) -> Result<(Vec<Slot>, ImageLog<D>), LoadFault>
     ensures count { IfOk result (λ it. length it.0.items ≡ spec.page_count shape.now) }
     ensures fit { IfOk result (λ it. AllFit shape.now it.0.items) }
 {
-    match log_of(alloc, file, shape, log) {
+    match log_of(alloc, file, shape, log, keeping) {
         Ok((log, replay)) => match slots_after(alloc, file, shape, &replay) {
             Ok(slots) => Ok((slots, log)),
             Err(fault) => Err(fault),
@@ -194,6 +191,7 @@ fn pages_in<D: OpenDisk>(
     file: &File,
     shape: &Shape,
     log: Option<LogFile>,
+    keeping: Keeping,
 ) -> Result<(Vec<Slot>, Option<ImageLog<D>>), LoadFault>
     ensures count { IfOk result (λ it. length it.0.items ≡ spec.page_count shape.now) }
     ensures fit { IfOk result (λ it. AllFit shape.now it.0.items) }
@@ -203,7 +201,7 @@ fn pages_in<D: OpenDisk>(
             Ok(slots) => Ok((slots, None)),
             Err(fault) => Err(fault),
         },
-        Some(log) => match slots_beside(alloc, file, shape, log) {
+        Some(log) => match slots_beside(alloc, file, shape, log, keeping) {
             Ok((slots, log)) => Ok((slots, Some(log))),
             Err(fault) => Err(fault),
         },
@@ -225,7 +223,7 @@ fn read_image<D: OpenDisk>(
     let Ok(row) = Row::for_shape(alloc, &shape, keeping.is_durable(), keeping.writes()) else {
         return Err(LoadFault::Memory);
     };
-    match pages_in(alloc, &file, &shape, log) {
+    match pages_in(alloc, &file, &shape, log, keeping) {
         Ok((slots, log)) => Ok(Image {
             file: ImageFile::new(file, len, keeping.is_durable()),
             shape,
@@ -237,8 +235,29 @@ fn read_image<D: OpenDisk>(
     }
 }
 
+/// The same image with a log, if it has none and one is made before the first change.
+fn with_log<D: OpenDisk>(
+    rt: &HostRuntime,
+    path: &str,
+    image: Image<D>,
+    keeping: Keeping,
+) -> Result<Image<D>, LoadFault> {
+    let mut image = image;
+    if image.log.is_some() || !keeping.is_made_ahead() {
+        return Ok(image);
+    }
+    match log_ahead(rt, path, &image.file, &image.shape, &image.slots) {
+        Ok(log) => {
+            image.log = log;
+            Ok(image)
+        }
+        Err(fault) => Err(fault),
+    }
+}
+
 /// The image at this path, with what its log says; None if there is none. If changes have to be on
-/// the disk, so has to be what an earlier run wrote. Neither file is written.
+/// the disk, so has to be what an earlier run wrote. The image is not written, and of its log only
+/// one that it had not.
 pub fn find_image<D: OpenDisk>(
     rt: &HostRuntime,
     alloc: Global,
@@ -256,7 +275,11 @@ pub fn find_image<D: OpenDisk>(
     if keeping.is_durable() && file.sync_data().is_err() {
         return Err(LoadFault::Fault);
     }
-    match read_image(alloc, file, len, log, keeping) {
+    let image = match read_image(alloc, file, len, log, keeping) {
+        Ok(image) => image,
+        Err(fault) => return Err(fault),
+    };
+    match with_log(rt, path, image, keeping) {
         Ok(image) => Ok(Some(image)),
         Err(fault) => Err(fault),
     }

@@ -162,14 +162,3 @@ pub fn erase_slots(slots: &mut Vec<Slot>, first: usize, count: usize)
         set_slot(slots, first + i, slot);
     }
 }
-
-/// How many bytes at the place of each page in the file may differ from zero.
-pub fn extents_in(alloc: Global, slots: &Vec<Slot>) -> Result<Vec<usize>, AllocError>
-    ensures { IfOk result (λ v. v.items ≡ extents_of slots.now.items) }
-{
-    let mut extents = Vec::with_capacity(alloc, slots.len())?;
-    for i in 0..slots.len() {
-        extents.push(slots[i].extent())?;
-    }
-    Ok(extents)
-}

@@ -27,30 +27,6 @@ use sqlite_disk::Disk;
 use std::alloc::{AllocError, Global};
 use std::io;
 
-/// All bytes at the places of pages of this size may differ from zero.
-fn set_extents(extents: &mut Vec<usize>, size: usize)
-    ensures extents { (k : ℕ) → k < length extents.old.items
-        → slice_index extents.new.items k ≡ size }
-    ensures len { length extents.new.items ≡ length extents.old.items }
-{
-    extents.as_mut_slice().fill(size);
-}
-
-/// Zeros that follow the record of a log that begins: many runs need no more.
-const FIRST_BLANK: usize = 1 << 18;
-
-/// The first of these zeros, with at least this many.
-fn first_zeros(blank: &Vec<u8>, least: usize) -> &[u8]
-    requires { least ≤ length blank.now.items }
-    ensures same { (i : ℕ) → i < length result.now
-        → slice_index result.now i ≡ slice_index blank.now.items i }
-    ensures least { least ≤ length result.now }
-    ensures most { length result.now ≤ length blank.now.items }
-{
-    let len = blank.len().min(FIRST_BLANK.max(least));
-    &blank.as_slice()[..len]
-}
-
 /// A call of a log to which nothing more is written.
 fn ended() -> io::Error {
     io::Error::other("the log has ended")
@@ -123,18 +99,15 @@ fn commit_pending<D: Disk>(
 
 impl<D: Disk + Drop> RedoLog<D> {
     /// Takes an image and its log, as both were read, and the memory for all later calls. Nothing
-    /// is asked of the disks. The extents are memory too: what is at the place of a page is known
-    /// once this run wrote it.
+    /// is asked of the disks. What is at the place of a page is known once this run wrote it.
     pub fn new(
         alloc: Global,
         log: D,
         image: D,
         shape: Shape,
         replay: &Replay,
-        mut extents: Vec<usize>,
         sizes: LogSizes,
     ) -> Result<RedoLog<D>, AllocError>
-        requires extents { length extents.items ≡ spec.page_count shape }
         requires sizes { (STEP_BYTES + shape.page_bytes ≤ sizes.batch)
             × (BATCH_HEAD + STEP_BYTES + shape.page_bytes < sizes.blank) }
         // If the disks hold what is seen of them, and nothing else, the pages after the replay are
@@ -148,7 +121,7 @@ impl<D: Disk + Drop> RedoLog<D> {
         ensures disks { IfOk result (λ redo. (redo.log ≡ log) × (redo.image ≡ image)) }
     {
         let count = shape.page_count() as usize;
-        set_extents(&mut extents, shape.page_bytes() as usize);
+        let extents = Vec::from_elem(alloc, shape.page_bytes() as usize, count)?;
         Ok(RedoLog {
             log,
             image,
@@ -284,8 +257,7 @@ impl<D: Disk> RedoLog<D> {
             Ok(()) => {}
             Err(error) => return Err(error),
         }
-        let step = BATCH_HEAD + STEP_BYTES + self.shape.page_bytes() as usize;
-        let blank = first_zeros(&self.blank, step + 1);
+        let blank = self.blank.as_slice();
         match finish(
             &mut self.log,
             &mut self.image,
@@ -437,8 +409,9 @@ impl<D: Disk> RedoLog<D> {
         }
     }
 
-    /// Makes a log as it was found ready for steps.
-    fn begin<P: Pages>(&mut self, pages: &P) -> io::Result<()>
+    /// Makes a log as it was found ready for steps: the image gets its pages, and zeros follow the
+    /// record of the image. A log that is ready stays as it is.
+    pub fn begin<P: Pages>(&mut self, pages: &P) -> io::Result<()>
         requires shape { P.shape_of pages.now ≡ self.old.shape }
         ensures keeps { IsTrue (D.Disk.is_clean self.new.log) → (kept now : Flash)
             → KeepsPages D.Disk self.old kept now → P.flash_of pages.now ≡ now

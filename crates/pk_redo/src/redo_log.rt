@@ -29,7 +29,7 @@ pub enum LogState {
 pub struct LogSizes {
     /// Steps of a batch in memory.
     pub(crate) batch: usize,
-    /// Zeros that are written ahead at a time.
+    /// Zeros that are written ahead at a time, and first behind the record.
     pub(crate) blank: usize,
     /// A log that is as long is emptied before it grows more.
     pub(crate) limit: usize,
@@ -39,7 +39,7 @@ pub struct LogSizes {
 /// Steps of a batch in memory, zeros ahead, and the length of a log, if nobody asks for others.
 const USUAL_BATCH: u32 = 1 << 20;
 
-const USUAL_BLANK: u32 = 1 << 20;
+const USUAL_BLANK: u32 = 1 << 18;
 
 const USUAL_LIMIT: u32 = 4 << 20;
 
@@ -50,6 +50,14 @@ impl LogSizes {
         ensures blank { BATCH_HEAD + STEP_BYTES + shape.now.page_bytes < result.blank }
     {
         LogSizes::new(shape, USUAL_BATCH, USUAL_BLANK, USUAL_LIMIT)
+    }
+
+    /// The same, with zeros ahead for all of a log at once, so that no barrier waits for more.
+    pub fn ahead(shape: &Shape) -> LogSizes
+        ensures batch { STEP_BYTES + shape.now.page_bytes ≤ result.batch }
+        ensures blank { BATCH_HEAD + STEP_BYTES + shape.now.page_bytes < result.blank }
+    {
+        LogSizes::new(shape, USUAL_BATCH, USUAL_LIMIT, USUAL_LIMIT)
     }
 
     /// These, each raised to the least with which a step fits, and none above the longest batch.

@@ -41,7 +41,7 @@ returns-in-Ok-finish-clause-keeps g c = λ clean kept k same.
     (subst (λ (f : Flash). RecordFits self.shape (drop 9 c.note_record.new.first.items) (header_bytes self.shape) (λ page. state_byte (page_at f page)) []) same c.note_record.ensures.fits) in
     let own = own_record g.D.Disk self kept k image within stay written (drop 9 c.deref.result.now) fits in
     let done = c.in-Ok-finish.ensures.done clean own in
-    let says : LogSays g.D.Disk c.finish.new.log self.shape (g.D.Disk.seen image) [] (16 + c.len.result) (16 + c.len.result + length c.first_zeros-blank.result.now) =
+    let says : LogSays g.D.Disk c.finish.new.log self.shape (g.D.Disk.seen image) [] (16 + c.len.result) (16 + c.len.result + length c.as_slice-blank.result.now) =
     says_at g.D.Disk _ _ _ _ _ _ _ _ (search (arith, c.len.ensures, c.deref.ensures.value, c.deref.ensures.len))
     (search (arith, c.len.ensures, c.deref.ensures.value, c.deref.ensures.len)) done.0 in
     inl (record {
@@ -49,7 +49,7 @@ returns-in-Ok-finish-clause-keeps g c = λ clean kept k same.
       marks = [];
       later = [];
       files = record {
-        stands = says_stands g.D.Disk c.finish.new.log self.shape (g.D.Disk.seen image) [] _ _ (search (arith, c.first_zeros-blank.ensures.least)) says;
+        stands = says_stands g.D.Disk c.finish.new.log self.shape (g.D.Disk.seen image) [] _ _ (search arith) says;
         ready = λ is. says;
         within = within_itself g.D.Disk self kept k image within stay written _ done.1;
         header = header_after g.D.Disk self kept k image within stay written;
