@@ -117,7 +117,7 @@ pub const REPORT_BYTES: usize = 24 + 64;
 /// The bytes of a Retrieve's record.
 pub const FOUND_BYTES: usize = 24 + 3;
 
-/// How many pages the Retrieve read whose record has so many bytes, and ends so many before the end.
+/// How many pages the Retrieve read whose record has this length, and ends this many bytes before the end.
 pub fn reads_of(posted: &[u8], bytes: usize, behind: usize) -> Result<u32, Fail> {
     let start = posted
         .len()
