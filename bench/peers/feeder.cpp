@@ -3,11 +3,11 @@
 // line of JSON for the opening, for each phase and for the end; ends with 1 if an answer differed
 // or the server failed.
 //
-//   feeder [--cpu N] [--patience SECONDS] [--probe KEY] [--before FILE ..] [--phase FILE ..]
-//          -- COMMAND ..
+//   feeder [--cpu N] [--patience SECONDS] [--probe KEY] [--waits] [--before FILE ..]
+//          [--phase FILE ..] -- COMMAND ..
 //
 // --before: a script that the store has served in an earlier session; --probe: the key of the
-// Retrieve that ends the opening.
+// Retrieve that ends the opening; --waits: what follows a Flush is sent when the Flush is answered.
 
 #include <getopt.h>
 #include <sched.h>
@@ -38,6 +38,7 @@ constexpr std::uint32_t probe_bytes = 4096;
 struct Plan {
     int cpu = -1;
     int patience = 120;
+    bool waits = false;
     std::string probe = "probe";
     std::vector<std::string> before;
     std::vector<std::string> phases;
@@ -90,7 +91,8 @@ class Session {
         : model_(model),
           start_(usage_of(::getpid()).clock),
           child_(plan.command),
-          conversation_(child_.input(), child_.output(), plan.patience) {}
+          conversation_(child_.input(), child_.output(), plan.patience),
+          waits_(plan.waits) {}
 
     bool agrees() const { return agrees_; }
 
@@ -145,15 +147,33 @@ class Session {
     /// Sends the script that the model served last; how many of its entries were answered.
     std::size_t feed(const std::vector<Answer>& answers, Tally& tally) {
         std::size_t next = 0;
-        const auto answered = conversation_.exchange(
-            model_.last_script(), answers.size(), [&](const Head& head, std::string_view data) {
-                const auto& wanted = answers[next];
-                tally.record_bytes += head_bytes + data.size();
-                tally.reads += head.reads;
-                if (!equal(wanted, head, data)) report(next, wanted, head, data, tally);
-                ++next;
-            });
+        const auto take = [&](const Head& head, std::string_view data) {
+            const auto& wanted = answers[next];
+            tally.record_bytes += head_bytes + data.size();
+            tally.reads += head.reads;
+            if (!equal(wanted, head, data)) report(next, wanted, head, data, tally);
+            ++next;
+        };
+        const auto script = model_.last_script();
+        const auto answered = waits_ ? feed_each(script, answers, take)
+                                     : conversation_.exchange(script, answers.size(), take);
         if (answered < answers.size() || tally.differences > 0) agrees_ = false;
+        return answered;
+    }
+
+    /// Sends the entries of the script up to the next Flush when all before them were answered.
+    std::size_t feed_each(std::string_view script, const std::vector<Answer>& answers,
+                          const Conversation::Take& take) {
+        std::size_t answered = 0, size = 0;
+        for (std::size_t sent = 0; sent < answers.size();) {
+            const auto& entry = answers[sent++].entry;
+            size += entry_bytes + (entry.opcode == Opcode::store ? entry.size : 0);
+            if (entry.opcode != Opcode::flush && sent < answers.size()) continue;
+            answered += conversation_.exchange(script.substr(0, size), sent - answered, take);
+            if (answered < sent) break;
+            script.remove_prefix(size);
+            size = 0;
+        }
         return answered;
     }
 
@@ -180,6 +200,7 @@ class Session {
     double start_;
     Child child_;
     Conversation conversation_;
+    bool waits_;
     bool agrees_ = true;
 };
 
@@ -192,6 +213,7 @@ Plan plan_of(int count, char** words) {
     const option names[] = {{"cpu", required_argument, nullptr, 'c'},
                             {"patience", required_argument, nullptr, 'w'},
                             {"probe", required_argument, nullptr, 'k'},
+                            {"waits", no_argument, nullptr, 'o'},
                             {"before", required_argument, nullptr, 'b'},
                             {"phase", required_argument, nullptr, 'p'},
                             {nullptr, 0, nullptr, 0}};
@@ -201,6 +223,7 @@ Plan plan_of(int count, char** words) {
             case 'c': plan.cpu = std::stoi(optarg); break;
             case 'w': plan.patience = std::stoi(optarg); break;
             case 'k': plan.probe = optarg; break;
+            case 'o': plan.waits = true; break;
             case 'b': plan.before.emplace_back(optarg); break;
             case 'p': plan.phases.emplace_back(optarg); break;
             default: std::exit(usage_status);

@@ -14,8 +14,9 @@ from workload import PROBE, key_of
 
 # The launcher ./pink sets the same: the image in memory takes large pages of the system.
 PINK_ENVIRONMENT = {"GLIBC_TUNABLES": "glibc.malloc.hugetlb=1"}
-# Each program and erase is on the disk when its call returns.
+# Each change is on the disk before its answer, in the modes of DURABLE.
 SYNC = "PINK_SYNC"
+DURABLE = ("durable", "waiting")
 
 
 class SessionFailed(Exception):
@@ -40,22 +41,24 @@ class Bench:
         """The command of a server."""
         if engine.program is None:
             return [str(self.pink), str(store), "serve", str(engines.FRAMES)]
-        words = [*engine.words, "--group", str(1 if mode == "alone" else engines.GROUP)]
-        if mode == "durable":
+        words = [*engine.words, "--group", str(1 if mode in ("alone", "waiting") else engines.GROUP)]
+        if mode in DURABLE:
             words.append("--sync")
         return [str(self.programs / engine.program), *words, str(store)]
 
     def feed(
-        self, command: list[str], phases: list[Path], before: list[Path], durable: bool = False
+        self, command: list[str], phases: list[Path], before: list[Path], mode: str = "groups"
     ) -> dict[str, dict[str, float]]:
         """What the feeder reports of each phase of a session."""
         words = [str(self.programs / "feeder"), "--cpu", str(self.cpu)]
+        if mode == "waiting":
+            words.append("--waits")
         words += ["--patience", str(self.patience), "--probe", key_of(PROBE).decode()]
         for path in before:
             words += ["--before", str(path)]
         for path in phases:
             words += ["--phase", str(path)]
-        environment = os.environ | PINK_ENVIRONMENT | {SYNC: "1" if durable else "0"}
+        environment = os.environ | PINK_ENVIRONMENT | {SYNC: "1" if mode in DURABLE else "0"}
         done = subprocess.run(
             [*words, "--", *command], stdout=subprocess.PIPE, text=True, env=environment
         )
@@ -115,7 +118,7 @@ def measure(bench: Bench, engine: Engine, phases: list[Path], mode: str) -> dict
     bench.make(engine, store)
     command = bench.command(engine, store, mode)
     try:
-        told = bench.feed(command, phases, [], mode == "durable")
+        told = bench.feed(command, phases, [], mode)
         result: dict[str, object] = {"phases": told}
         if mode == "groups" and engine.name != "map":
             result["disk"] = sum(path.stat().st_blocks * 512 for path in files_of(store))

@@ -6,6 +6,7 @@ from dataclasses import dataclass
 from typing import Any, Callable, Iterable
 
 from engines import ENGINES
+from sessions import DURABLE
 
 PHASES = {
     "store": "Store of a new key",
@@ -25,6 +26,7 @@ MODES = {
     "groups": "changes in groups of at most 127",
     "alone": "each change committed alone",
     "durable": "changes in groups of at most 127, each on the disk before its answer",
+    "waiting": "each change on the disk and answered before the next one is sent",
 }
 
 Run = dict[str, Any]
@@ -110,7 +112,7 @@ def title_of(engine: str) -> str:
 
 
 def heading(case: Case) -> str:
-    keys = f"{case.keys:,} keys" if case.mode == "durable" else f"{case.live} % of the space live"
+    keys = f"{case.keys:,} keys" if case.mode in DURABLE else f"{case.live} % of the space live"
     return f"{keys}, values of {case.value:,} bytes, {MODES[case.mode]}"
 
 
@@ -219,7 +221,7 @@ def report(results: dict[str, Any]) -> str:
         if (case.live, case.value, case.mode) == README_CASE:
             parts += [f"**README** ({heading(case)}; thousands a second)\n", readme_table(case)]
     for case in cases:
-        if case.mode == "durable":
+        if case.mode in DURABLE:
             parts += [f"**{heading(case)}**: commands a second\n", durable_table(case)]
             continue
         parts += [f"**{heading(case)}**: thousands of commands a second of processor time\n"]
