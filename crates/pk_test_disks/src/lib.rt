@@ -7,5 +7,7 @@ mod outcomes;
 mod random;
 
 pub use medium::{Effect, Fails, MADE_TO_FAIL, Medium, Unsynced};
-pub use outcomes::{BASIC, Earlier, Remains, any_left, extremes, last_len, outcome};
+pub use outcomes::{
+    BASIC, Earlier, Remains, any_left, extremes, last_len, outcome, simple_extremes,
+};
 pub use random::Random;

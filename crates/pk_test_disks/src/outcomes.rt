@@ -278,16 +278,22 @@ fn push_single(all: &mut Vec<Remains>, changes: usize) -> Result<(), AllocError>
     Ok(())
 }
 
-/// The extremes of what may remain of a file: nothing, all, each byte another one where any may be,
-/// each change alone, all but each, and the last one torn after the others were kept, lost or spoiled.
-pub fn extremes(alloc: Global, medium: &Medium) -> Result<Vec<Remains>, AllocError> {
+/// The simple extremes of what may remain of a file: nothing, all, each byte another one where any
+/// may be, each change alone, and all but each.
+pub fn simple_extremes(alloc: Global, medium: &Medium) -> Result<Vec<Remains>, AllocError> {
     let mut all = BASIC.to_vec(alloc)?;
-    let count = medium.changes().len();
-    push_single(&mut all, count)?;
-    push_torn(&mut all, Earlier::Kept, last_len(medium))?;
-    if count > 1 {
-        push_torn(&mut all, Earlier::Lost, last_len(medium))?;
-        push_torn(&mut all, Earlier::Spoiled, last_len(medium))?;
+    push_single(&mut all, medium.changes().len())?;
+    Ok(all)
+}
+
+/// These, and the last change torn after the others were kept, lost or spoiled.
+pub fn extremes(alloc: Global, medium: &Medium) -> Result<Vec<Remains>, AllocError> {
+    let mut all = simple_extremes(alloc, medium)?;
+    let len = last_len(medium);
+    push_torn(&mut all, Earlier::Kept, len)?;
+    if medium.changes().len() > 1 {
+        push_torn(&mut all, Earlier::Lost, len)?;
+        push_torn(&mut all, Earlier::Spoiled, len)?;
     }
     Ok(all)
 }

@@ -72,7 +72,7 @@ fn replay_steps(alloc: Global, drive: &mut DrivePages, replay: &Replay) -> Resul
 }
 
 /// Opens the files; the fault if they are refused.
-pub fn open(
+pub fn open_files(
     alloc: Global,
     log: &mut Medium,
     image: &mut Medium,

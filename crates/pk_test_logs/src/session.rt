@@ -6,7 +6,7 @@ ghost use Rattle.pk_test_logs.specs.declared.cell.TheConstants.{PAGE};
 use crate::cell::PAGE;
 use crate::deeds::{Deed, bytes_from};
 use crate::drive::DrivePages;
-use crate::reading::{IMAGE, OpenedDrive, open};
+use crate::reading::{IMAGE, OpenedDrive, open_files};
 use pk_base::Shape;
 use pk_image::header;
 use pk_redo::{LogFault, LogSizes, RedoLog, Replay};
@@ -257,7 +257,7 @@ pub fn log_session(
     deeds: &[Deed],
     after: After,
 ) -> Result<Result<(Done, Files), LogFault>, AllocError> {
-    let opened = match open(alloc, &mut files.log, &mut files.image)? {
+    let opened = match open_files(alloc, &mut files.log, &mut files.image)? {
         Ok(opened) => opened,
         Err(fault) => return Ok(Err(fault)),
     };

@@ -4,7 +4,7 @@ ghost use Rattle.std.specs.Prelude.{◌≤◌};
 
 use crate::deeds::{Deed, bytes_from};
 use crate::drive::DrivePages;
-use crate::reading::open;
+use crate::reading::open_files;
 use crate::session::{After, Done, FailingCalls, Files, NO_FAILURE, log_session, new_files};
 use pk_test_disks::{BASIC, Fails, Medium, Random, Remains, any_left, extremes, outcome};
 use sqlite_disk::Disk;
@@ -89,7 +89,7 @@ fn try_files(
     image: &mut Medium,
     seen: &mut Seen,
 ) -> Result<(), AllocError> {
-    match open(alloc, log, image)? {
+    match open_files(alloc, log, image)? {
         Ok(opened) => seen.note(is_cut(alloc, done, &opened.drive)?),
         Err(_) => seen.note(false),
     }
@@ -190,7 +190,7 @@ pub fn reopened(alloc: Global, files: &Files, failing: FailingCalls) -> Result<F
 pub fn is_image_alone(alloc: Global, done: &Done, files: &Files) -> Result<bool, AllocError> {
     let mut log = Medium::new(alloc, &[], true, Fails::Never)?;
     let mut image = Medium::new(alloc, files.image.synced(), true, Fails::Never)?;
-    match open(alloc, &mut log, &mut image)? {
+    match open_files(alloc, &mut log, &mut image)? {
         Ok(opened) => Ok(done.is_over && opened.drive.is_same(&done.end)),
         Err(_) => Ok(false),
     }

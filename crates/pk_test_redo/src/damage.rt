@@ -1,9 +1,9 @@
 //! Logs that lost bytes after a session.
 ghost use Rattle.std.specs.Prelude.{◌≤◌, length};
 
-use crate::stops::stopped;
+use pk_redo::{BATCH_HEAD, find_batches};
 use pk_test_disks::{Fails, Medium};
-use pk_test_logs::{DrivePages, is_cut, open, pages_after};
+use pk_test_logs::{DrivePages, is_cut, open_files, pages_after, stopped_session};
 use std::alloc::{AllocError, Global};
 use std::test::Fail;
 
@@ -12,6 +12,9 @@ use std::test::Fail;
 const BEGIN: usize = 16 + (9 + 32 + 68) + (9 + 8 + 512);
 
 const END: usize = BEGIN + 9 + 8 + 8 + (8 + 200);
+
+// Bytes of a log of these sessions, at most.
+const MOST_LOG: usize = 8192;
 
 // Steps before that batch.
 const BEFORE: usize = 13;
@@ -24,7 +27,7 @@ pub fn open_bytes(
 ) -> Result<Option<DrivePages>, AllocError> {
     let mut log = Medium::new(alloc, log, true, Fails::Never)?;
     let mut image = Medium::new(alloc, image, true, Fails::Never)?;
-    match open(alloc, &mut log, &mut image)? {
+    match open_files(alloc, &mut log, &mut image)? {
         Ok(opened) => Ok(Some(opened.drive)),
         Err(_) => Ok(None),
     }
@@ -70,7 +73,7 @@ fn front(log: &[u8], len: usize) -> &[u8] {
 #[test]
 fn last_batch_cut(rt: HostRuntime) -> Result<(), Fail> {
     let alloc = rt.alloc();
-    let (done, files) = stopped(alloc, true)?;
+    let (done, files) = stopped_session(alloc, true)?;
     let (log, image) = (files.log.bytes(), files.image.synced());
     assert!(rt; log.len() > END);
     assert!(rt; opens_as(alloc, front(log, END), image, &done.end)?);
@@ -93,7 +96,7 @@ fn last_batch_cut(rt: HostRuntime) -> Result<(), Fail> {
 #[test]
 fn each_byte_lost(rt: HostRuntime) -> Result<(), Fail> {
     let alloc = rt.alloc();
-    let (mut done, files) = stopped(alloc, true)?;
+    let (mut done, files) = stopped_session(alloc, true)?;
     done.durable = 0;
     let (log, image) = (files.log.bytes(), files.image.synced());
     let without = pages_after(alloc, &done, BEFORE)?;
@@ -113,5 +116,60 @@ fn each_byte_lost(rt: HostRuntime) -> Result<(), Fail> {
         }
     }
     assert!(rt; others > 700, "{others}");
+    Ok(())
+}
+
+// What a byte of the last batch is changed to, by what it is.
+fn other_bytes(byte: u8) -> [u8; 7] {
+    [
+        0,
+        1,
+        0x50,
+        0xFF,
+        byte ^ 1,
+        byte ^ 0x80,
+        byte.wrapping_add(1),
+    ]
+}
+
+// The batches that a log has of which a byte of the last one is another: all, exactly if it is a byte
+// of the body and is 0 as it was, or is not 0 as it was not; and else those before the last one.
+fn is_one_or_all(
+    alloc: Global,
+    log: &[u8],
+    whole: &[(usize, usize)],
+    at: usize,
+    byte: u8,
+) -> Result<bool, AllocError> {
+    let old = log.get(at).copied().unwrap_or(0);
+    let is_kept = old == byte || at >= BEGIN + BATCH_HEAD && (old == 0) == (byte == 0);
+    let wanted = if is_kept {
+        whole
+    } else {
+        &whole[..whole.len().saturating_sub(1)]
+    };
+    let changed = changed_at(alloc, log, at, byte)?;
+    if changed.len() > MOST_LOG {
+        return Ok(false);
+    }
+    Ok(find_batches(alloc, &changed)?.as_slice() == wanted)
+}
+
+// Any one byte of the last batch is another one: the batches before it are read, or all.
+#[test]
+fn any_byte(rt: HostRuntime) -> Result<(), Fail> {
+    let (_, files) = stopped_session(rt.alloc(), true)?;
+    let log = files.log.bytes();
+    assert!(rt; log.len() <= MOST_LOG);
+    let whole = find_batches(rt.alloc(), log)?;
+    assert!(rt; whole.as_slice().last() == Some(&(BEGIN + BATCH_HEAD, END - BEGIN - BATCH_HEAD)));
+    for at in BEGIN..END {
+        for byte in other_bytes(log.get(at).copied().unwrap_or(0)) {
+            assert!(rt;
+                is_one_or_all(rt.alloc(), log, &whole, at, byte)?,
+                "{at} {byte}"
+            );
+        }
+    }
     Ok(())
 }

@@ -1,10 +1,9 @@
 //! Sessions of which one call of a file fails, and which go on.
 
-use crate::stops::{Which, failing_of, file_of};
 use pk_test_disks::{BASIC, Effect, Fails, Random};
 use pk_test_logs::{
-    After, Done, Files, Seen, fresh_session, is_image_alone, try_chances, try_pairs, whole_session,
-    worked_deeds,
+    After, Done, Files, Seen, WhichFile, failing_of, file_of, fresh_session, is_image_alone,
+    try_chances, try_pairs, whole_session, worked_deeds,
 };
 use std::alloc::Global;
 use std::test::Fail;
@@ -62,7 +61,7 @@ fn note_session(
 fn try_failures(
     alloc: Global,
     is_mixing: bool,
-    which: Which,
+    which: WhichFile,
     effect: Effect,
     seen: &mut Seen,
 ) -> Result<Found, Fail> {
@@ -88,7 +87,7 @@ fn each_call_fails(rt: HostRuntime) -> Result<(), Fail> {
     let mut seen = Seen::NONE;
     for is_mixing in [true, false] {
         for effect in [Effect::Nothing, Effect::Half, Effect::Everything] {
-            for which in [Which::Log, Which::Image] {
+            for which in [WhichFile::Log, WhichFile::Image] {
                 let found = try_failures(rt.alloc(), is_mixing, which, effect, &mut seen)?;
                 assert_eq!(rt; found.unopened, 2);
                 assert!(rt; found.over >= 2 && found.lost >= 3, "{which:?} {found:?}");

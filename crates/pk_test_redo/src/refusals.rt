@@ -2,10 +2,11 @@
 ghost use Rattle.std.specs.Prelude.{◌≤◌, length};
 
 use crate::damage::opens_as;
-use crate::stops::stopped;
 use pk_redo::LogFault;
 use pk_test_disks::{Fails, Medium};
-use pk_test_logs::{DrivePages, PAGES, deeds_of, drive_of, open, whole_session};
+use pk_test_logs::{
+    DrivePages, PAGES, deeds_of, drive_of, open_files, stopped_session, whole_session,
+};
 use std::alloc::{AllocError, Global};
 use std::test::Fail;
 
@@ -78,7 +79,7 @@ fn found(
 ) -> Result<Result<DrivePages, LogFault>, AllocError> {
     let mut log = Medium::new(alloc, log, true, Fails::Never)?;
     let mut image = Medium::new(alloc, image, true, Fails::Never)?;
-    match open(alloc, &mut log, &mut image)? {
+    match open_files(alloc, &mut log, &mut image)? {
         Ok(opened) => Ok(Ok(opened.drive)),
         Err(fault) => Ok(Err(fault)),
     }
@@ -99,7 +100,7 @@ fn is_refused(
 
 // The image of a session at its last checkpoint, and that of another session at its end.
 fn images(alloc: Global) -> Result<(Vec<u8>, Vec<u8>), Fail> {
-    let (_, files) = stopped(alloc, true)?;
+    let (_, files) = stopped_session(alloc, true)?;
     let (_, other) = whole_session(alloc, true, &deeds_of(alloc, 3)?)?;
     Ok((
         files.image.synced().to_vec(alloc)?,
