@@ -1,17 +1,19 @@
 #!/bin/sh
-# Runs sessions over an image and its log in memory that are stopped at calls of both files by chance, as the test of pk_test_redo does of
-# 500: each is opened again after each of ten outcomes by chance of what a loss of power may leave of both files; and so are a session over
-# what remains that is stopped too, and one after it that comes to its end: 30 outcomes for each session. It is not part of the gate.
+# Loses power by chance under an image and its log in memory, as the tests random_outcomes do of pk_test_redo, over the log alone, and of
+# pk_test_durable, over the program: sessions are stopped at calls of both files, and so are sessions over what remains; after each, ten
+# outcomes of what was not synced are opened again. Half of the outcomes are over each. It prints for both within what the sessions were
+# stopped: a checkpoint, zeros written ahead, a barrier. It is not part of the gate.
 #
-# It works on a copy of the sources, as bench/long.sh does: the test is proved with the other number of sessions, and run as it is built.
+# It works on a copy of the sources, as bench/long.sh does: the tests are proved with other numbers, and run as they are built.
 #
-#   bench/crashes.sh [SESSIONS]     3,400 by default, which are 102,000 outcomes
+#   bench/crashes.sh [OUTCOMES [SEED]]     100,000 by default; SEED is the number of the first session, by default 1
 set -eu
 
-sessions=${1:-3400}
-case $sessions in
-0* | *[!0-9]*)
-    echo "crashes: SESSIONS is a number above 0" >&2
+outcomes=${1:-100000}
+seed=${2:-1}
+case $outcomes/$seed in
+0* | *[!0-9/]* | */)
+    echo "crashes: OUTCOMES is a number above 0, and SEED a number" >&2
     exit 2
     ;;
 esac
@@ -32,19 +34,25 @@ for crate in "$top"/crates/*/; do
     mkdir "$folder/crates/$name/out"
     cp -rl "${crate}out/rlib" "$folder/crates/$name/out/" 2>/dev/null || cp -rf "${crate}out/rlib" "$folder/crates/$name/out/"
 done
-tests=$folder/crates/pk_test_redo
-grep -q '^const SESSIONS: u32 = ' "$tests/src/chance.rt" || {
-    echo "crashes: the test has no number of sessions" >&2
-    exit 1
-}
-sed -i "s/^const SESSIONS: u32 = .*/const SESSIONS: u32 = $sessions;/" "$tests/src/chance.rt"
 
-cd "$tests"
-# no test has this name, so that they are only proved and built
-rt test -- "no test" >log 2>&1 || {
-    cat log >&2
-    exit 1
+# Proves and runs the test of a crate that has so many outcomes a session.
+run() { # crate, outcomes of a session
+    cd "$folder/crates/$1"
+    grep -q '^const SESSIONS: u32 = ' src/chance.rt && grep -q '^const SEED: u32 = ' src/chance.rt || {
+        echo "crashes: the test of $1 has no number of sessions, or no seed" >&2
+        exit 1
+    }
+    sessions=$(((outcomes / 2 + $2 - 1) / $2))
+    sed -i "s/^const SESSIONS: u32 = .*/const SESSIONS: u32 = $sessions;/; s/^const SEED: u32 = .*/const SEED: u32 = $seed;/" src/chance.rt
+    # no test has this name, so that they are only proved and built
+    rt test -- "no test" >log 2>&1 || {
+        cat log >&2
+        exit 1
+    }
+    "./out/$1_tests" chance::random_outcomes
 }
+
 start=$(date +%s)
-./out/pk_test_redo_tests chance::random_outcomes
+run pk_test_redo 30
+run pk_test_durable 20
 echo "$(($(date +%s) - start)) seconds"

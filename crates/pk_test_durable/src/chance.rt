@@ -4,17 +4,21 @@ use crate::disks::{Ended, disks_of, made_image, serve_over};
 use crate::map::{FIRST_KEY, KEYS, Map};
 use crate::outcomes::{Play, Tally, found_after, left_of, try_chances};
 use pk_test_disks::{Fails, Random, any_left};
+use pk_test_logs::Moments;
 use pk_test_scripts::script::{Ask, Value};
 use std::alloc::{AllocError, Global};
 use std::test::Fail;
 
-// Sessions, of which each third is over a made drive, and outcomes after each.
+// Sessions over a made drive, and outcomes after each of the two of one. Each session has a number,
+// from this one on, with which its sequence of numbers begins.
 const SESSIONS: u32 = 60;
 
 const TIMES: u32 = 10;
 
-// With what the sequences of numbers begin.
-const SEED: u32 = 53;
+const SEED: u32 = 0;
+
+// Calls of a file while it is opened, at most.
+const OPENING: u32 = 5;
 
 // Commands of a session.
 const ASKS: usize = 9;
@@ -49,9 +53,28 @@ fn any_asks(random: &mut Random) -> [Ask; ASKS] {
 // Both files stop somewhere after they were opened.
 fn any_stop(random: &mut Random) -> (Fails, Fails) {
     (
-        Fails::From(random.below(50) as u32 + 5),
-        Fails::From(random.below(120) as u32 + 4),
+        Fails::From(random.below(70) as u32 + OPENING),
+        Fails::From(random.below(70) as u32 + OPENING),
     )
+}
+
+// What was found in all sessions.
+struct Totals {
+    tally: Tally,
+    moments: Moments,
+}
+
+// Reads what chance leaves of the files of a session.
+fn try_left(
+    alloc: Global,
+    play: &Play,
+    ended: &Ended,
+    random: &mut Random,
+    totals: &mut Totals,
+) -> Result<(), Fail> {
+    let disks = &ended.disks;
+    totals.moments.note(&disks.log, &disks.image, TIMES);
+    try_chances(alloc, play, ended, TIMES, random, &mut totals.tally)
 }
 
 // What chance leaves of the files of a session is opened, and a session of random commands over it is
@@ -72,8 +95,8 @@ fn go_on(
 }
 
 // A session over a made drive, and two over what remains.
-fn try_session(alloc: Global, image: &[u8], number: u32, tally: &mut Tally) -> Result<(), Fail> {
-    let mut random = Random::new(SEED.wrapping_add(number));
+fn try_session(alloc: Global, image: &[u8], number: u32, totals: &mut Totals) -> Result<(), Fail> {
+    let mut random = Random::new(number);
     let (first, second) = (any_asks(&mut random), any_asks(&mut random));
     let (log_fails, image_fails) = any_stop(&mut random);
     let disks = disks_of(
@@ -87,26 +110,35 @@ fn try_session(alloc: Global, image: &[u8], number: u32, tally: &mut Tally) -> R
         before: Map::EMPTY,
         asks: &first,
     };
-    try_chances(alloc, &play, &ended, TIMES, &mut random, tally)?;
+    try_left(alloc, &play, &ended, &mut random, totals)?;
     let (before, ended) = go_on(alloc, &play, &ended, &second, &mut random)?;
     let play = Play {
         before,
         asks: &second,
     };
-    try_chances(alloc, &play, &ended, TIMES, &mut random, tally)
+    try_left(alloc, &play, &ended, &mut random, totals)
 }
 
 #[test]
 fn random_outcomes(rt: HostRuntime) -> Result<(), Fail> {
-    let mut tally = Tally::NONE;
+    let mut totals = Totals {
+        tally: Tally::NONE,
+        moments: Moments::NONE,
+    };
     let image = made_image(rt.alloc())?;
     for number in 0..SESSIONS {
-        try_session(rt.alloc(), &image, number, &mut tally)?;
+        try_session(rt.alloc(), &image, SEED.wrapping_add(number), &mut totals)?;
     }
+    let (tally, moments) = (totals.tally, totals.moments);
     assert_eq!(rt; tally.wrong, 0);
     assert_eq!(rt; tally.outcomes, 2 * TIMES as u64 * SESSIONS as u64);
+    let least = SESSIONS as u64;
+    assert!(rt;
+        moments.checkpoints > least && moments.barriers > least,
+        "{moments:?}"
+    );
     println!(rt;
-        "{SESSIONS} sessions from seed {SEED} on, {} outcomes",
+        "{SESSIONS} sessions from number {SEED} on, {} outcomes: {moments:?}",
         tally.outcomes
     )?;
     Ok(())

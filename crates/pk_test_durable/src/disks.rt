@@ -29,11 +29,11 @@ impl Program for InMemory {
 }
 
 // How many bytes of steps a batch has, of zeros there are ahead, and a log has before it is emptied.
-const BATCH_BYTES: u32 = 2_200;
+const BATCH_BYTES: u32 = 1_100;
 
-const BLANK_BYTES: u32 = 2_600;
+const BLANK_BYTES: u32 = 1_300;
 
-const MOST_BYTES: u32 = 5_800;
+const MOST_BYTES: u32 = 2_900;
 
 // Marks for which a board has room.
 const MARKS: usize = 400;

@@ -141,7 +141,10 @@ fn stops_of(is_log: bool, alloc: Global) -> Result<(), Fail> {
         let mut tally = Tally::NONE;
         let sent = try_stops(alloc, is_mixing, is_log, &mut tally)?;
         same(tally.wrong, 0, "wrong outcomes")?;
-        holds(tally.outcomes > 500, "outcomes")?;
+        holds(
+            tally.outcomes > 500,
+            format_args!("outcomes: {}", tally.outcomes),
+        )?;
         same(sent.least, 0, "a session that sends nothing")?;
         holds(
             sent.most + 3 >= STORES.len(),

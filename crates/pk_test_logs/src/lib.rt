@@ -4,6 +4,7 @@
 mod cell;
 mod deeds;
 mod drive;
+mod moment;
 mod reading;
 mod session;
 mod trial;
@@ -12,6 +13,7 @@ mod which;
 pub use cell::{Cell, Front, PAGE};
 pub use deeds::{Deed, bytes_from, deeds_of, worked_deeds};
 pub use drive::{BLOCK, DrivePages, PAGES};
+pub use moment::{Moment, Moments, moment_of};
 pub use reading::{IMAGE, OpenedDrive, drive_of, open_files};
 pub use session::{After, Done, FailingCalls, Files, NO_FAILURE, log_session, new_files};
 pub use trial::{
