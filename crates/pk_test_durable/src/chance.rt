@@ -59,6 +59,7 @@ fn any_stop(random: &mut Random) -> (Fails, Fails) {
 }
 
 // What was found in all sessions.
+#[derive(Clone, Copy)]
 struct Totals {
     tally: Tally,
     moments: Moments,

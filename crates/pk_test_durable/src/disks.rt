@@ -33,7 +33,7 @@ const BATCH_BYTES: u32 = 1_100;
 
 const BLANK_BYTES: u32 = 1_300;
 
-const MOST_BYTES: u32 = 2_900;
+const MOST_BYTES: u32 = 2_700;
 
 // Marks for which a board has room.
 const MARKS: usize = 400;

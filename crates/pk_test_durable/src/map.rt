@@ -92,7 +92,7 @@ pub fn without_reads(records: &mut Vec<u8>) {
     let mut at = 0usize;
     for _ in 0..READING.len() {
         let (first, end) = (at.saturating_add(16), at.saturating_add(20));
-        if end <= records.len() {
+        if first <= end && end <= records.len() {
             records[first..end].fill(0);
         }
         let len = data_len(records, at);

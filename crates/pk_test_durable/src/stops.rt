@@ -147,7 +147,7 @@ fn stops_of(is_log: bool, alloc: Global) -> Result<(), Fail> {
         )?;
         same(sent.least, 0, "a session that sends nothing")?;
         holds(
-            sent.most + 3 >= STORES.len(),
+            sent.most.saturating_add(3) >= STORES.len(),
             "a session that sends nearly all",
         )?;
     }

@@ -17,6 +17,7 @@ const TIMES: u32 = 10;
 const SEED: u32 = 0;
 
 // What was found in all sessions.
+#[derive(Clone, Copy)]
 struct Totals {
     seen: Seen,
     moments: Moments,
