@@ -36,7 +36,7 @@ fn any_ask(random: &mut Random) -> Ask {
             any_key(random),
             Value {
                 first: random.byte(),
-                len: random.below(700) as u32,
+                len: random.below(1_000) as u32,
             },
         ),
     }

@@ -3,7 +3,7 @@ ghost use Rattle.std.specs.Prelude.{◌≤◌};
 
 use crate::disks::{Disks, Ended, disks_of, serve_over};
 use crate::map::{Map, READING, without_reads};
-use pk_test_disks::{BASIC, Fails, Random, Remains, any_left, outcome, simple_extremes};
+use pk_test_disks::{BASIC, Fails, Random, Remains, any_left, extremes, outcome, simple_extremes};
 use pk_test_scripts::exits::DONE;
 use pk_test_scripts::script::Ask;
 use sqlite_disk::Disk;
@@ -149,13 +149,16 @@ fn try_images(
     Ok(())
 }
 
-/// The extremes of each file beside those that each file has of the other one.
+/// The extremes of the log beside a whole image, and the simple ones of each file beside those that
+/// each file has of the other one.
 pub fn try_outcomes(
     alloc: Global,
     play: &Play,
     ended: &Ended,
     tally: &mut Tally,
 ) -> Result<(), Fail> {
+    let torn = extremes(alloc, &ended.disks.log)?;
+    try_images(alloc, play, ended, &torn, &[Remains::Whole], tally)?;
     let logs = simple_extremes(alloc, &ended.disks.log)?;
     let images = simple_extremes(alloc, &ended.disks.image)?;
     try_images(alloc, play, ended, &logs, &BASIC, tally)?;

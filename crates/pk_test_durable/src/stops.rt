@@ -17,15 +17,21 @@ use std::test::*;
 /// before it is emptied.
 pub const STORES: [Ask; 10] = [
     Ask::Store(0x61, Value { first: 1, len: 3 }),
-    Ask::Store(0x62, Value { first: 2, len: 700 }),
+    Ask::Store(0x62, Value { first: 2, len: 990 }),
     Ask::Flush,
-    Ask::Store(0x61, Value { first: 3, len: 500 }),
+    Ask::Store(0x61, Value { first: 3, len: 900 }),
     Ask::Store(0x63, Value { first: 4, len: 0 }),
     Ask::Delete(0x62),
     Ask::Flush,
-    Ask::Store(0x64, Value { first: 5, len: 400 }),
-    Ask::Store(0x62, Value { first: 6, len: 90 }),
-    Ask::Store(0x66, Value { first: 7, len: 480 }),
+    Ask::Store(0x64, Value { first: 5, len: 800 }),
+    Ask::Store(0x62, Value { first: 6, len: 600 }),
+    Ask::Store(
+        0x66,
+        Value {
+            first: 7,
+            len: 1_000,
+        },
+    ),
 ];
 
 const PLAY: Play<'static> = Play {
