@@ -20,6 +20,9 @@ const SEED: u32 = 0;
 // Calls of a file while it is opened, at most.
 const OPENING: u32 = 5;
 
+// Bytes of a value, fewer than these; the drive takes 992.
+const MOST_BYTES: usize = 993;
+
 // Commands of a session.
 const ASKS: usize = 9;
 
@@ -36,7 +39,7 @@ fn any_ask(random: &mut Random) -> Ask {
             any_key(random),
             Value {
                 first: random.byte(),
-                len: random.below(1_000) as u32,
+                len: random.below(MOST_BYTES) as u32,
             },
         ),
     }
