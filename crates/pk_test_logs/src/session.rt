@@ -113,8 +113,7 @@ fn small_log(
 {
     let Files { log, image } = files;
     let sizes = LogSizes::new(&shape, BATCH_BYTES, BLANK_BYTES, MOST_BYTES);
-    let extents = Vec::from_elem(alloc, PAGE, shape.page_count() as usize)?;
-    RedoLog::new(alloc, log, image, shape, replay, extents, sizes)
+    RedoLog::new(alloc, log, image, shape, replay, sizes)
 }
 
 // An open drive: its image and its log, and its pages in memory.
