@@ -114,7 +114,7 @@ impl Sent {
     }
 }
 
-// Each call of a file stops the machine, and the extremes of what is left are read.
+// Each call of a file stops the machine, and the extremes of what remains are read.
 fn try_stops(
     alloc: Global,
     is_mixing: bool,

@@ -66,7 +66,7 @@ impl Moments {
         others: 0,
     };
 
-    /// Counts so many outcomes of a session that left these files.
+    /// Counts the outcomes, of this number, of a session that left these files.
     pub fn note(&mut self, log: &Medium, image: &Medium, times: u32) {
         let count = match moment_of(log, image) {
             Moment::Checkpoint => &mut self.checkpoints,
