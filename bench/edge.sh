@@ -123,6 +123,17 @@ for size in [1, 31, 32, 1000, os.path.getsize(folder + '/first.img') - 1]:
     told = [shell(words)[0] for words in [f'serve 36 <"{script}"', 'make 512 16 64', 'put 61 61']]
     expect(f'an image of {size} bytes: serve, make and put end with 8, nothing changed', told == [8, 8, 8] and content() == before)
 
+print('a limit on the size of files, in blocks of 512 bytes')
+for limit, sync in [(256, ''), (256, 'PINK_SYNC=1'), (256, 'PINK_SYNC=2'), (2048, 'PINK_SYNC=1'), (2048, 'PINK_SYNC=2')]:
+    fresh()
+    if os.path.exists(image + '-wal'):              # that the last program could not make long enough
+        os.remove(image + '-wal')
+    line = f'ulimit -f {limit}; {sync} "{launcher}" "{image}" serve 36 <"{script}"'
+    run = subprocess.run(['sh', '-c', line], stdout=subprocess.PIPE, stderr=subprocess.PIPE, timeout=60)
+    answered = sum(struct.unpack_from('<I', run.stdout, at + 12)[0] >> 17 == 0 for at in range(0, len(run.stdout), RECORD))
+    expect(f'{sync or "no PINK_SYNC"}, at most {limit} blocks: status {run.returncode}, all {answered} answered Stores are there',
+           run.returncode in ([0] if limit == 2048 else [0, 6]) and held() in maps[answered:])
+
 print('an image that may not be written')
 fresh()
 os.chmod(image, 0o444)

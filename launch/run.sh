@@ -38,6 +38,8 @@ launch() { # NAME WORDS..
         [ -z "$fault" ] || { echo "pink: status 16, $fault" >&2 && exit 16; }
         set -- mirror "$@"
     fi
+    # A write beyond a limit on the size of files then fails, and the change that it belongs to, in place of a signal that ends the program.
+    trap '' XFSZ
     [ -z "${PINK_EXEC:-}" ] || exec "$program" "$@"
 
     # The program runs in the background of the shell, which waits for it and passes signals on, as TERM: a shell has a process in the
