@@ -25,6 +25,11 @@ const TESTED: u64 = 6;
 /// The greatest place in a file that the system takes.
 const MAX_OFFSET: usize = (1 << 63) - 1;
 
+/// The most bytes of a call. The system keeps what a call writes in blocks of memory of up to its
+/// size, and a sync after a later, small write goes through all of such a block: after writes of
+/// this size that takes a quarter less time than after writes of a megabyte.
+const PIECE_BYTES: usize = 65_536;
+
 /// Whether a sync makes a call of the system.
 #[derive(Clone, Copy, Debug, PartialEq, Eq)]
 pub enum Syncs {
@@ -86,7 +91,8 @@ fn write(file: &fs::File, at: usize, bytes: &[u8]) -> io::Result<usize>
     if at > MAX_OFFSET {
         return Err(io::ErrorKind::InvalidInput.into());
     }
-    let put = file.write_at(bytes, at as u64)?;
+    let piece = &bytes[..bytes.len().min(PIECE_BYTES)];
+    let put = file.write_at(piece, at as u64)?;
     if put == 0 {
         Err(io::ErrorKind::WriteZero.into())
     } else {

@@ -1,8 +1,9 @@
 //! The hash of a key, from its bytes and from those of an entry.
 ghost use Rattle.std.specs.Prelude.{◌≡◌, ◌≤◌, length};
 ghost use Rattle.pk_base.specs.declared.sizes.TheConstants.{ENTRY_BYTES};
-ghost use Rattle.pk_homes.specs.Hash.{hash_of, hash_of_cell, mixed};
+ghost use Rattle.pk_homes.specs.Hash.{folded, hash_of, hash_of_cell, mixed};
 
+use crate::table::HALF;
 use pk_base::{KEY_BYTES, Key, get_u64, put_padded};
 
 const FIRST_FACTOR: u64 = 11_400_714_819_323_198_485;
@@ -10,6 +11,16 @@ const FIRST_FACTOR: u64 = 11_400_714_819_323_198_485;
 const LAST_FACTOR: u64 = 14_029_467_366_897_019_727;
 
 const SPACE_FACTOR: u64 = 1_609_587_929_392_839_161;
+
+/// A sum that is multiplied once more, with its high half added first: keys that are counted in
+/// decimal digits would share their homes otherwise, half of them where a tenth need to.
+#[inline(always)]
+#[tactic(auto, unfolding(crate::specs::Hash::folded))]
+fn fold(sum: u64) -> u64
+    ensures { result ≡ folded sum }
+{
+    (sum / HALF).wrapping_add(sum).wrapping_mul(FIRST_FACTOR)
+}
 
 /// The hash of the number of a namespace and of two others.
 #[inline(always)]
@@ -20,7 +31,7 @@ fn mix(space: u64, first: u64, last: u64) -> u64
     let of_first = first.wrapping_mul(FIRST_FACTOR);
     let of_last = last.wrapping_mul(LAST_FACTOR);
     let of_space = space.wrapping_mul(SPACE_FACTOR);
-    of_first.wrapping_add(of_last).wrapping_add(of_space)
+    fold(of_first.wrapping_add(of_last).wrapping_add(of_space))
 }
 
 /// The hash of a key.

@@ -6,7 +6,7 @@ ghost use Rattle.pk_homes.specs.Homes.{IsAdded, home_of};
 pub const SHARED: u16 = 32_768;
 
 /// The square root of the least number that is no hash.
-const HALF: u64 = 4_294_967_296;
+pub const HALF: u64 = 4_294_967_296;
 
 /// The home of a hash in a table of this many homes.
 #[inline(always)]
