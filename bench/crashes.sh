@@ -4,9 +4,10 @@
 # outcomes of what was not synced are opened again. Half of the outcomes are over each. It prints for both within what the sessions were
 # stopped: a checkpoint, zeros written ahead, a barrier. It is not part of the gate.
 #
-# It works on a copy of the sources, as bench/long.sh does: the tests are proved with other numbers, and run as they are built.
+# The tests are proved with other numbers, from a copy of their sources, over the libraries that `rt ci` left in this checkout or in
+# another one, and run as they are built.
 #
-#   bench/crashes.sh [OUTCOMES [SEED]]     100,000 by default; SEED is the number of the first session, by default 1
+#   bench/crashes.sh [OUTCOMES [SEED [CHECKOUT]]]     100,000 by default; SEED is the number of the first session, by default 1
 set -eu
 
 outcomes=${1:-100000}
@@ -18,38 +19,27 @@ case $outcomes/$seed in
     ;;
 esac
 top=$(CDPATH='' cd -- "$(dirname -- "$0")/.." && pwd)
+libraries=${3:-$top}
 folder=$(mktemp -d)
 trap 'rm -rf "$folder"' EXIT
 trap 'exit 1' HUP INT TERM
 
-mkdir "$folder/crates"
-cp "$top/crates.txt" "$top/HANDLES" "$folder/"
-for crate in "$top"/crates/*/; do
-    name=$(basename "$crate")
-    mkdir "$folder/crates/$name"
-    for part in src specs proofs; do
-        [ ! -d "$crate$part" ] || cp -r "$crate$part" "$folder/crates/$name/"
-    done
-    [ -d "${crate}out/rlib" ] || continue
-    mkdir "$folder/crates/$name/out"
-    cp -rl "${crate}out/rlib" "$folder/crates/$name/out/" 2>/dev/null || cp -rf "${crate}out/rlib" "$folder/crates/$name/out/"
-done
-
 # Proves and runs the test of a crate that has so many outcomes a session.
 run() { # crate, outcomes of a session
-    cd "$folder/crates/$1"
-    grep -q '^const SESSIONS: u32 = ' src/chance.rt && grep -q '^const SEED: u32 = ' src/chance.rt || {
+    room=$folder/$1
+    mkdir "$room"
+    for part in src specs proofs; do
+        [ ! -d "$top/crates/$1/$part" ] || cp -r "$top/crates/$1/$part" "$room/"
+    done
+    grep -q '^const SESSIONS: u32 = ' "$room/src/chance.rt" && grep -q '^const SEED: u32 = ' "$room/src/chance.rt" || {
         echo "crashes: the test of $1 has no number of sessions, or no seed" >&2
         exit 1
     }
     sessions=$(((outcomes / 2 + $2 - 1) / $2))
-    sed -i "s/^const SESSIONS: u32 = .*/const SESSIONS: u32 = $sessions;/; s/^const SEED: u32 = .*/const SEED: u32 = $seed;/" src/chance.rt
-    # no test has this name, so that they are only proved and built
-    rt test -- "no test" >log 2>&1 || {
-        cat log >&2
-        exit 1
-    }
-    "./out/$1_tests" chance::random_outcomes
+    sed -i "s/^const SESSIONS: u32 = .*/const SESSIONS: u32 = $sessions;/; s/^const SEED: u32 = .*/const SEED: u32 = $seed;/" \
+        "$room/src/chance.rt"
+    python3 "$top/bench/build_tests.py" "$1" "$room" "$libraries"
+    "$room/tests" chance::random_outcomes
 }
 
 start=$(date +%s)

@@ -12,8 +12,11 @@ import engines
 from engines import Engine
 from workload import PROBE, key_of
 
-# The launcher ./pink sets the same: the image in memory takes large pages of the system.
-PINK_ENVIRONMENT = {"GLIBC_TUNABLES": "glibc.malloc.hugetlb=1"}
+# The launcher ./pink sets the same: what is in memory takes large pages of the system.
+PINK_ENVIRONMENT = {
+    "GLIBC_TUNABLES": "glibc.malloc.hugetlb=1:glibc.malloc.mmap_threshold=1073741824"
+    ":glibc.malloc.trim_threshold=1073741824"
+}
 # Each change is on the disk before its answer, in the modes of DURABLE.
 SYNC = "PINK_SYNC"
 DURABLE = ("durable", "waiting")
